@@ -1,0 +1,15 @@
+-- The bytes of subsections: what a writer makes. `parts` undoes it (`parts-whole` of JoinLaws).
+-- Definitions only; a reader must believe them.
+use mathlib.Core.List.{List, [], _∷_, _++_}
+use Prim.Native.Nat.{ℕ}
+use lib.ListN.{length}
+use Rattle.word.specs.WordLaws.{header}
+use Rattle.area.specs.Parts.{Raw}
+
+-- the bytes of a subsection, and of several
+abbrev pub bytesOf : Raw → List ℕ
+bytesOf r = header (r .kind) (length (r .body)) ++ r .body
+
+unfoldable pub join : List Raw → List ℕ
+join [] = []
+join (r ∷ rs) = bytesOf r ++ join rs

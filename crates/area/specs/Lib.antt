@@ -1,0 +1,9 @@
+pub mod Parts
+pub mod PartsLaws
+pub mod Join
+pub mod JoinLaws
+pub mod RestLaws
+pub mod Kind
+pub mod Subs
+pub mod SubsLaws
+pub mod Told

@@ -1,0 +1,13 @@
+pub mod Words
+pub mod WordsLaws
+pub mod RunLaws
+pub mod ExportsLaws
+pub mod ImportsLaws
+pub mod InlineesLaws
+pub mod ChecksumsLaws
+pub mod LinesLaws
+pub mod Checksums
+pub mod Lines
+pub mod Inlinees
+pub mod Imports
+pub mod Exports

@@ -1,0 +1,3 @@
+pub mod Find
+pub mod Told
+pub mod FindLaws

@@ -1,0 +1,11 @@
+-- The second answer of a reader: a step from the start on, and a step from the place behind it.
+-- Definitions only; a reader must believe them.
+use Prim.Native.Nat.{ℕ}
+use mathlib.Core.List.{List}
+use Rattle.walk.specs.Listing.{Answer}
+use Rattle.refusal.specs.Told.{Told}
+use Rattle.area.specs.Kind.{Sort}
+use Rattle.area.specs.Subs.{Sub, stepAt, after}
+
+abbrev pub second : (ℕ → Sort) → List ℕ → Answer ℕ Sub Told
+second rule s = stepAt rule s (after (stepAt rule s 0) 0)

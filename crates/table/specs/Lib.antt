@@ -1,0 +1,5 @@
+pub mod Table
+pub mod Told
+pub mod TableLaws
+pub mod Whole
+pub mod WholeLaws

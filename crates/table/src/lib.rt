@@ -1,0 +1,63 @@
+// A walk over the records of a table, which is the body of one subsection of an area: where it stands, and where its next record is.
+//
+// A new walk looks for the body first; behind its first record it knows the body's place, so that the area is searched once.
+ghost use mathlib.Core.Path.{_≡_};
+ghost use Rattle.area.specs.Kind.{ruled};
+ghost use Rattle.find.specs.Find.{firstSub};
+ghost use Rattle.find.specs.Told.{toldFound};
+ghost use Rattle.table.specs.Table.{spotIn, spotNew, spotOf};
+ghost use Rattle.table.specs.Told.{toldSpot};
+use find::Found;
+use find::first_of;
+use refusal::LONGEST;
+use refusal::Refusal;
+
+// A state of such a walk: new, or at a place of the body of `len` bytes that starts at `start`.
+pub enum TableWalk {
+    New,
+    In { start: usize, len: usize, at: usize },
+}
+
+// Where the next record is looked for, inside the area; or no table.
+pub enum Spot {
+    At { start: usize, len: usize, at: usize },
+    None,
+    Refused(Refusal),
+}
+
+// A walk that goes on: it trusts no state, so the body is held against the area again.
+pub fn spot_in(area: &[u8], start: usize, len: usize, at: usize) -> Spot
+    ensures { λ r. ⌜ toldSpot r ≡ spotIn (now (area .entry)) start len at ⌝ }
+{
+    if LONGEST < area.len() {
+        return Spot::Refused(Refusal::TooLong);
+    }
+    if area.len() < start {
+        return Spot::Refused(Refusal::Cut);
+    }
+    if area.len() - start < len {
+        return Spot::Refused(Refusal::Cut);
+    }
+    Spot::At { start, len, at }
+}
+
+// Of the table that is the first subsection of a kind.
+pub fn spot_first(area: &[u8], kind: u32, walk: TableWalk) -> Spot
+    ensures { λ r. ⌜ toldSpot r ≡ spotOf (firstSub ruled kind (now (area .entry))) (now (area .entry)) walk ⌝ }
+{
+    match walk {
+        TableWalk::New => spot_new(first_of(area, kind)),
+        TableWalk::In { start, len, at } => spot_in(area, start, len, at),
+    }
+}
+
+// The start of the table that was found.
+pub fn spot_new(found: Found) -> Spot
+    ensures { λ r. ⌜ toldSpot r ≡ spotNew (toldFound found) ⌝ }
+{
+    match found {
+        Found::At { start, len } => Spot::At { start, len, at: 0 },
+        Found::None => Spot::None,
+        Found::Refused(why) => Spot::Refused(why),
+    }
+}

@@ -1,0 +1,10 @@
+pub mod Cases
+pub mod Listing
+pub mod ListingLaws
+pub mod First
+pub mod FirstLaws
+pub mod Pick
+pub mod PickLaws
+pub mod Spread
+pub mod SpreadLaws
+pub mod PickMapLaws
