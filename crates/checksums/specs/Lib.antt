@@ -1,0 +1,5 @@
+pub mod Entry
+pub mod Equal
+pub mod Told
+pub mod EntryLaws
+pub mod EqualLaws

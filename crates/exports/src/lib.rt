@@ -1,0 +1,207 @@
+// The exports of an area: pairs of a local and a global index, in the first subsection of kind 0xf8 (crate: `CrossModuleExports`,
+// `CrossModuleExport`, `RawCrossScopeExport`).
+//
+// Listing takes any order; a lookup first tests that the local indices ascend.
+ghost use mathlib.Core.Path.{_≡_};
+ghost use Rattle.area.specs.Kind.{ruled};
+ghost use Rattle.body.specs.Exports.{pairs};
+ghost use Rattle.rows.specs.Collect.{onGave, collected, counted};
+ghost use Rattle.exports.specs.Exports.{exportOf, pairAt, exportShown, exportStep, exportCount, ascends, globalOf, lookup, resolveExport};
+ghost use Rattle.exports.specs.ExportsLaws.{pairsBehind};
+ghost use Rattle.exports.specs.Told.{toldExport, toldPair, toldStep, toldCount, toldLookup};
+use find::Found;
+use find::first_of;
+use refusal::Refusal;
+use table::Spot;
+use table::TableWalk;
+use table::spot_first;
+use word::u32_at;
+
+// The kind of subsection that holds exports.
+const CROSS_SCOPE_EXPORTS: u32 = 0xf8;
+
+// A pair, by bit 31 of its local index, which stays in it.
+pub enum CrossModuleExport {
+    Type { local: u32, global: u32 },
+    Id { local: u32, global: u32 },
+}
+
+fn export_of(local: u32, global: u32) -> CrossModuleExport
+    ensures { λ r. ⌜ toldExport r ≡ exportOf (record { local = local; global = global }) ⌝ }
+{
+    if local / 0x8000_0000 % 2 == 1 {
+        CrossModuleExport::Id { local, global }
+    } else {
+        CrossModuleExport::Type { local, global }
+    }
+}
+
+// What stands at a place of an export body.
+pub enum PairStep {
+    Pair {
+        local: u32,
+        global: u32,
+        next: usize,
+    },
+    None,
+    Refused(Refusal),
+}
+
+pub fn pair_at(body: &[u8], at: usize) -> PairStep
+    ensures { λ r. ⌜ toldPair r ≡ pairAt (now (body .entry)) at ⌝ }
+{
+    if body.len() % 8 != 0 {
+        return PairStep::Refused(Refusal::ExportLength);
+    }
+    if body.len() < at {
+        return PairStep::Refused(Refusal::Cut);
+    }
+    let left = body.len() - at;
+    if left == 0 {
+        return PairStep::None;
+    }
+    if left < 8 {
+        return PairStep::Refused(Refusal::ExportLength);
+    }
+    PairStep::Pair {
+        local: u32_at(body, at),
+        global: u32_at(body, at + 4),
+        next: at + 8,
+    }
+}
+
+// One export of a walk over them, and the walk behind it.
+pub enum ExportStep {
+    Export {
+        export: CrossModuleExport,
+        next: TableWalk,
+    },
+    None,
+    Refused(Refusal),
+}
+
+fn export_step(start: usize, len: usize, step: PairStep) -> ExportStep
+    ensures { λ r. ⌜ toldStep r ≡ exportShown start len (toldPair step) ⌝ }
+{
+    match step {
+        PairStep::Pair {
+            local,
+            global,
+            next,
+        } => ExportStep::Export {
+            export: export_of(local, global),
+            next: TableWalk::In {
+                start,
+                len,
+                at: next,
+            },
+        },
+        PairStep::None => ExportStep::None,
+        PairStep::Refused(why) => ExportStep::Refused(why),
+    }
+}
+
+pub fn next_export(area: &[u8], walk: TableWalk) -> ExportStep
+    ensures { λ r. ⌜ toldStep r ≡ exportStep ruled (now (area .entry)) walk ⌝ }
+{
+    match spot_first(area, CROSS_SCOPE_EXPORTS, walk) {
+        Spot::At { start, len, at } => export_step(
+            start,
+            len,
+            pair_at(&area[start..start + len], at),
+        ),
+        Spot::None => ExportStep::None,
+        Spot::Refused(why) => ExportStep::Refused(why),
+    }
+}
+
+// How many exports there are.
+pub enum Count {
+    Exports(usize),
+    Refused(Refusal),
+}
+
+fn count_in(body: &[u8]) -> Count
+    ensures { λ r. ⌜ toldCount r ≡ counted (pairs (now (body .entry))) ⌝ }
+{
+    let len = body.len();
+    if len % 8 == 0 {
+        Count::Exports(len / 8)
+    } else {
+        Count::Refused(Refusal::ExportLength)
+    }
+}
+
+pub fn export_count(area: &[u8]) -> Count
+    ensures { λ r. ⌜ toldCount r ≡ exportCount ruled (now (area .entry)) ⌝ }
+{
+    match first_of(area, CROSS_SCOPE_EXPORTS) {
+        Found::At { start, len } => count_in(&area[start..start + len]),
+        Found::None => Count::Exports(0),
+        Found::Refused(why) => Count::Refused(why),
+    }
+}
+
+// The global index of a local one.
+pub enum Lookup {
+    Global(u32),
+    None,
+    Refused(Refusal),
+}
+
+// Each local index is above the one before it.
+fn ascending(body: &[u8]) -> bool
+    ensures { λ r. ⌜ r ≡ ascends (pairsBehind (now (body .entry)) 0) ⌝ }
+{
+    if body.len() < 8 {
+        return true;
+    }
+    let mut last = u32_at(body, 0);
+    let mut at: usize = 8;
+    while 8 <= body.len() - at {
+        let local = u32_at(body, at);
+        if local <= last {
+            return false;
+        }
+        last = local;
+        at += 8;
+    }
+    true
+}
+
+fn global_of(body: &[u8], local: u32) -> Lookup
+    ensures { λ r. ⌜ toldLookup r ≡ globalOf local (pairsBehind (now (body .entry)) 0) ⌝ }
+{
+    let mut at: usize = 0;
+    while 8 <= body.len() - at {
+        if u32_at(body, at) == local {
+            return Lookup::Global(u32_at(body, at + 4));
+        }
+        at += 8;
+    }
+    Lookup::None
+}
+
+fn lookup_in(body: &[u8], local: u32) -> Lookup
+    ensures { λ r. ⌜ toldLookup r ≡ onGave (lookup local) (collected (pairs (now (body .entry)))) ⌝ }
+{
+    if body.len() % 8 == 0 {
+        if ascending(body) {
+            global_of(body, local)
+        } else {
+            Lookup::Refused(Refusal::UnsortedExports)
+        }
+    } else {
+        Lookup::Refused(Refusal::ExportLength)
+    }
+}
+
+pub fn resolve_export(area: &[u8], local: u32) -> Lookup
+    ensures { λ r. ⌜ toldLookup r ≡ resolveExport ruled (now (area .entry)) local ⌝ }
+{
+    match first_of(area, CROSS_SCOPE_EXPORTS) {
+        Found::At { start, len } => lookup_in(&area[start..start + len], local),
+        Found::None => Lookup::None,
+        Found::Refused(why) => Lookup::Refused(why),
+    }
+}

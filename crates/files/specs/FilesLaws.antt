@@ -1,0 +1,178 @@
+-- Laws of the files of an area: a law for each way out of the code, the walk, the file at an index, and what the files are in the bytes.
+use Prim.Native.Nat.{ℕ, _+_, _-_, _≤_}
+use mathlib.Core.Path.{_≡_, sym, ap, _∙_, subst⁻¹}
+use mathlib.Core.List.{List, []}
+use native.Mathlib.Omega.{arith}
+use native.Mathlib.Nat.{add-zero}
+use lib.ListN.{length, take, drop, length-take, length-drop}
+use lib.Seq.{drop-drop, drop-at, take-add, take-take, length-take-le}
+use Rattle.walk.specs.Listing.{Listing, mapped, Answer, gives, Reply, gave, nothing, refused, calls, replies}
+use Rattle.walk.specs.ListingLaws.{Every}
+use Rattle.walk.specs.Pick.{mapReply}
+use Rattle.refusal.specs.Told.{Told, longest}
+use Rattle.area.specs.Kind.{Sort}
+use Rattle.find.specs.Find.{same, Span, lastSub, bytesAt}
+use Rattle.table.specs.Table.{Place, spotIn, spotOf, shifted, readAt, tableOf}
+use Rattle.table.specs.TableLaws.{Finds, spot-in-area, spot-short, spot-inside, last-finds, step-other, table-walk}
+use Rattle.table.specs.Whole.{ofBody}
+use Rattle.table.specs.WholeLaws.{step-read, mapped-every, table-means}
+use Rattle.table.specs.declared.TableWalk.{TableWalk}
+use Rattle.table.specs.declared.TableWalk.the-variants as walk
+use Rattle.body.specs.Checksums.{Checksum, checksums}
+use Rattle.checksums.specs.Entry.{Entry, entryAt, entriesFrom, shown}
+use Rattle.checksums.specs.Entry as entry
+use Rattle.checksums.specs.EntryLaws.{entry-lies, entries-step, entries-mean, In, entries-in, Stands, entries-stand}
+use Rattle.lines.specs.Lines.{countLines}
+use Rattle.files.specs.Files.{Info, File, infoOf, fileOf, ifPassed, filesSub, fileStep, filesIn, atIndex, fileIn, fileAt, held, partOf, spelt}
+
+-- ---- the checksum body
+
+module _ (rule : ℕ → Sort) (s : List ℕ) where
+  pub body-passed : (n : ℕ) → gave n ≡ countLines rule s → lastSub rule 0xf4 s ≡ filesSub rule s
+  unfolding filesSub
+  body-passed n e = ap (λ (x : Reply ℕ Told). ifPassed x (lastSub rule 0xf4 s)) e
+
+  pub body-refused : (t : Told) → refused t ≡ countLines rule s → refused t ≡ filesSub rule s
+  unfolding filesSub
+  body-refused t e = ap (λ (x : Reply ℕ Told). ifPassed x (lastSub rule 0xf4 s)) e
+
+  -- what is found lies in the area
+  pub files-finds : Finds s (filesSub rule s)
+  unfolding filesSub
+  files-finds = by (countLines rule s)
+    where
+      by : (x : Reply ℕ Told) → Finds s (ifPassed x (lastSub rule 0xf4 s))
+      by (gave n) = last-finds rule 0xf4 s
+      by nothing = last-finds rule 0xf4 s
+      by (refused t) = tt
+
+  pub body-in : (a : Span) → gave a ≡ filesSub rule s → a .start + a .len ≤ length s
+  body-in a e = subst⁻¹ (Finds s) e files-finds .0
+
+-- ---- a walk
+
+module _ (rule : ℕ → Sort) (s : List ℕ) (w : TableWalk) where
+  -- the part that is lent lies in the area
+  pub file-spot : (q : Place) → gave q ≡ spotOf (filesSub rule s) s w → q .start + q .len ≤ length s
+  file-spot q e = spot-in-area s (filesSub rule s) (files-finds rule s) w q e
+
+  -- and so does the place of an entry's bytes, which are not past the longest area
+  pub file-bytes : (q : Place) (k : ℕ) (e : Entry) (x : ℕ) → gave q ≡ spotOf (filesSub rule s) s w
+      → gives e x ≡ entryAt (take k (drop (q .start) s)) (q .at) → k ≡ q .len
+      → (q .start + e .start ≤ length s) × (e .start ≡ q .at + 6) × (length s ≤ longest)
+  file-bytes q k e x h l ek =
+      let z = spot-short s (filesSub rule s) (files-finds rule s) w q h in
+      omega (arith, file-spot q h, entry-lies (take k (drop (q .start) s)) (q .at) e x l, length-take k (drop (q .start) s))
+
+  pub file-read : (q : Place) (k : ℕ) (u : Answer ℕ Entry Told) → gave q ≡ spotOf (filesSub rule s) s w
+      → u ≡ entryAt (take k (drop (q .start) s)) (q .at) → k ≡ q .len → shifted fileOf (q .start) (q .len) u ≡ fileStep rule s w
+  unfolding fileStep
+  file-read = step-read entryAt fileOf (filesSub rule s) s w
+
+  -- an entry, its index being its place
+  pub file-entry : (q : Place) (k : ℕ) (e : Entry) (x : ℕ) → gave q ≡ spotOf (filesSub rule s) s w
+      → gives e x ≡ entryAt (take k (drop (q .start) s)) (q .at) → k ≡ q .len
+      → gives (record { index = q .at; info = infoOf (q .start) e }) (walk.In (q .start) (q .len) x) ≡ fileStep rule s w
+  file-entry q k e x h l ek =
+      let i : q .at ≡ e .start - 6 = omega (arith, entry-lies (take k (drop (q .start) s)) (q .at) e x l) in
+      (λ j. gives (record { index = i j; info = infoOf (q .start) e }) (walk.In (q .start) (q .len) x)) ∙ file-read q k (gives e x) h l ek
+
+  pub file-other : (x : Reply Place Told) → x ≡ spotOf (filesSub rule s) s w → readAt entryAt fileOf s x ≡ fileStep rule s w
+  unfolding fileStep
+  file-other = step-other entryAt fileOf (filesSub rule s) s w
+
+-- THE WALK: n calls from a new walk on answer the files in order, and then the end, or the same refusal, again and again
+pub files-walk : (rule : ℕ → Sort) (s : List ℕ) (n : ℕ) → calls (fileStep rule s) n walk.New ≡ replies n (filesIn rule s)
+unfolding fileStep
+files-walk rule s n = table-walk entryAt fileOf entriesFrom entries-step s (filesSub rule s) (files-finds rule s) n
+
+-- ---- the file at an index
+
+-- in the body of len bytes at start
+unfoldable pub lookAt : List ℕ → ℕ → ℕ → ℕ → Reply Info Told
+lookAt s start len i = atIndex i start (entryAt (take len (drop start s)) i)
+
+module _ (s : List ℕ) (start len i : ℕ) where
+  pub look-read : (k : ℕ) (u : Answer ℕ Entry Told) → u ≡ entryAt (take k (drop start s)) i → k ≡ len → atIndex i start u ≡ lookAt s start len i
+  unfolding lookAt
+  look-read k u e ek = ap (atIndex i start) (e ∙ ap (λ (j : ℕ). entryAt (take j (drop start s)) i) ek)
+
+  pub look-in : start + len ≤ length s → (k : ℕ) (e : Entry) (x : ℕ) → gives e x ≡ entryAt (take k (drop start s)) i → k ≡ len → start + e .start ≤ length s
+  look-in h k e x l ek = omega (arith, entry-lies (take k (drop start s)) i e x l, length-take k (drop start s))
+
+module _ (rule : ℕ → Sort) (s : List ℕ) (i : ℕ) where
+  pub file-found : (a : Span) → gave a ≡ filesSub rule s → lookAt s (a .start) (a .len) i ≡ fileAt rule s i
+  unfolding fileAt lookAt
+  file-found a e = ap (fileIn s i) e
+
+  pub file-none : nothing ≡ filesSub rule s → lookAt s 0 0 i ≡ fileAt rule s i
+  unfolding fileAt lookAt
+  file-none e = ap (fileIn s i) e
+
+  pub file-refused : (t : Told) → refused t ≡ filesSub rule s → refused t ≡ fileAt rule s i
+  unfolding fileAt
+  file-refused t e = ap (fileIn s i) e
+
+-- the index of each file of a walk finds that file
+pub files-indexed : (rule : ℕ → Sort) (s : List ℕ) → Every (λ (f : File). fileAt rule s (f .index) ≡ gave (f .info)) (filesIn rule s)
+unfolding fileAt
+files-indexed rule s = by (filesSub rule s)
+  where
+    by : (x : Reply Span Told) → Every (λ (f : File). fileIn s (f .index) x ≡ gave (f .info)) (tableOf (λ (b : List ℕ). entriesFrom b 0) fileOf s x)
+    by (gave a) =
+        mapped-every (Stands (bytesAt s a)) (fileOf (a .start)) (λ (f : File). fileIn s (f .index) (gave a) ≡ gave (f .info))
+        (λ e h. ap (atIndex (e .start - 6) (a .start)) (sym (h .is))) (entriesFrom (bytesAt s a) 0) (entries-stand (bytesAt s a) 0)
+    by nothing = tt
+    by (refused t) = tt
+
+-- ---- the bytes of a checksum
+
+pub part-in : (s : List ℕ) (start len : ℕ) (o : Place) → gave o ≡ spotIn s start len 0 → o .start + o .len ≤ length s
+part-in s start len o e = spot-in-area s nothing tt (walk.In start len 0) o e
+
+-- what is handed back points to block b, offset q, and has the bytes y; the area points to a and p and has x
+module _ (a b p q : ℕ) (x y : List ℕ) (start len : ℕ) (block : b ≡ a) where
+  abbrev Behind : Type 0
+  Behind = (b ≡ a) × (q ≡ p + partOf x start len .start) × (y ≡ bytesAt x (partOf x start len))
+
+  pub hands-part : (o : Place) (k : ℕ) → gave o ≡ spotIn x start len 0 → k ≡ o .len → q ≡ p + o .start → y ≡ take k (drop (o .start) x) → Behind
+  unfolding partOf
+  hands-part o k e ek place bytes =
+      let h : held (gave o) ≡ held (spotIn x start len 0) = ap held e in
+      (block, place ∙ ap (λ (c : Span). p + c .start) h, bytes ∙ ap (λ (j : ℕ). take j (drop (o .start) x)) ek ∙ ap (bytesAt x) h)
+
+  pub hands-empty : (r : Reply Place Told) → r ≡ spotIn x start len 0 → held r ≡ record { start = 0; len = 0 } → q ≡ p → y ≡ [] → Behind
+  unfolding partOf
+  hands-empty r e z place bytes =
+      let h : record { start = 0; len = 0 } ≡ held (spotIn x start len 0) = sym z ∙ ap held e in
+      (block, place ∙ sym (add-zero p) ∙ ap (λ (c : Span). p + c .start) h, bytes ∙ ap (bytesAt x) h)
+
+-- a part of a part
+take-part : (m i n : ℕ) (t : List ℕ) → i + m ≤ n → n ≤ length t → take m (drop i t) ≡ take m (drop i (take n t))
+take-part m i n t h l =
+    let j : i + (n - i) ≡ n = omega arith in
+    let e : drop i (take n t) ≡ take (n - i) (drop i t)
+    = ap (λ (k : ℕ). drop i (take k t)) (sym j) ∙ ap (drop i) (take-add i (n - i) t)
+    ∙ drop-at (take i t) (take (n - i) (drop i t)) i (length-take-le i t (omega arith)) in
+    sym (ap (take m) e ∙ take-take m (n - i) (drop i t) (omega arith))
+
+-- a part that lies in an area
+pub part-inside : (s : List ℕ) (start len : ℕ) → length s ≤ longest → start + len ≤ length s → partOf s start len ≡ record { start = start; len = len }
+unfolding partOf
+part-inside s start len m h = ap held (sym (spot-inside s start len 0 m h))
+
+-- THE THEOREM: the files of an area, with their checksums' bytes as `checksum_bytes` hands them back, are what the bytes of its last checksum body
+-- say, but for what kind 0 drops
+pub files-mean : (rule : ℕ → Sort) (s : List ℕ)
+    → mapped (spelt s) same (filesIn rule s) ≡ ofBody (λ (b : List ℕ). mapped shown same (checksums b)) (mapReply (bytesAt s) same (filesSub rule s))
+files-mean rule s =
+    table-means (λ (b : List ℕ). entriesFrom b 0) fileOf In (λ b. entries-in b 0) s spelt entry.spelt moves (filesSub rule s) (files-finds rule s)
+    ∙ ap (λ (f : List ℕ → Listing Checksum Told). ofBody f (mapReply (bytesAt s) same (filesSub rule s))) (λ i b. entries-mean b i)
+  where
+    moves : (start n : ℕ) (e : Entry) → start + n ≤ length s → length s ≤ longest → In n e → spelt s (fileOf start e) ≡ entry.spelt (take n (drop start s)) e
+    moves start n e h m q =
+        let bytes : bytesAt s (partOf s (start + e .start) (e .len)) ≡ take (e .len) (drop (e .start) (take n (drop start s)))
+        = ap (bytesAt s) (part-inside s (start + e .start) (e .len) m (omega arith))
+        ∙ ap (take (e .len)) (sym (drop-drop (e .start) start s))
+        ∙ take-part (e .len) (e .start) n (drop start s) q (omega (arith, length-drop start s)) in
+        λ i. record { name = e .name; kind = e .kind; bytes = bytes i }

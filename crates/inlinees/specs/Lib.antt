@@ -1,0 +1,4 @@
+pub mod Inlinees
+pub mod Told
+pub mod SourceLineLaws
+pub mod InlineesLaws

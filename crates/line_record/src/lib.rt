@@ -1,0 +1,224 @@
+// A line record, what an entry's words say of it, and how an end sets its length (crate: `LineInfo`, `LineNumberHeader::parse`, `set_end`).
+//
+// Everything is decided by the words alone: no call here reads an area.
+ghost use mathlib.Core.Path.{_≡_};
+ghost use Rattle.line_record.specs.Flags.{startLine, endLine, kindOf, isMarker};
+ghost use Rattle.line_record.specs.Record.{emptyRecord, columnIf, startColumn, endColumn, recordOf, entryOf, shorterOf, withLength, closedAt};
+ghost use Rattle.line_record.specs.Told.{toldEntry};
+use refusal::Refusal;
+
+// A length, or none yet.
+pub enum Length {
+    Unset,
+    Is(u32),
+}
+
+// A column, or none.
+pub enum Column {
+    None,
+    At(u32),
+}
+
+pub enum LineKind {
+    Expression,
+    Statement,
+}
+
+pub struct LineRecord {
+    pub section: u16,
+    pub offset: u32,
+    pub length: Length,
+    pub file: u32,
+    pub start_line: u32,
+    pub end_line: u32,
+    pub column_start: Column,
+    pub column_end: Column,
+    pub kind: LineKind,
+}
+
+impl LineRecord {
+    // The largest start line and the largest offset that a record can have.
+    pub const MAX_START_LINE: u32 = 0xff_ffff;
+
+    pub const MAX_OFFSET: u32 = 0xffff_ffff;
+
+    // No answer is made of it.
+    pub fn empty() -> Self
+        ensures { λ r. ⌜ r ≡ emptyRecord ⌝ }
+    {
+        LineRecord {
+            section: 0,
+            offset: 0,
+            length: Length::Unset,
+            file: 0,
+            start_line: 0,
+            end_line: 0,
+            column_start: Column::None,
+            column_end: Column::None,
+            kind: LineKind::Statement,
+        }
+    }
+}
+
+// The low 24 bits of the flags word.
+pub fn start_line(flags: u32) -> u32
+    ensures { λ r. ⌜ r ≡ startLine flags ⌝ }
+{
+    flags % 0x100_0000
+}
+
+// The end line as the crate reads it: the start line. Its `flags & 0x7f00_0000 >> 24` shifts first, so that it masks with 0x7f and takes the
+// low seven bits of the start line itself; put below the start line's other bits they are the start line again, and its step that adds 128
+// to an end before the start is never reached. This is the one place where an end line is read.
+pub fn end_line(flags: u32) -> u32
+    ensures { λ r. ⌜ r ≡ endLine flags ⌝ }
+{
+    start_line(flags)
+}
+
+// Bit 31 of the flags word.
+pub fn kind(flags: u32) -> LineKind
+    ensures { λ r. ⌜ r ≡ kindOf flags ⌝ }
+{
+    if flags < 0x8000_0000 {
+        return LineKind::Expression;
+    }
+    LineKind::Statement
+}
+
+// The two start lines that are no lines.
+pub fn is_marker(flags: u32) -> bool
+    ensures { λ r. ⌜ r ≡ isMarker flags ⌝ }
+{
+    let line = start_line(flags);
+    if line == 0xfeefee {
+        return true;
+    }
+    line == 0xf00f00
+}
+
+// The start column: the low half of the column word, if there are columns.
+pub fn column_start(columns: bool, word: u32) -> Column
+    ensures { λ r. ⌜ r ≡ startColumn (columnIf columns word) ⌝ }
+{
+    if columns {
+        return Column::At(word % 65536);
+    }
+    Column::None
+}
+
+// The end column: the high half.
+pub fn column_end(columns: bool, word: u32) -> Column
+    ensures { λ r. ⌜ r ≡ endColumn (columnIf columns word) ⌝ }
+{
+    if columns {
+        return Column::At(word / 65536);
+    }
+    Column::None
+}
+
+// The one place where a record is made of an entry.
+pub fn record_of(
+    section: u16,
+    offset: u32,
+    file: u32,
+    flags: u32,
+    column_start: Column,
+    column_end: Column,
+) -> LineRecord
+    ensures { λ r. ⌜ r ≡ recordOf section offset file flags «column_start» «column_end» ⌝ }
+{
+    let start = start_line(flags);
+    let end = end_line(flags);
+    let k = kind(flags);
+    LineRecord {
+        section,
+        offset,
+        length: Length::Unset,
+        file,
+        start_line: start,
+        end_line: end,
+        column_start,
+        column_end,
+        kind: k,
+    }
+}
+
+// What a line entry says: a record whose length is unset, or a marker, which gives none.
+pub enum Entry {
+    Line(LineRecord),
+    Marker,
+    Refused(Refusal),
+}
+
+// The entry of these words in a block of `file`, in a subsection that starts at `base` of `section`. A marker forms no sum.
+pub fn entry_of(
+    section: u16,
+    base: u32,
+    file: u32,
+    offset: u32,
+    flags: u32,
+    column_start: Column,
+    column_end: Column,
+) -> Entry
+    ensures { λ r. ⌜ toldEntry r ≡ entryOf section base file offset flags «column_start» «column_end» ⌝ }
+{
+    if is_marker(flags) {
+        return Entry::Marker;
+    }
+    if LineRecord::MAX_OFFSET - base < offset {
+        return Entry::Refused(Refusal::OffsetTooLarge);
+    }
+    Entry::Line(record_of(
+        section,
+        base + offset,
+        file,
+        flags,
+        column_start,
+        column_end,
+    ))
+}
+
+// The shorter of a length and n.
+fn shorter(length: Length, n: u32) -> Length
+    ensures { λ r. ⌜ r ≡ shorterOf length n ⌝ }
+{
+    match length {
+        Length::Unset => Length::Is(n),
+        Length::Is(m) => { if n < m { Length::Is(n) } else { Length::Is(m) } }
+    }
+}
+
+// The one place where a length is changed.
+fn with_length(r: LineRecord, length: Length) -> LineRecord
+    ensures { λ x. ⌜ x ≡ withLength r length ⌝ }
+{
+    let a = r.column_start;
+    let b = r.column_end;
+    let k = r.kind;
+    LineRecord {
+        section: r.section,
+        offset: r.offset,
+        length,
+        file: r.file,
+        start_line: r.start_line,
+        end_line: r.end_line,
+        column_start: a,
+        column_end: b,
+        kind: k,
+    }
+}
+
+// The record with an end at `end` of `section`: in the same section and not before the record it sets the length, if unset or larger.
+pub fn closed(r: LineRecord, section: u16, end: u32) -> LineRecord
+    ensures { λ x. ⌜ x ≡ closedAt section end r ⌝ }
+{
+    if r.section != section {
+        return r;
+    }
+    if end < r.offset {
+        return r;
+    }
+    let l = r.length;
+    with_length(r, shorter(l, end - r.offset))
+}

@@ -1,0 +1,69 @@
+-- An order list as its reader takes it: the line bodies that its slots name, one for each line subsection of the area. Source: document 01, "Line
+-- subsections" (the walk repeats the list's tests but 10 and takes one slot a line subsection) and number 19 (a slot that is missing or names
+-- no line body).
+-- Definitions only; a reader must believe them.
+use Prim.Native.Nat.{ℕ, zero, suc}
+use mathlib.Core.List.{List, [], _∷_}
+use mathlib.Core.Bool.{Bool, cond, _&&_}
+use lib.ListN.{length, getD}
+use lib.Dec.{ltb, leb, eqb}
+use Rattle.walk.specs.Listing.{Listing, more, ends, fails, Reply, gave, nothing, refused}
+use Rattle.walk.specs.Pick.{firstBy, mapReply}
+use Rattle.refusal.specs.Told.{Told, told}
+use Rattle.refusal.specs.declared.Refusal.the-variants as why
+use Rattle.area.specs.Kind.{Sort}
+use Rattle.area.specs.Subs.{Sub, subsFrom}
+use Rattle.find.specs.Find.{same, Span, spanOf, bytesAt}
+use Rattle.lines.specs.Lines.{countLines}
+
+-- a line subsection whose body starts at v
+abbrev pub startsAt : ℕ → Sub → Bool
+startsAt v b = eqb (b .start) v && eqb (b .kind) 0xf2
+
+-- its place among the subsections of a listing, and of the area from p on
+abbrev pub bodyIn : ℕ → Listing Sub Told → Reply Span Told
+bodyIn v l = mapReply spanOf same (firstBy (startsAt v) l)
+
+abbrev pub bodyFrom : (ℕ → Sort) → List ℕ → ℕ → ℕ → Reply Span Told
+bodyFrom rule s p v = bodyIn v (subsFrom rule s p)
+
+-- its bytes
+abbrev pub bodyAt : (ℕ → Sort) → List ℕ → ℕ → Reply (List ℕ) Told
+bodyAt rule s v = mapReply (bytesAt s) same (bodyFrom rule s 0 v)
+
+-- what a slot names, and then l
+abbrev pub nameThen : {B : Type 0} → Reply B Told → Listing B Told → Listing B Told
+nameThen (gave b) l = more b l
+nameThen nothing l = fails (told why.WrongSlot)
+nameThen (refused t) l = fails t
+
+-- what the first n slots name, f being what a position names
+unfoldable pub named : {B : Type 0} → (ℕ → Reply B Told) → ℕ → List ℕ → Listing B Told
+named f zero vs = ends
+named f (suc n) [] = fails (told why.WrongSlot)
+named f (suc n) (v ∷ vs) = nameThen (f v) (named f n vs)
+
+-- THE LINE BODIES OF A LIST v: after the tests over the area, as many slots as it has line subsections
+abbrev pub listIn : (ℕ → Sort) → List ℕ → List ℕ → Reply ℕ Told → Listing (List ℕ) Told
+listIn rule s v (gave n) = named (bodyAt rule s) n v
+listIn rule s v nothing = ends
+listIn rule s v (refused t) = fails t
+
+abbrev pub listOf : (ℕ → Sort) → List ℕ → List ℕ → Listing (List ℕ) Told
+listOf rule s v = listIn rule s v (countLines rule s)
+
+-- ---- one slot, as code reads it
+
+-- a search for a body at v that may begin at p, if the body does not lie before that
+unfoldable pub scanFrom : ℕ → ℕ → ℕ
+scanFrom p v = cond (ltb p v) p 0
+
+abbrev pub nameOf : Reply Span Told → Reply Span Told
+nameOf (gave a) = gave a
+nameOf nothing = refused (told why.WrongSlot)
+nameOf (refused t) = refused t
+
+-- slot i
+unfoldable pub slotAt : (ℕ → Sort) → List ℕ → List ℕ → ℕ → ℕ → Reply Span Told
+slotAt rule s v i p =
+    cond (leb (length v) i) (refused (told why.WrongSlot)) (nameOf (bodyFrom rule s (scanFrom p (getD v i 0)) (getD v i 0)))

@@ -1,0 +1,195 @@
+-- Laws of the bodies that slots name: the search for a body, where it lies, that a search need not begin at the area's start, and one slot after
+-- the other.
+use Prim.Native.Nat.{ℕ, suc, _+_, _-_, _<_, _≤_}
+use mathlib.Core.Path.{_≡_, refl, sym, ap, _∙_, subst⁻¹}
+use mathlib.Core.List.{List}
+use mathlib.Core.Bool.{Bool, true, false, _&&_}
+use native.Mathlib.Numerals.{add-one}
+use native.Mathlib.Omega.{arith}
+use lib.ListN.{length, getD, drop, drop-of-length-le}
+use lib.Seq.{drop-cons}
+use lib.Dec.{ltb, leb, eqb}
+use borrow.Author.Tests.{ltb-true, leb-true, leb-false, eqb-true, eq-eqb, ne-eqb}
+use Rattle.walk.specs.Cases.{tests, by-cases}
+use Rattle.walk.specs.Listing.{Listing, more, ends, fails, Reply, gave, nothing, refused, gives, none, refuses}
+use Rattle.walk.specs.ListingLaws.{Every}
+use Rattle.walk.specs.Pick.{firstBy, mapReply}
+use Rattle.walk.specs.PickLaws.{Gives}
+use Rattle.refusal.specs.Told.{Told, told}
+use Rattle.refusal.specs.declared.Refusal.the-variants as why
+use Rattle.area.specs.Kind.{Sort}
+use Rattle.area.specs.Subs.{Sub, subsFrom, stepAt}
+use Rattle.area.specs.SubsLaws.{sub-next, sub-end, sub-refused, Inside, subs-inside, Chained, subs-chained}
+use Rattle.find.specs.Find.{same, Span, spanOf, bytesAt}
+use Rattle.lines.specs.Slots.{startsAt, bodyIn, bodyFrom, bodyAt, nameThen, named, scanFrom, nameOf, slotAt}
+
+-- ---- the loop of `seek`: one law for each way, on an answer of `sub_at`
+
+starts-not : (v : ℕ) (b : Sub) → (b .start ≡ v → ⊥) → startsAt v b ≡ false
+starts-not v b h = simp tests
+
+module _ (rule : ℕ → Sort) (s : List ℕ) (p v : ℕ) where
+  module _ (b : Sub) (x : ℕ) (q : gives b x ≡ stepAt rule s p) where
+    pub seek-miss : (b .start ≡ v → ⊥) → bodyFrom rule s x v ≡ bodyFrom rule s p v
+    unfolding firstBy
+    seek-miss h = rw (← sub-next rule s p b x q .is, starts-not v b h)
+
+    module _ (h₁ : b .start ≡ v) where
+      pub seek-other : (b .kind ≡ 0xf2 → ⊥) → bodyFrom rule s x v ≡ bodyFrom rule s p v
+      unfolding firstBy
+      seek-other h = rw (← sub-next rule s p b x q .is, eq-eqb (b .start) v h₁, ne-eqb (b .kind) 0xf2 h)
+
+      pub seek-hit : b .kind ≡ 0xf2 → gave (spanOf b) ≡ bodyFrom rule s p v
+      unfolding firstBy
+      seek-hit h = rw (← sub-next rule s p b x q .is, eq-eqb (b .start) v h₁, eq-eqb (b .kind) 0xf2 h)
+
+  pub seek-end : none ≡ stepAt rule s p → nothing ≡ bodyFrom rule s p v
+  unfolding firstBy
+  seek-end q = rw (← sub-end rule s p q)
+
+  pub seek-refused : (t : Told) → refuses t ≡ stepAt rule s p → refused t ≡ bodyFrom rule s p v
+  unfolding firstBy
+  seek-refused t q = rw (← sub-refused rule s p t q)
+
+-- ---- where a body lies
+
+abbrev Lies : ℕ → ℕ → Span → Type 0
+Lies m v a = (a .start ≡ v) × (a .start + a .len ≤ m)
+
+starts-start : (v : ℕ) (b : Sub) → startsAt v b ≡ true → b .start ≡ v
+starts-start v b e = eqb-true (b .start) v (first (eqb (b .start) v) (eqb (b .kind) 0xf2) e)
+  where
+    first : (x y : Bool) → x && y ≡ true → x ≡ true
+    first true y e = refl
+    first false y e = e
+
+lies-in : (m v : ℕ) (l : Listing Sub Told) → Every (Inside m) l → Gives (Lies m v) (bodyIn v l)
+unfolding firstBy
+lies-in m v (more b l) q =
+    by-cases (λ (x : Reply Sub Told). Gives (Lies m v) (mapReply spanOf same x)) (startsAt v b) (λ e. (starts-start v b e, q .0)) (λ e. lies-in m v l (q .1))
+lies-in m v ends q = tt
+lies-in m v (fails t) q = tt
+
+body-lies : (rule : ℕ → Sort) (s : List ℕ) (p v : ℕ) → Gives (Lies (length s) v) (bodyFrom rule s p v)
+body-lies rule s p v = lies-in (length s) v (subsFrom rule s p) (subs-inside rule s p)
+
+-- ---- a search from p finds each body behind p that a search from the area's start finds
+
+abbrev pub Scans : (ℕ → Sort) → List ℕ → ℕ → Type 0
+Scans rule s p = (v : ℕ) → p < v → bodyFrom rule s p v ≡ bodyFrom rule s 0 v
+
+pub scans-start : (rule : ℕ → Sort) (s : List ℕ) → Scans rule s 0
+scans-start rule s v h = refl
+
+pub scan-on : (p v : ℕ) → p < v → p ≡ scanFrom p v
+unfolding scanFrom
+scan-on p v h = simp tests
+
+pub scan-anew : (p v : ℕ) → v ≤ p → 0 ≡ scanFrom p v
+unfolding scanFrom
+scan-anew p v h = simp tests
+
+scan-right : (rule : ℕ → Sort) (s : List ℕ) (p v : ℕ) → Scans rule s p → bodyFrom rule s (scanFrom p v) v ≡ bodyFrom rule s 0 v
+unfolding scanFrom
+scan-right rule s p v g = by-cases (λ q. bodyFrom rule s q v ≡ bodyFrom rule s 0 v) (ltb p v) (λ e. g v (ltb-true p v e)) (λ e. refl)
+
+pub body-passed : (b : Sub) (l : Listing Sub Told) (v : ℕ) → (b .start ≡ v → ⊥) → bodyIn v l ≡ bodyIn v (more b l)
+unfolding firstBy
+body-passed b l v h = sym (simp (starts-not v b h))
+
+module _ (rule : ℕ → Sort) (s : List ℕ) where
+  -- behind a body that is found
+  behind : (l : Listing Sub Told) (p : ℕ) → Chained rule s p l → (v : ℕ) (a : Span) → gave a ≡ bodyIn v l
+      → (p ≤ a .start + a .len) × ((u : ℕ) → a .start + a .len < u → bodyFrom rule s (a .start + a .len) u ≡ bodyIn u l)
+  unfolding firstBy
+  behind (more b l) p w v a =
+      let x = b .start + b .len in
+      let ih = behind l x (subst⁻¹ (Chained rule s x) (w .0) (subs-chained rule s x)) v a in
+      by-cases (λ (o : Reply Sub Told). gave a ≡ mapReply spanOf same o → Goal) (startsAt v b) (λ e q. here q) (λ e q. later (ih q))
+    where
+      Goal : Type 0
+      Goal = (p ≤ a .start + a .len) × ((u : ℕ) → a .start + a .len < u → bodyFrom rule s (a .start + a .len) u ≡ bodyIn u (more b l))
+
+      here : _≡_ {A = Reply Span Told} (gave a) (gave (spanOf b)) → Goal
+      here q =
+          let es : a .start ≡ b .start = cc in
+          let en : a .len ≡ b .len = cc in
+          let ex : a .start + a .len ≡ b .start + b .len = omega arith in
+          (omega arith, λ u h. ap (λ y. bodyFrom rule s y u) ex ∙ ap (bodyIn u) (sym (w .0)) ∙ body-passed b l u (λ g. omega arith))
+
+      later : (b .start + b .len ≤ a .start + a .len) × ((u : ℕ) → a .start + a .len < u → bodyFrom rule s (a .start + a .len) u ≡ bodyIn u l) → Goal
+      later r = (omega arith, λ u h. r .1 u h ∙ body-passed b l u (λ g. omega arith))
+  behind ends p w v a = λ q. let z : _≡_ {A = ℕ} 0 1 = cc in absurd (omega arith)
+  behind (fails t) p w v a = λ q. let z : _≡_ {A = ℕ} 0 1 = cc in absurd (omega arith)
+
+  scans-found : (v : ℕ) (a : Span) → gave a ≡ bodyFrom rule s 0 v → Scans rule s (a .start + a .len)
+  scans-found v a q = behind (subsFrom rule s 0) 0 (subs-chained rule s 0) v a q .1
+
+-- ---- one slot
+
+module _ (rule : ℕ → Sort) (s v : List ℕ) (i p : ℕ) where
+  pub slot-missing : length v ≤ i → refused (told why.WrongSlot) ≡ slotAt rule s v i p
+  unfolding slotAt
+  slot-missing h = simp tests
+
+  -- x as code has it: what the search from q answers
+  pub slot-is : i < length v → (q : ℕ) (x : Reply Span Told) → q ≡ scanFrom p (getD v i 0) → x ≡ bodyFrom rule s q (getD v i 0)
+      → nameOf x ≡ slotAt rule s v i p
+  unfolding slotAt
+  slot-is h q x eq ex =
+      ap nameOf (ex ∙ ap (λ k. bodyFrom rule s k (getD v i 0)) eq) ∙ sym (simp tests)
+
+  abbrev pub SlotIn : Span → Type 0
+  SlotIn a = (i < length v) × (a .start + a .len ≤ length s)
+
+  name-in : (x : Reply Span Told) → i < length v → Gives (Lies (length s) (getD v i 0)) x → Gives SlotIn (nameOf x)
+  name-in (gave a) h l = (h, l .1)
+  name-in nothing h l = tt
+  name-in (refused t) h l = tt
+
+  pub slot-lies : Gives SlotIn (slotAt rule s v i p)
+  unfolding slotAt
+  slot-lies =
+      by-cases (Gives SlotIn) (leb (length v) i) (λ e. tt)
+      (λ e. name-in (bodyFrom rule s (scanFrom p (getD v i 0)) (getD v i 0)) (leb-false (length v) i e) (body-lies rule s (scanFrom p (getD v i 0)) (getD v i 0)))
+
+  -- the slot is there, and the body lies in the area
+  pub slot-inside : (a : Span) → gave a ≡ slotAt rule s v i p → SlotIn a
+  slot-inside a e = subst⁻¹ (Gives SlotIn) e slot-lies
+
+  module _ (g : Scans rule s p) where
+    name-scans : (x : Reply Span Told) → x ≡ bodyFrom rule s 0 (getD v i 0) → Gives (λ a. Scans rule s (a .start + a .len)) (nameOf x)
+    name-scans (gave a) e = scans-found rule s (getD v i 0) a e
+    name-scans nothing e = tt
+    name-scans (refused t) e = tt
+
+    pub slot-scanned : Gives (λ a. Scans rule s (a .start + a .len)) (slotAt rule s v i p)
+    unfolding slotAt
+    slot-scanned =
+        by-cases (Gives (λ (a : Span). Scans rule s (a .start + a .len))) (leb (length v) i) (λ e. tt)
+        (λ e. name-scans (bodyFrom rule s (scanFrom p (getD v i 0)) (getD v i 0)) (scan-right rule s p (getD v i 0) g))
+
+    -- and the next search may begin behind it
+    pub slot-scans : (a : Span) → gave a ≡ slotAt rule s v i p → Scans rule s (a .start + a .len)
+    slot-scans a e = subst⁻¹ (Gives (λ (x : Span). Scans rule s (x .start + x .len))) e slot-scanned
+
+    name-then : {B : Type 0} (f : Span → B) (x : Reply Span Told) (l : Listing B Told) → nameThen (mapReply f same x) l ≡ nameThen (mapReply f same (nameOf x)) l
+    name-then f (gave a) l = refl
+    name-then f nothing l = refl
+    name-then f (refused t) l = refl
+
+    -- what n slots from the i-th on name: this one, and those behind it
+    pub named-slot : (n : ℕ) → 1 ≤ n
+        → named (bodyAt rule s) n (drop i v) ≡ nameThen (mapReply (bytesAt s) same (slotAt rule s v i p)) (named (bodyAt rule s) (n - 1) (drop (i + 1) v))
+    unfolding slotAt named
+    named-slot n h =
+        let e : n ≡ suc (n - 1) = omega arith in
+        let k = getD v i 0 in
+        let scan = sym (scan-right rule s p k g) in
+        let next : suc i ≡ i + 1 = sym (add-one i) in
+        by-cases (λ x. named (bodyAt rule s) n (drop i v) ≡ nameThen (mapReply (bytesAt s) same x) (named (bodyAt rule s) (n - 1) (drop (i + 1) v)))
+        (leb (length v) i) (λ l j. named (bodyAt rule s) (e j) (drop-of-length-le v (leb-true (length v) i l) j))
+        (λ l.
+        (λ j. named (bodyAt rule s) (e j) (drop-cons v i 0 (leb-false (length v) i l) j))
+        ∙ name-then (bytesAt s) (bodyFrom rule s 0 k) (named (bodyAt rule s) (n - 1) (drop (suc i) v))
+        ∙ (λ j. nameThen (mapReply (bytesAt s) same (nameOf (scan j))) (named (bodyAt rule s) (n - 1) (drop (next j) v))))
