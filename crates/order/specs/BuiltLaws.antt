@@ -1,0 +1,203 @@
+-- A list left as it was built: its slots name the line bodies of the area, each once, in ascending (section, offset) and equal keys in area order;
+-- slots behind those are not read.
+use Prim.Native.Nat.{ℕ, _+_, _*_, _<_, _≤_}
+use mathlib.Core.Path.{_≡_, refl, sym, ap, _∙_, subst⁻¹}
+use mathlib.Core.List.{List, [], _∷_, _++_, map}
+use mathlib.Core.Bool.{Bool, true, false, cond}
+use native.Mathlib.Omega.{arith}
+use lib.ListN.{length, take, drop, length-map}
+use lib.Seq.{getD-take}
+use lib.Dec.{ltb, eqb}
+use borrow.Author.Tests.{ltb-false, eq-eqb}
+use Rattle.word.specs.Word.{u16At, u32At}
+use Rattle.word.specs.WordLaws.{u16-drop, u32-drop}
+use native.Mathlib.Nat.{add-zero}
+use Rattle.walk.specs.Cases.{by-cases}
+use Rattle.walk.specs.Listing.{Listing, more, ends, fails, mapped, before, Reply, gave, nothing, refused}
+use Rattle.walk.specs.Pick.{only, firstBy, mapReply}
+use Rattle.refusal.specs.Told.{Told, longest, numberOf}
+use Rattle.area.specs.Kind.{Sort}
+use Rattle.area.specs.Subs.{Sub, subsFrom, bodies}
+use Rattle.area.specs.SubsLaws.{Chained, subs-chained, bodied, area-bodies}
+use Rattle.find.specs.Find.{same, is, spanOf, bytesAt}
+use Rattle.lines.specs.Lines.{headed, countOf, countLines}
+use Rattle.lines.specs.Slots.{bodyIn, bodyFrom, bodyAt, nameThen, named, listIn, listOf}
+use Rattle.lines.specs.SlotsLaws.{body-passed}
+use Rattle.lines.specs.LinesLaws.{counted-short}
+use Rattle.sort.specs.Sort.{sortBy}
+use Rattle.sort.specs.SortLaws.{Each, each-map, each-sort, map-sort, length-sort}
+use Rattle.sort.specs.Rank.{keyAt}
+use Rattle.sort.specs.RankLaws.{After, Ascends, stable}
+use Rattle.order.specs.Order.{listed, startOf, startsFrom, orderOf, inRoom, ordered, slotsBy, slotsAfter, isLines, bodyOf, lineBodies, keyOf, inOrder}
+use Rattle.order.specs.OrderLaws.{plus-one, counted-starts}
+
+abbrev lines : Listing Sub Told → List Sub
+lines l = listed (only (is 0xf2) l)
+
+-- ---- each line subsection of an area is the one that its body's start names
+
+abbrev Found : Listing Sub Told → ℕ → ℕ → Sub → Type 0
+Found l m p b = (p + 8 ≤ b .start) × (b .start + b .len ≤ m) × (bodyIn (b .start) l ≡ gave (spanOf b))
+
+first-found : (b : Sub) (l : Listing Sub Told) → eqb (b .kind) 0xf2 ≡ true → bodyIn (b .start) (more b l) ≡ gave (spanOf b)
+unfolding firstBy
+first-found b l e = rw (eq-eqb (b .start) (b .start) refl, e)
+
+module _ (rule : ℕ → Sort) (s : List ℕ) where
+  found : (l : Listing Sub Told) (p : ℕ) → Chained rule s p l → Each (Found l (length s) p) (lines l)
+  unfolding only listed
+  found (more b l) p w =
+      let x = b .start + b .len in
+      let rest = each-map (Found l (length s) x) (Found (more b l) (length s) p)
+      (λ d f. (omega arith, f .1, sym (body-passed b l (d .start) (λ g. omega arith)) ∙ f .2))
+      (lines l) (found l x (subst⁻¹ (Chained rule s x) (w .0) (subs-chained rule s x))) in
+      by-cases (λ (k : Listing Sub Told). Each (Found (more b l) (length s) p) (listed k)) (eqb (b .kind) 0xf2)
+      (λ e. ((w .1, w .2, first-found b l e), rest)) (λ e. rest)
+  found ends p w = tt
+  found (fails t) p w = tt
+
+-- ---- the starts ascend
+
+each-after : (x m p : ℕ) (l : Listing Sub Told) (bs : List Sub) → x < p + 8 → m ≤ longest → Each (Found l m p) bs → After x (map startOf bs)
+each-after x m p l [] h k e = tt
+each-after x m p l (b ∷ bs) h k e = (omega arith, omega (arith, e .0 .1), each-after x m p l bs h k (e .1))
+
+module _ (rule : ℕ → Sort) (s : List ℕ) (short : length s ≤ longest) where
+  ascends : (l : Listing Sub Told) (p : ℕ) → Chained rule s p l → Ascends (map startOf (lines l))
+  unfolding only listed
+  ascends (more b l) p w =
+      let x = b .start + b .len in
+      let c = subst⁻¹ (Chained rule s x) (w .0) (subs-chained rule s x) in
+      by-cases (λ (k : Listing Sub Told). Ascends (map startOf (listed k))) (eqb (b .kind) 0xf2)
+      (λ e. (omega arith, each-after (b .start) (length s) x l (lines l) (omega arith) short (found rule s l x c), ascends l x c))
+      (λ e. ascends l x c)
+  ascends ends p w = tt
+  ascends (fails t) p w = tt
+
+-- to sort by rank is to sort by the key alone: equal keys stay in the order of the area
+pub order-stable : (rule : ℕ → Sort) (s : List ℕ) → length s ≤ longest → sortBy (keyAt s) (startsFrom rule s 0) ≡ orderOf rule s
+order-stable rule s h = stable s (startsFrom rule s 0) (ascends rule s h (subsFrom rule s 0) 0 (subs-chained rule s 0))
+
+-- ---- the key of a body is that of its place
+
+u16-take : (n : ℕ) (s : List ℕ) (i : ℕ) → i + 1 < n → u16At (take n s) i ≡ u16At s i
+unfolding u16At
+u16-take n s i h = omega (arith, getD-take n s i 0 (omega arith), getD-take n s (i + 1) 0 h)
+
+u32-take : (n : ℕ) (s : List ℕ) (i : ℕ) → i + 3 < n → u32At (take n s) i ≡ u32At s i
+unfolding u32At
+u32-take n s i h =
+    omega (arith, getD-take n s i 0 (omega arith), getD-take n s (i + 1) 0 (omega arith), getD-take n s (i + 2) 0 (omega arith), getD-take n s (i + 3) 0 h)
+
+abbrev bytesOf : List ℕ → Sub → List ℕ
+bytesOf s b = bytesAt s (spanOf b)
+
+abbrev weightOf : List ℕ → Sub → ℕ
+weightOf s b = keyAt s (b .start)
+
+same-key : (s : List ℕ) (b : Sub) → 12 ≤ b .len → keyOf (bytesOf s b) ≡ weightOf s b
+unfolding keyOf keyAt
+same-key s b h =
+    let a = b .start in
+    let e₁ : u16At (bytesOf s b) 4 ≡ u16At s (a + 4) = u16-take (b .len) (drop a s) 4 (omega arith) ∙ u16-drop s a 4 in
+    let e₂ : u32At (bytesOf s b) 0 ≡ u32At s a = u32-take (b .len) (drop a s) 0 (omega arith) ∙ u32-drop s a 0 ∙ ap (u32At s) (add-zero a) in
+    λ i. e₁ i * 0x1_0000_0000 + e₂ i
+
+-- ---- the tests were passed
+
+whole : (l : Listing Sub Told) (n : ℕ) → gave n ≡ countOf (headed l) → Each (λ b. 12 ≤ b .len) (listed l)
+unfolding headed countOf listed
+whole (more b l) n =
+    by-cases (λ (k : Listing Sub Told). gave n ≡ countOf k → Each (λ (d : Sub). 12 ≤ d .len) (b ∷ listed l)) (ltb (b .len) 12)
+    (λ e q. let z : _≡_ {A = ℕ} 0 1 = cc in absurd (omega arith))
+    (λ e q. let m = plus-one (countOf (headed l)) n q in (ltb-false (b .len) 12 e, whole l (m .0) (m .1)))
+whole ends n = λ q. tt
+whole (fails t) n = λ q. tt
+
+-- ---- the bodies with places are those without
+
+module _ {B C R Q : Type 0} (g : B → C) (h : R → Q) (f : C → Bool) where
+  only-mapped : (l : Listing B R) → mapped g h (only (λ (b : B). f (g b)) l) ≡ only f (mapped g h l)
+  unfolding only
+  only-mapped (more b l) = both (f (g b)) (only-mapped l)
+    where
+      both : (t : Bool) → mapped g h (only (λ (x : B). f (g x)) l) ≡ only f (mapped g h l)
+          → mapped g h (cond t (more b (only (λ (x : B). f (g x)) l)) (only (λ (x : B). f (g x)) l)) ≡ cond t (more (g b) (only f (mapped g h l))) (only f (mapped g h l))
+      both true e = ap (more (g b)) e
+      both false e = e
+  only-mapped ends = refl
+  only-mapped (fails r) = refl
+
+listed-mapped : {B C R Q : Type 0} (g : B → C) (h : R → Q) (l : Listing B R) → map g (listed l) ≡ listed (mapped g h l)
+unfolding listed
+listed-mapped g h (more b l) = ap (λ k. g b ∷ k) (listed-mapped g h l)
+listed-mapped g h ends = refl
+listed-mapped g h (fails r) = refl
+
+pub map-map : {A B C : Type 0} (g : A → B) (f : B → C) (xs : List A) → map (λ (x : A). f (g x)) xs ≡ map f (map g xs)
+map-map g f [] = refl
+map-map g f (x ∷ xs) = ap (λ l. f (g x) ∷ l) (map-map g f xs)
+
+pub line-bodies : (rule : ℕ → Sort) (s : List ℕ) → map (bytesOf s) (lines (subsFrom rule s 0)) ≡ lineBodies rule s
+line-bodies rule s =
+    map-map (bodied s) bodyOf (lines (subsFrom rule s 0))
+    ∙ ap (map bodyOf) (listed-mapped (bodied s) numberOf (only (is 0xf2) (subsFrom rule s 0))
+    ∙ ap listed (only-mapped (bodied s) numberOf isLines (subsFrom rule s 0) ∙ ap (only isLines) (area-bodies rule s)))
+
+-- ---- what the slots name
+
+name-all : (rule : ℕ → Sort) (s : List ℕ) (bs : List Sub) (vs : List ℕ) (n : ℕ) → length bs ≡ n
+    → Each (λ b. bodyFrom rule s 0 (b .start) ≡ gave (spanOf b)) bs
+    → named (bodyAt rule s) n (map startOf bs ++ vs) ≡ before (map (bytesOf s) bs) ends
+unfolding named
+name-all rule s [] vs n h e = ap (λ k. named (bodyAt rule s) k vs) (sym h)
+name-all rule s (b ∷ bs) vs n h e =
+    ap (λ k. named (bodyAt rule s) k (b .start ∷ (map startOf bs ++ vs))) (sym h)
+    ∙ ap (λ x. nameThen (mapReply (bytesAt s) same x) (named (bodyAt rule s) (length bs) (map startOf bs ++ vs))) (e .0)
+    ∙ ap (more (bytesOf s b)) (name-all rule s bs vs (length bs) refl (e .1))
+
+-- the list takes n slots only after the tests, and if there are so many
+room : (m : ℕ) (x : Reply ℕ Told) (n : ℕ) → gave n ≡ inRoom m x → gave n ≡ x
+room m (gave k) n =
+    by-cases (λ (y : Reply ℕ Told). gave n ≡ y → _≡_ {A = Reply ℕ Told} (gave n) (gave k)) (ltb m k) (λ e q. let z : _≡_ {A = ℕ} 0 1 = cc in absurd (omega arith)) (λ e q. q)
+room m nothing n = λ q. q
+room m (refused t) n = λ q. let z : _≡_ {A = ℕ} 0 1 = cc in absurd (omega arith)
+
+module _ (rule : ℕ → Sort) (s : List ℕ) (n : ℕ) (e : gave n ≡ countLines rule s) where
+  bs : List Sub
+  bs = lines (subsFrom rule s 0)
+
+  sorted : List Sub
+  sorted = sortBy (weightOf s) bs
+
+  order-is : map startOf sorted ≡ orderOf rule s
+  unfolding sorted bs
+  order-is = map-sort (weightOf s) (keyAt s) startOf bs (each-all bs) ∙ order-stable rule s (counted-short rule s n e)
+    where
+      each-all : (ds : List Sub) → Each (λ d. weightOf s d ≡ weightOf s d) ds
+      each-all [] = tt
+      each-all (d ∷ ds) = (refl, each-all ds)
+
+  bodies-are : map (bytesOf s) sorted ≡ inOrder rule s
+  unfolding sorted bs
+  bodies-are =
+      map-sort (weightOf s) keyOf (bytesOf s) bs (each-map (λ b. 12 ≤ b .len) (λ b. keyOf (bytesOf s b) ≡ weightOf s b) (same-key s) bs (whole (only (is 0xf2) (subsFrom rule s 0)) n e))
+      ∙ ap (sortBy keyOf) (line-bodies rule s)
+
+  -- THE THEOREM for the list: behind the first n slots nothing is read, and those name the area's line bodies in walk order
+  pub built-list : (vs : List ℕ) → listOf rule s (orderOf rule s ++ vs) ≡ before (inOrder rule s) ends
+  unfolding sorted bs
+  built-list vs =
+      ap (listIn rule s (orderOf rule s ++ vs)) (sym e)
+      ∙ ap (λ o. named (bodyAt rule s) n (o ++ vs)) (sym order-is)
+      ∙ name-all rule s sorted vs n (length-sort (weightOf s) bs ∙ number) (each-sort (weightOf s) (λ b. bodyFrom rule s 0 (b .start) ≡ gave (spanOf b)) bs
+      (each-map (Found (subsFrom rule s 0) (length s) 0) (λ b. bodyFrom rule s 0 (b .start) ≡ gave (spanOf b)) (λ b f. f .2) bs (found rule s (subsFrom rule s 0) 0 (subs-chained rule s 0))))
+      ∙ ap (λ k. before k ends) bodies-are
+    where
+      number : length bs ≡ n
+      number = sym (length-map bs startOf) ∙ counted-starts rule s n e
+
+-- as `order_list` leaves it
+pub built : (rule : ℕ → Sort) (s xs : List ℕ) (n : ℕ) → gave n ≡ ordered rule s (length xs) → listOf rule s (slotsAfter rule s xs) ≡ before (inOrder rule s) ends
+built rule s xs n e =
+    ap (λ x. listOf rule s (slotsBy rule s xs x)) (sym e) ∙ built-list rule s n (room (length xs) (countLines rule s) n e) (drop n xs)

@@ -1,0 +1,4 @@
+pub mod Order
+pub mod Told
+pub mod OrderLaws
+pub mod BuiltLaws

@@ -1,0 +1,73 @@
+-- The order list of an area: where its line bodies start, in walk order. Source: document 01, "Line subsections": ascending (section, offset),
+-- equal keys in area order; 10 if there are more line subsections than slots; the first slots then hold body positions in walk order, the rest
+-- unchanged; and "lent memory stays as found" of a refused call.
+-- Definitions only; a reader must believe them.
+use Prim.Native.Nat.{ℕ, _+_, _*_}
+use mathlib.Core.List.{List, [], _∷_, _++_, map}
+use mathlib.Core.Bool.{Bool, cond}
+use lib.ListN.{length, drop}
+use lib.Dec.{ltb, eqb}
+use Rattle.walk.specs.Listing.{Listing, more, ends, fails, Reply, gave, nothing, refused}
+use Rattle.walk.specs.Pick.{only}
+use Rattle.refusal.specs.Told.{Told, told}
+use Rattle.refusal.specs.declared.Refusal.the-variants as why
+use Rattle.area.specs.Parts.{Raw}
+use Rattle.area.specs.Kind.{Sort}
+use Rattle.area.specs.Subs.{Sub, subsFrom, bodies}
+use Rattle.body.specs.Lines.{lineHead}
+use Rattle.find.specs.Find.{is}
+use Rattle.lines.specs.Lines.{countLines}
+use Rattle.sort.specs.Sort.{sortBy}
+use Rattle.sort.specs.Rank.{rank}
+
+-- the records of a listing, without its end
+unfoldable pub listed : {B R : Type 0} → Listing B R → List B
+listed (more b l) = b ∷ listed l
+listed ends = []
+listed (fails r) = []
+
+-- where the line bodies from a place on start, in the order of the area
+abbrev pub startOf : Sub → ℕ
+startOf b = b .start
+
+abbrev pub startsFrom : (ℕ → Sort) → List ℕ → ℕ → List ℕ
+startsFrom rule s p = map startOf (listed (only (is 0xf2) (subsFrom rule s p)))
+
+-- THE ORDER: by section, then by offset, then by position
+abbrev pub orderOf : (ℕ → Sort) → List ℕ → List ℕ
+orderOf rule s = sortBy (rank s) (startsFrom rule s 0)
+
+-- the answer for m slots: how many of them the list takes
+abbrev pub inRoom : ℕ → Reply ℕ Told → Reply ℕ Told
+inRoom m (gave n) = cond (ltb m n) (refused (told why.NoRoom)) (gave n)
+inRoom m nothing = nothing
+inRoom m (refused t) = refused t
+
+abbrev pub ordered : (ℕ → Sort) → List ℕ → ℕ → Reply ℕ Told
+ordered rule s m = inRoom m (countLines rule s)
+
+-- the slots behind such an answer, which held xs before
+abbrev pub slotsBy : (ℕ → Sort) → List ℕ → List ℕ → Reply ℕ Told → List ℕ
+slotsBy rule s xs (gave n) = orderOf rule s ++ drop n xs
+slotsBy rule s xs nothing = xs
+slotsBy rule s xs (refused t) = xs
+
+abbrev pub slotsAfter : (ℕ → Sort) → List ℕ → List ℕ → List ℕ
+slotsAfter rule s xs = slotsBy rule s xs (ordered rule s (length xs))
+
+-- ---- the bodies themselves in walk order, with no place in sight
+
+abbrev pub isLines : Raw → Bool
+isLines r = eqb (r .kind) 0xf2
+
+abbrev pub bodyOf : Raw → List ℕ
+bodyOf r = r .body
+
+abbrev pub lineBodies : (ℕ → Sort) → List ℕ → List (List ℕ)
+lineBodies rule s = map bodyOf (listed (only isLines (bodies rule s)))
+
+unfoldable pub keyOf : List ℕ → ℕ
+keyOf b = lineHead b .section * 0x1_0000_0000 + lineHead b .offset
+
+abbrev pub inOrder : (ℕ → Sort) → List ℕ → List (List ℕ)
+inOrder rule s = sortBy keyOf (lineBodies rule s)

@@ -1,0 +1,90 @@
+-- What the line walk means: the line bodies that the list names, one after the other, as events; and the records that these events settle. There
+-- is no state in it and no place. Source: document 01, "Line subsections": markers give no record but use up their column entry; one record is
+-- held back until its end is known; the ends are the next non-marker line's offset, then section offset plus code size when a subsection's
+-- blocks are done, this also when a later subsection had no line; 8 at a subsection's end only if a record is held.
+-- Definitions only; a reader must believe them.
+use Prim.Native.Nat.{ℕ, _+_}
+use mathlib.Core.List.{List, [], _∷_}
+use mathlib.Core.Bool.{cond}
+use lib.ListN.{length, drop}
+use lib.Dec.{ltb}
+use Rattle.walk.specs.Listing.{Listing, more, ends, fails, before, Reply, gave, nothing, refused}
+use Rattle.refusal.specs.Told.{Told, told}
+use Rattle.refusal.specs.declared.Refusal.the-variants as why
+use Rattle.area.specs.Kind.{Sort}
+use Rattle.body.specs.Lines.{LineHead, lineHead, columned, Block, blocks}
+use Rattle.line_record.specs.Record.{maxOffset, startColumn, endColumn, entryOf, closedAt}
+use Rattle.line_record.specs.declared.LineRecord.{LineRecord}
+use Rattle.lines.specs.Slots.{listOf}
+use Rattle.order.specs.Order.{inOrder}
+
+-- ---- events: a line, with its record, whose length is unset; or the end of the blocks of a subsection with this header
+
+pub data Event : Type 0 where
+  line : LineRecord → Event
+  done : LineHead → Event
+
+abbrev pub Events : Type 0
+Events = Listing Event Told
+
+-- an entry, and then l: a marker gives nothing, a refusal ends the events
+abbrev pub entryThen : Reply LineRecord Told → Events → Events
+entryThen (gave r) l = more (line r) l
+entryThen nothing l = l
+entryThen (refused t) l = fails t
+
+abbrev pub behind : List ℕ → List ℕ
+behind [] = []
+behind (w ∷ ws) = ws
+
+-- the lines of a block of file f, offset and flags of each, with a column word for each if there are columns; and then l
+unfoldable pub linesThen : LineHead → ℕ → List ℕ → List ℕ → Events → Events
+linesThen h f (offset ∷ flags ∷ ws) cs l =
+    entryThen (entryOf (h .section) (h .offset) f offset flags (startColumn cs) (endColumn cs)) (linesThen h f ws (behind cs) l)
+linesThen h f (offset ∷ []) cs l = l
+linesThen h f [] cs l = l
+
+-- the blocks of a subsection, its end, and then l
+unfoldable pub blocksThen : LineHead → Listing Block Told → Events → Events
+blocksThen h (more k ks) l = linesThen h (k .file) (k .lines) (k .columns) (blocksThen h ks l)
+blocksThen h ends l = more (done h) l
+blocksThen h (fails t) l = fails t
+
+-- a line body, and then l
+unfoldable pub bodyThen : List ℕ → Events → Events
+bodyThen b l =
+    cond (ltb (length b) 12) (fails (told why.Cut))
+    (blocksThen (lineHead b) (blocks (columned (lineHead b .flags)) (drop 12 b)) l)
+
+unfoldable pub eventsOf : Listing (List ℕ) Told → Events
+eventsOf (more b l) = bodyThen b (eventsOf l)
+eventsOf ends = ends
+eventsOf (fails t) = fails t
+
+-- ---- records
+
+abbrev pub Records : Type 0
+Records = Listing LineRecord Told
+
+-- the record o is held back until its end is known
+unfoldable pub settleOne : LineRecord → Events → Records
+settleOne o (more (line r) l) = more (closedAt (r .section) (r .offset) o) (settleOne r l)
+settleOne o (more (done h) l) =
+    cond (ltb maxOffset (h .offset + h .code)) (fails (told why.OffsetTooLarge)) (settleOne (closedAt (h .section) (h .offset + h .code) o) l)
+settleOne o ends = more o ends
+settleOne o (fails t) = fails t
+
+-- no record is held yet
+unfoldable pub settle : Events → Records
+settle (more (line r) l) = settleOne r l
+settle (more (done h) l) = settle l
+settle ends = ends
+settle (fails t) = fails t
+
+-- THE RECORDS of an area s and a list v
+abbrev pub recordsOf : (ℕ → Sort) → List ℕ → List ℕ → Records
+recordsOf rule s v = settle (eventsOf (listOf rule s v))
+
+-- and of an area alone: of its line bodies in ascending (section, offset), equal keys in area order
+abbrev pub areaRecords : (ℕ → Sort) → List ℕ → Records
+areaRecords rule s = settle (eventsOf (before (inOrder rule s) ends))

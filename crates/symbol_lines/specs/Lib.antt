@@ -1,0 +1,4 @@
+pub mod Symbol
+pub mod Told
+pub mod SymbolLaws
+pub mod RecordsLaws

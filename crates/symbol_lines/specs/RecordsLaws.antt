@@ -1,0 +1,134 @@
+-- The walk that `lines_for_symbol` answers gives the records of the symbol's subsection, all of them and no others; and they keep to the limits of a
+-- line record.
+use Prim.Native.Nat.{ℕ, zero, suc, _+_, _-_, _<_, _≤_}
+use mathlib.Core.Path.{_≡_, refl, sym, ap, _∙_, subst⁻¹}
+use mathlib.Core.List.{List}
+use mathlib.Core.Logic.{⊎-elim}
+use native.Mathlib.Omega.{arith}
+use lib.ListN.{length, drop}
+use Rattle.walk.specs.Cases.{le-or-gt}
+use Rattle.walk.specs.Listing.{Listing, more, ends, fails, mapped, Reply, gave, nothing, refused, calls, replies}
+use Rattle.walk.specs.ListingLaws.{Every}
+use Rattle.walk.specs.Pick.{orElse, firstBy, lastBy, mapReply}
+use Rattle.walk.specs.PickLaws.{Gives, map-or, first-map, last-map, first-holds, last-holds}
+use Rattle.refusal.specs.Told.{Told, longest}
+use Rattle.area.specs.Kind.{Sort}
+use Rattle.find.specs.Find.{same, Span, bytesAt}
+use Rattle.line_record.specs.LimitsLaws.{Limits}
+use Rattle.lines.specs.Lines.{countLines}
+use Rattle.lines.specs.LinesLaws.{count-long}
+use Rattle.lines.specs.Slots.{bodyAt, nameThen, named, slotAt, listIn, listOf}
+use Rattle.lines.specs.SlotsLaws.{scans-start, named-slot}
+use Rattle.turns.specs.declared.LineWalk.{LineWalk}
+use Rattle.records.specs.Meaning.{bodyThen, eventsOf, settle}
+use Rattle.records.specs.Next.{nextOf}
+use Rattle.records.specs.WalkLaws.{walk-from}
+use Rattle.records.specs.LimitsLaws.{body-limits, settle-limits}
+use Rattle.symbol_lines.specs.Symbol.{isAt, isBefore, symbolBody, bodyRecords, symbolRecords, Numbered, numbered, slotOf, atSlot, beforeSlot, walkOf, walkTo, symbolWalk}
+use Rattle.symbol_lines.specs.SymbolLaws.{symbol-refused}
+
+-- ---- the numbers are those of the slots
+
+abbrev bodyOf : Numbered → List ℕ
+bodyOf k = k .body
+
+bodies-numbered : (i : ℕ) (l : Listing (List ℕ) Told) → mapped bodyOf same (numbered i l) ≡ l
+unfolding numbered
+bodies-numbered i (more b l) = ap (more b) (bodies-numbered (i + 1) l)
+bodies-numbered i ends = refl
+bodies-numbered i (fails t) = refl
+
+module _ (rule : ℕ → Sort) (s v : List ℕ) where
+  -- the slot of k names its body
+  abbrev Names : Numbered → Type 0
+  Names k = named (bodyAt rule s) 1 (drop (k .slot) v) ≡ more (k .body) ends
+
+  names : (n i : ℕ) → Every Names (numbered i (named (bodyAt rule s) n (drop i v)))
+  unfolding numbered named
+  names zero i = tt
+  names (suc n) i =
+      let e : suc n - 1 ≡ n = omega arith in
+      let g = named-slot rule s v i 0 (scans-start rule s) in
+      subst⁻¹ (λ (l : Listing (List ℕ) Told). Every Names (numbered i l))
+      (g (suc n) (omega arith) ∙ ap (λ m. nameThen (mapReply (bytesAt s) same (slotAt rule s v i 0)) (named (bodyAt rule s) m (drop (i + 1) v))) e)
+      (by (slotAt rule s v i 0) (g 1 (omega arith)) (names n (i + 1)))
+    where
+      by : (x : Reply Span Told) → named (bodyAt rule s) 1 (drop i v) ≡ nameThen (mapReply (bytesAt s) same x) (named (bodyAt rule s) (1 - 1) (drop (i + 1) v))
+          → Every Names (numbered (i + 1) (named (bodyAt rule s) n (drop (i + 1) v)))
+          → Every Names (numbered i (nameThen (mapReply (bytesAt s) same x) (named (bodyAt rule s) n (drop (i + 1) v))))
+      by (gave a) e r = (e, r)
+      by nothing e r = tt
+      by (refused t) e r = tt
+
+  list-names : (k : Reply ℕ Told) → Every Names (numbered 0 (listIn rule s v k))
+  unfolding numbered
+  list-names (gave n) = names n 0
+  list-names nothing = tt
+  list-names (refused t) = tt
+
+  or-gives : (x y : Reply Numbered Told) → Gives Names x → Gives Names y → Gives Names (orElse x y)
+  or-gives (gave k) y p q = p
+  or-gives nothing y p q = q
+  or-gives (refused t) y p q = tt
+
+  module _ (section offset : ℕ) where
+    abbrev found : Reply Numbered Told
+    found =
+        orElse (firstBy (atSlot section offset) (numbered 0 (listOf rule s v))) (lastBy (beforeSlot section offset) (numbered 0 (listOf rule s v)))
+
+    found-body : mapReply bodyOf same found ≡ symbolBody section offset (listOf rule s v)
+    found-body =
+        let N = numbered 0 (listOf rule s v) in
+        let e = bodies-numbered 0 (listOf rule s v) in
+        map-or bodyOf same (firstBy (atSlot section offset) N) (lastBy (beforeSlot section offset) N)
+        ∙ (λ i. orElse (first-map bodyOf same (isAt section offset) N i) (last-map bodyOf same (isBefore section offset) N i))
+        ∙ ap (symbolBody section offset) e
+
+    found-names : Gives Names found
+    found-names =
+        let N = numbered 0 (listOf rule s v) in
+        or-gives (firstBy (atSlot section offset) N) (lastBy (beforeSlot section offset) N)
+        (first-holds Names (atSlot section offset) N (list-names (countLines rule s))) (last-holds Names (beforeSlot section offset) N (list-names (countLines rule s)))
+
+    -- in an area that is not too long
+    from-found : length s ≤ longest → (x : Reply Numbered Told) → Gives Names x → (w : LineWalk) → gave w ≡ walkTo (mapReply slotOf same x)
+        → (n : ℕ) → calls (nextOf rule s v) n w ≡ replies n (bodyRecords (mapReply bodyOf same x))
+    unfolding eventsOf settle named
+    from-found h (gave k) g w e n =
+        let q : w ≡ walkOf (gave (k .slot)) = cc in
+        ap (calls (nextOf rule s v) n) q ∙ walk-from rule s v n (walkOf (gave (k .slot))) (h, scans-start rule s)
+        ∙ ap (λ l. replies n (settle (eventsOf l))) g
+    from-found h nothing g w e n =
+        let q : w ≡ walkOf nothing = cc in
+        ap (calls (nextOf rule s v) n) q ∙ walk-from rule s v n (walkOf nothing) (h, scans-start rule s)
+    from-found h (refused t) g w e n = let z : _≡_ {A = ℕ} 0 1 = cc in absurd (omega arith)
+
+    -- THE THEOREM: the walk's answers, taken until it ends, are the records of the symbol
+    pub symbol-walk : (w : LineWalk) → gave w ≡ symbolWalk rule s v section offset → (n : ℕ)
+        → calls (nextOf rule s v) n w ≡ replies n (symbolRecords rule s v section offset)
+    symbol-walk w e n =
+        ⊎-elim
+        (λ (h : length s ≤ longest). from-found h found found-names w e n ∙ ap (λ x. replies n (bodyRecords x)) found-body)
+        (λ (h : longest < length s).
+        let q = e ∙ sym (symbol-refused rule s v section offset _ (count-long rule s h)) in
+        let z : _≡_ {A = ℕ} 0 1 = cc in absurd (omega arith))
+        (le-or-gt (length s) longest)
+
+    fails-found : (x : Reply Numbered Told) (t : Told) → refused t ≡ walkTo (mapReply slotOf same x) → fails t ≡ bodyRecords (mapReply bodyOf same x)
+    fails-found (gave k) t e = let z : _≡_ {A = ℕ} 0 1 = cc in absurd (omega arith)
+    fails-found nothing t e = let z : _≡_ {A = ℕ} 0 1 = cc in absurd (omega arith)
+    fails-found (refused r) t e = let q : t ≡ r = cc in ap fails q
+
+    -- and a refusal is theirs
+    pub symbol-fails : (t : Told) → refused t ≡ symbolWalk rule s v section offset → fails t ≡ symbolRecords rule s v section offset
+    symbol-fails t e = fails-found found t e ∙ ap bodyRecords found-body
+
+-- ---- limits
+
+pub symbol-limits : (rule : ℕ → Sort) (s v : List ℕ) (section offset : ℕ) → Every Limits (symbolRecords rule s v section offset)
+symbol-limits rule s v section offset = by (symbolBody section offset (listOf rule s v))
+  where
+    by : (x : Reply (List ℕ) Told) → Every Limits (bodyRecords x)
+    by (gave b) = settle-limits (bodyThen b ends) (body-limits b ends tt)
+    by nothing = tt
+    by (refused t) = tt

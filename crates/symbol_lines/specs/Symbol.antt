@@ -1,0 +1,89 @@
+-- The lines of a symbol at an offset of a section: the records of one line body of the list alone. Source: document 01, "Line subsections", as
+-- mended by the crate: the list's first subsection at just this section and offset; else the last one in list order of the same section with a
+-- smaller offset, whether or not it covers the offset; else none. The list's tests but 10 come first, and a slot on the way that is missing or
+-- names no line body is 19.
+-- Definitions only; a reader must believe them.
+use Prim.Native.Nat.{ℕ, _+_}
+use mathlib.Core.List.{List}
+use mathlib.Core.Bool.{Bool, cond, _&&_}
+use lib.Dec.{ltb, eqb}
+use Rattle.walk.specs.Listing.{Listing, more, ends, fails, Reply, gave, nothing, refused}
+use Rattle.walk.specs.Pick.{orElse, firstBy, lastBy, mapReply}
+use Rattle.refusal.specs.Told.{Told}
+use Rattle.area.specs.Kind.{Sort}
+use Rattle.body.specs.Lines.{LineHead, lineHead}
+use Rattle.find.specs.Find.{same}
+use Rattle.lines.specs.Slots.{listOf}
+use Rattle.turns.specs.declared.Held.the-variants.{Nothing}
+use Rattle.turns.specs.declared.LineWalk.{LineWalk}
+use Rattle.turns.specs.declared.LineWalk.the-variants.{Between}
+use Rattle.records.specs.Meaning.{Records, bodyThen, settle}
+
+-- a header at just this place; and one before it in its section
+abbrev pub headIs : ℕ → ℕ → LineHead → Bool
+headIs section offset h = eqb (h .section) section && eqb (h .offset) offset
+
+abbrev pub headBefore : ℕ → ℕ → LineHead → Bool
+headBefore section offset h = eqb (h .section) section && ltb (h .offset) offset
+
+abbrev pub isAt : ℕ → ℕ → List ℕ → Bool
+isAt section offset b = headIs section offset (lineHead b)
+
+abbrev pub isBefore : ℕ → ℕ → List ℕ → Bool
+isBefore section offset b = headBefore section offset (lineHead b)
+
+-- of the bodies of a list, the one that the symbol's lines stand in
+abbrev pub symbolBody : ℕ → ℕ → Listing (List ℕ) Told → Reply (List ℕ) Told
+symbolBody section offset l = orElse (firstBy (isAt section offset) l) (lastBy (isBefore section offset) l)
+
+-- the records of one body alone
+abbrev pub bodyRecords : Reply (List ℕ) Told → Records
+bodyRecords (gave b) = settle (bodyThen b ends)
+bodyRecords nothing = ends
+bodyRecords (refused t) = fails t
+
+-- THE RECORDS of a symbol
+abbrev pub symbolRecords : (ℕ → Sort) → List ℕ → List ℕ → ℕ → ℕ → Records
+symbolRecords rule s v section offset = bodyRecords (symbolBody section offset (listOf rule s v))
+
+-- ---- the walk over them: the slot of that body
+
+pub record Numbered : Type 0 where
+  pub slot : ℕ
+  pub body : List ℕ
+
+unfoldable pub numbered : ℕ → Listing (List ℕ) Told → Listing Numbered Told
+numbered i (more b l) = more (record { slot = i; body = b }) (numbered (i + 1) l)
+numbered i ends = ends
+numbered i (fails t) = fails t
+
+abbrev pub slotOf : Numbered → ℕ
+slotOf k = k .slot
+
+abbrev pub atSlot : ℕ → ℕ → Numbered → Bool
+atSlot section offset k = isAt section offset (k .body)
+
+abbrev pub beforeSlot : ℕ → ℕ → Numbered → Bool
+beforeSlot section offset k = isBefore section offset (k .body)
+
+abbrev pub slotIn : ℕ → ℕ → Listing (List ℕ) Told → Reply ℕ Told
+slotIn section offset l =
+    mapReply slotOf same (orElse (firstBy (atSlot section offset) (numbered 0 l)) (lastBy (beforeSlot section offset) (numbered 0 l)))
+
+-- the better of a slot with this header and the best so far
+abbrev pub better : ℕ → ℕ → LineHead → ℕ → Reply ℕ Told → Reply ℕ Told
+better section offset h i y = cond (headBefore section offset h) (gave i) y
+
+-- over the one subsection that a slot names; without one, at its end
+abbrev pub walkOf : Reply ℕ Told → LineWalk
+walkOf (gave i) = Between (record { slot = i; left = 1; scan = 0; held = Nothing })
+walkOf nothing = Between (record { slot = 0; left = 0; scan = 0; held = Nothing })
+walkOf (refused t) = Between (record { slot = 0; left = 0; scan = 0; held = Nothing })
+
+abbrev pub walkTo : Reply ℕ Told → Reply LineWalk Told
+walkTo (gave i) = gave (walkOf (gave i))
+walkTo nothing = gave (walkOf nothing)
+walkTo (refused t) = refused t
+
+abbrev pub symbolWalk : (ℕ → Sort) → List ℕ → List ℕ → ℕ → ℕ → Reply LineWalk Told
+symbolWalk rule s v section offset = walkTo (slotIn section offset (listOf rule s v))

@@ -1,0 +1,111 @@
+// The lines of a symbol (crate: `LineProgram::lines_for_symbol`): which one subsection of the order list they stand in, as a walk over that one alone.
+// `records::next_line` steps it.
+//
+// The crate searches its sorted list by halves. Here the list is lent and may be wrong, so that each slot on the way is looked at; the area is
+// passed over once if the bodies ascend in it as in the list.
+ghost use mathlib.Core.Path.{_≡_};
+ghost use Rattle.area.specs.Kind.{ruled};
+ghost use Rattle.lines.specs.Slots.{bodyAt, named};
+ghost use Rattle.lines.specs.Told.{toldHeader};
+ghost use Rattle.symbol_lines.specs.Symbol.{headIs, better, slotIn, walkOf, walkTo, symbolWalk};
+ghost use Rattle.symbol_lines.specs.Told.{toldBest, toldSymbol};
+use lines::Counted;
+use lines::LineHeader;
+use lines::Named;
+use lines::count_lines;
+use lines::header_of;
+use lines::slot_body;
+use refusal::Refusal;
+use turns::Held;
+use turns::LineWalk;
+use turns::Rest;
+
+// The walk over the symbol's subsection; where there is none it is at its end.
+pub enum SymbolLines {
+    Lines(LineWalk),
+    Refused(Refusal),
+}
+
+// The last slot so far whose subsection begins before the symbol.
+enum Best {
+    None,
+    Slot(usize),
+}
+
+fn is_at(head: LineHeader, section: u16, offset: u32) -> bool
+    ensures { λ r. ⌜ r ≡ headIs section offset (toldHeader head) ⌝ }
+{
+    if head.section == section {
+        return head.offset == offset;
+    }
+    false
+}
+
+// A subsection of the same section with a smaller offset is better than those before it.
+fn better_slot(best: Best, head: LineHeader, section: u16, offset: u32, slot: usize) -> Best
+    ensures { λ r. ⌜ toldBest r ≡ better section offset (toldHeader head) slot (toldBest best) ⌝ }
+{
+    if head.section == section {
+        if head.offset < offset {
+            return Best::Slot(slot);
+        }
+    }
+    best
+}
+
+// Over the one subsection that a slot names, or over none.
+fn walk_of(best: Best) -> LineWalk
+    ensures { λ r. ⌜ r ≡ walkOf (toldBest best) ⌝ }
+{
+    match best {
+        Best::None => LineWalk::Between(Rest {
+            slot: 0,
+            left: 0,
+            scan: 0,
+            held: Held::Nothing,
+        }),
+        Best::Slot(i) => LineWalk::Between(Rest {
+            slot: i,
+            left: 1,
+            scan: 0,
+            held: Held::Nothing,
+        }),
+    }
+}
+
+// Through the first n slots.
+fn find_slot(area: &[u8], slots: &[u32], n: usize, section: u16, offset: u32) -> SymbolLines
+    ensures { λ r. ⌜ toldSymbol r ≡ walkTo (slotIn section offset (named (bodyAt ruled (now (area .entry))) n (now (slots .entry)))) ⌝ }
+{
+    let mut best = Best::None;
+    let mut scan: usize = 0;
+    let mut i: usize = 0;
+    while i < n {
+        match slot_body(area, slots, i, scan) {
+            Named::Body { start, len } => {
+                let end = start + len;
+                let head = header_of(&area[start..end]);
+                if is_at(head, section, offset) {
+                    return SymbolLines::Lines(walk_of(Best::Slot(i)));
+                }
+                best = better_slot(best, head, section, offset, i);
+                scan = end;
+                i += 1;
+            }
+            Named::Refused(why) => {
+                return SymbolLines::Refused(why);
+            }
+        }
+    }
+    SymbolLines::Lines(walk_of(best))
+}
+
+// The list's first subsection at just this section and offset; else the last one in list order of the same section with a smaller offset; else none.
+pub fn lines_for_symbol(area: &[u8], slots: &[u32], section: u16, offset: u32) -> SymbolLines
+    ensures { λ r. ⌜ toldSymbol r ≡ symbolWalk ruled (now (area .entry)) (now (slots .entry)) section offset ⌝ }
+{
+    match count_lines(area) {
+        Counted::Lines(n) => find_slot(area, slots, n, section, offset),
+        Counted::Refused(why) => SymbolLines::Refused(why),
+    }
+}
