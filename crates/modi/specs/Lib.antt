@@ -1,0 +1,3 @@
+pub mod Modi
+pub mod Told
+pub mod ModiLaws

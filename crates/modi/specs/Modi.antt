@@ -1,0 +1,66 @@
+-- A module's stream: symbols with their signature in front, then C11 lines or a C13 area. Source: document 01, "Strings and module sizes" (with C11
+-- lines, line calls give 12 and the other three tables are empty; else the area is the C13 size behind the symbols, or 15; symbols are tested
+-- alone: 1, then, if there are any, 1 below 4 bytes, and 12 for another signature than 4) and the sentence on number 11.
+-- Definitions only; a reader must believe them.
+use Prim.Native.Nat.{ℕ, _+_}
+use mathlib.Core.Path.{_≡_}
+use mathlib.Core.List.{List}
+use mathlib.Core.Bool.{cond}
+use lib.ListN.{length}
+use denote.Ref.{RefT, ptr, now}
+use lib.Dec.{ltb, eqb}
+use Rattle.word.specs.Word.{u32At}
+use Rattle.walk.specs.Listing.{Answer, none, refuses, Reply, gave, nothing, refused}
+use Rattle.walk.specs.Pick.{orElse, mapReply}
+use Rattle.refusal.specs.Told.{Told, told, longest}
+use Rattle.refusal.specs.declared.Refusal.the-variants as why
+use Rattle.find.specs.Find.{same, Span, bytesAt}
+use Rattle.modi.specs.declared.ModuleSizes.{ModuleSizes}
+
+-- whether the symbols can be read
+unfoldable pub moduleSymbols : ModuleSizes → List ℕ → Reply (Unit {0}) Told
+moduleSymbols z s =
+    cond (ltb longest (length s)) (refused (told why.TooLong))
+    (cond (ltb (length s) (z .symbols)) (refused (told why.Cut))
+    (cond (eqb (z .symbols) 0) (gave tt)
+    (cond (ltb (z .symbols) 4) (refused (told why.Cut))
+    (cond (eqb (u32At s 0) 4) (gave tt) (refused (told why.OldFormat))))))
+
+-- where the area is; nothing with C11 lines
+unfoldable pub moduleSpan : ModuleSizes → List ℕ → Reply Span Told
+moduleSpan z s =
+    cond (ltb longest (length s)) (refused (told why.TooLong))
+    (cond (ltb 0 (z .c11)) nothing
+    (cond (ltb (length s) (z .symbols + z .c13)) (refused (told why.ModuleSizes))
+    (gave (record { start = z .symbols; len = z .c13 }))))
+
+-- what the tables are read from: with C11 lines, nothing
+abbrev pub tablesSpan : ModuleSizes → List ℕ → Reply Span Told
+tablesSpan z s = orElse (moduleSpan z s) (gave (record { start = 0; len = 0 }))
+
+-- what lines and files are read from: with C11 lines, 12
+abbrev pub linesSpan : ModuleSizes → List ℕ → Reply Span Told
+linesSpan z s = orElse (moduleSpan z s) (refused (told why.OldFormat))
+
+-- THE AREAS: the bytes that a call on a table, and one on lines or files, reads
+abbrev pub tablesArea : ModuleSizes → List ℕ → Reply (List ℕ) Told
+tablesArea z s = mapReply (bytesAt s) same (tablesSpan z s)
+
+abbrev pub linesArea : ModuleSizes → List ℕ → Reply (List ℕ) Told
+linesArea z s = mapReply (bytesAt s) same (linesSpan z s)
+
+-- where the area is handed back from: where there is none, the empty part at the stream's start
+abbrev pub heldSpan : Reply Span Told → Span
+heldSpan (gave a) = a
+heldSpan nothing = record { start = 0; len = 0 }
+heldSpan (refused t) = record { start = 0; len = 0 }
+
+-- the part itself, by its pointer (block and offset) and its bytes
+abbrev pub HandsBack : RefT (List ℕ) → Span → RefT (List ℕ) → Type 0
+HandsBack s a r = (ptr r .0 ≡ ptr s .0) × (ptr r .1 ≡ ptr s .1 + a .start) × (now r ≡ bytesAt (now s) a)
+
+-- a step of a walk over a table of such an area
+abbrev pub stepIn : {S B : Type 0} → (List ℕ → Answer S B Told) → Reply (List ℕ) Told → Answer S B Told
+stepIn f (gave a) = f a
+stepIn f nothing = none
+stepIn f (refused t) = refuses t

@@ -1,0 +1,159 @@
+-- Laws of a module's stream: a law for each way out of the code, where a part lies, and calls on it.
+use Prim.Native.Nat.{ℕ, _+_, _<_, _≤_}
+use mathlib.Core.Path.{_≡_, refl, sym, ap, _∙_, subst⁻¹}
+use mathlib.Core.List.{List, []}
+use native.Mathlib.Omega.{arith}
+use native.Mathlib.Nat.{add-zero}
+use lib.ListN.{length, take, drop}
+use lib.Dec.{ltb}
+use borrow.Author.Tests.{ltb-false}
+use Rattle.word.specs.Word.{u32At}
+use Rattle.walk.specs.Cases.{tests, by-cases}
+use Rattle.walk.specs.Listing.{Listing, ends, fails, Answer, none, refuses, Reply, gave, nothing, refused, calls, replies}
+use Rattle.walk.specs.ListingLaws.{calls-are}
+use Rattle.walk.specs.Pick.{orElse, mapReply}
+use Rattle.walk.specs.PickLaws.{Gives}
+use Rattle.refusal.specs.Told.{Told, told, longest}
+use Rattle.refusal.specs.declared.Refusal.the-variants as why
+use Rattle.find.specs.Find.{same, Span, bytesAt}
+use Rattle.table.specs.Whole.{ofBody}
+use Rattle.modi.specs.declared.ModuleSizes.{ModuleSizes}
+use Rattle.modi.specs.Modi.{moduleSymbols, moduleSpan, tablesSpan, linesSpan, tablesArea, linesArea, heldSpan, stepIn}
+
+module _ (z : ModuleSizes) (s : List ℕ) where
+  -- ---- the tests of `module_symbols`
+
+  pub symbols-long : longest < length s → refused (told why.TooLong) ≡ moduleSymbols z s
+  unfolding moduleSymbols
+  symbols-long h = simp tests
+
+  module _ (h₀ : length s ≤ longest) where
+    pub symbols-past : length s < z .symbols → refused (told why.Cut) ≡ moduleSymbols z s
+    unfolding moduleSymbols
+    symbols-past h = simp tests
+
+    module _ (h₁ : z .symbols ≤ length s) where
+      pub symbols-none : z .symbols ≡ 0 → gave tt ≡ moduleSymbols z s
+      unfolding moduleSymbols
+      symbols-none h = simp tests
+
+      module _ (h₂ : z .symbols ≡ 0 → ⊥) where
+        pub symbols-short : z .symbols < 4 → refused (told why.Cut) ≡ moduleSymbols z s
+        unfolding moduleSymbols
+        symbols-short h = simp tests
+
+        module _ (h₃ : 4 ≤ z .symbols) (v : ℕ) (e : v ≡ u32At s 0) where
+          pub symbols-yes : v ≡ 4 → gave tt ≡ moduleSymbols z s
+          unfolding moduleSymbols
+          symbols-yes d = let h : u32At s 0 ≡ 4 = sym e ∙ d in simp tests
+
+          pub symbols-other : (v ≡ 4 → ⊥) → refused (told why.OldFormat) ≡ moduleSymbols z s
+          unfolding moduleSymbols
+          symbols-other d = let h : (u32At s 0 ≡ 4 → ⊥) = λ x. d (e ∙ x) in simp tests
+
+    -- ---- the tests of `module_area`
+
+    pub span-c11 : 0 < z .c11 → nothing ≡ moduleSpan z s
+    unfolding moduleSpan
+    span-c11 h = simp tests
+
+    module _ (h₁ : z .c11 ≤ 0) where
+      pub span-past : length s < z .symbols + z .c13 → refused (told why.ModuleSizes) ≡ moduleSpan z s
+      unfolding moduleSpan
+      span-past h = simp tests
+
+      pub span-inside : z .symbols + z .c13 ≤ length s → gave (record { start = z .symbols; len = z .c13 }) ≡ moduleSpan z s
+      unfolding moduleSpan
+      span-inside h = simp tests
+
+  pub span-long : longest < length s → refused (told why.TooLong) ≡ moduleSpan z s
+  unfolding moduleSpan
+  span-long h = simp tests
+
+-- ---- where a part lies
+
+abbrev Inside : List ℕ → Reply Span Told → Type 0
+Inside s = Gives (λ (a : Span). a .start + a .len ≤ length s)
+
+span-lies : (z : ModuleSizes) (s : List ℕ) → Inside s (moduleSpan z s)
+unfolding moduleSpan
+span-lies z s =
+    by-cases (Inside s) (ltb longest (length s)) (λ d. tt)
+    (λ d. by-cases (Inside s) (ltb 0 (z .c11)) (λ e. tt)
+    (λ e. by-cases (Inside s) (ltb (length s) (z .symbols + z .c13)) (λ f. tt) (λ f. ltb-false (length s) (z .symbols + z .c13) f)))
+
+or-lies : (s : List ℕ) (x y : Reply Span Told) → Inside s x → Inside s y → Inside s (orElse x y)
+or-lies s (gave a) y hx hy = hx
+or-lies s nothing y hx hy = hy
+or-lies s (refused t) y hx hy = tt
+
+module _ (z : ModuleSizes) (s : List ℕ) (a : Span) where
+  pub span-in : gave a ≡ moduleSpan z s → a .start + a .len ≤ length s
+  span-in e = subst⁻¹ (Inside s) e (span-lies z s)
+
+  pub tables-in : gave a ≡ tablesSpan z s → a .start + a .len ≤ length s
+  tables-in e = subst⁻¹ (Inside s) e (or-lies s (moduleSpan z s) (gave (record { start = 0; len = 0 })) (span-lies z s) (omega arith))
+
+  pub lines-in : gave a ≡ linesSpan z s → a .start + a .len ≤ length s
+  lines-in e = subst⁻¹ (Inside s) e (or-lies s (moduleSpan z s) (refused (told why.OldFormat)) (span-lies z s) tt)
+
+-- ---- `tables_part` and `lines_part`: x is what `module_area` answers
+
+module _ (z : ModuleSizes) (s : List ℕ) (x : Reply Span Told) (e : x ≡ moduleSpan z s) where
+  pub tables-of : orElse x (gave (record { start = 0; len = 0 })) ≡ tablesSpan z s
+  tables-of = ap (λ (y : Reply Span Told). orElse y (gave (record { start = 0; len = 0 }))) e
+
+  pub lines-of : orElse x (refused (told why.OldFormat)) ≡ linesSpan z s
+  lines-of = ap (λ (y : Reply Span Told). orElse y (refused (told why.OldFormat))) e
+
+-- ---- the areas as the sizes have them: so each call is its definition on that part of the stream
+
+module _ (z : ModuleSizes) (s : List ℕ) (h₀ : length s ≤ longest) where
+  module _ (h₁ : z .c11 ≤ 0) (h₂ : z .symbols + z .c13 ≤ length s) where
+    pub tables-c13 : gave (take (z .c13) (drop (z .symbols) s)) ≡ tablesArea z s
+    tables-c13 = ap (mapReply (bytesAt s) same) (tables-of z s _ (span-inside z s h₀ h₁ h₂))
+
+    pub lines-c13 : gave (take (z .c13) (drop (z .symbols) s)) ≡ linesArea z s
+    lines-c13 = ap (mapReply (bytesAt s) same) (lines-of z s _ (span-inside z s h₀ h₁ h₂))
+
+  pub tables-c11 : 0 < z .c11 → gave [] ≡ tablesArea z s
+  tables-c11 h = ap (mapReply (bytesAt s) same) (tables-of z s _ (span-c11 z s h₀ h))
+
+  pub lines-c11 : 0 < z .c11 → refused (told why.OldFormat) ≡ linesArea z s
+  lines-c11 h = ap (mapReply (bytesAt s) same) (lines-of z s _ (span-c11 z s h₀ h))
+
+-- ---- a call on a part: x is where the part is, g what the call makes of its bytes
+
+module _ {A : Type 0} (g : Reply (List ℕ) Told → A) (s : List ℕ) (x : Reply Span Told) where
+  -- the part is lent from its start on, k long
+  pub of-part : (a : Span) (k : ℕ) → gave a ≡ x → k ≡ a .len → g (gave (take k (drop (a .start) s))) ≡ g (mapReply (bytesAt s) same x)
+  of-part a k e ek = ap (λ (j : ℕ). g (gave (take j (drop (a .start) s)))) ek ∙ ap (λ (y : Reply Span Told). g (mapReply (bytesAt s) same y)) e
+
+  pub of-other : (y : Reply Span Told) → y ≡ x → g (mapReply (bytesAt s) same y) ≡ g (mapReply (bytesAt s) same x)
+  of-other y e = ap (λ (v : Reply Span Told). g (mapReply (bytesAt s) same v)) e
+
+-- ---- the walk of a module's table is the walk of its area's: `right` says so of each area
+
+module _ {S B : Type 0} (f : List ℕ → S → Answer S B Told) (l : List ℕ → Listing B Told) (w : S) (n : ℕ)
+    (right : (a : List ℕ) → calls (f a) n w ≡ replies n (l a)) where
+  pub walk-in : (x : Reply (List ℕ) Told) → calls (λ (v : S). stepIn (λ (a : List ℕ). f a v) x) n w ≡ replies n (ofBody l x)
+  walk-in (gave a) = right a
+  walk-in nothing = calls-are (λ (v : S). none) (λ (v : S). ends) (λ v. refl) n w
+  walk-in (refused t) = calls-are (λ (v : S). refuses t) (λ (v : S). fails t) (λ v. refl) n w
+
+-- ---- `area_of`: the part at q of block b, with the bytes y, of the stream at p of block a, with the bytes x
+
+module _ {D : Type 0} (z : ModuleSizes) (x y : List ℕ) (a b : D) (p q : ℕ) (block : b ≡ a) where
+  abbrev Behind : Type 0
+  Behind = (b ≡ a) × (q ≡ p + heldSpan (moduleSpan z x) .start) × (y ≡ bytesAt x (heldSpan (moduleSpan z x)))
+
+  pub hands-area : (o : Span) (k : ℕ) → gave o ≡ moduleSpan z x → k ≡ o .len → q ≡ p + o .start → y ≡ take k (drop (o .start) x) → Behind
+  hands-area o k e ek place bytes =
+      let h : o ≡ heldSpan (moduleSpan z x) = ap heldSpan e in
+      (block, place ∙ ap (λ (c : Span). p + c .start) h, bytes ∙ ap (λ (j : ℕ). take j (drop (o .start) x)) ek ∙ ap (bytesAt x) h)
+
+  -- u is an answer without an area
+  pub hands-none : (u : Reply Span Told) → u ≡ moduleSpan z x → heldSpan u ≡ record { start = 0; len = 0 } → q ≡ p → y ≡ [] → Behind
+  hands-none u e n place bytes =
+      let h : record { start = 0; len = 0 } ≡ heldSpan (moduleSpan z x) = sym n ∙ ap heldSpan e in
+      (block, place ∙ sym (add-zero p) ∙ ap (λ (c : Span). p + c .start) h, bytes ∙ ap (bytesAt x) h)

@@ -1,0 +1,52 @@
+-- `modi_lines::module_order_list` meets its contract: the part that is lent is the area of which `order_list` answers, and a refusal leaves the
+-- slots alone.
+-- Assumes nothing.
+use borrow.Author.Needs.{needs}
+use Prim.Native.Nat.{ℕ}
+use mathlib.Core.List.{List}
+use lib.ListN.{length}
+use native.Mathlib.Omega.{arith}
+use native.Mathlib.Nat.{add-sub-cancel-left}
+use mathlib.Core.Path.{sym, ap, _∙_}
+use Rattle.area.specs.Kind.{ruled}
+use Rattle.rows.specs.Collect.{onGave}
+use Rattle.order.specs.Order.{ordered, slotsAfter}
+use Rattle.modi.specs.Told.{toldPart}
+use Rattle.modi.specs.ModiLaws.{lines-in, of-part, of-other}
+use Rattle.modi_lines.specs.Lines.{changed}
+use Rattle.modi_lines.proofs.module_order_list.Statement.{statement}
+use Rattle.modi_lines.proofs.module_order_list.Tie as tie
+
+returns : tie.Need-returns
+returns c =
+    let o = c .before .before in
+    let q = o .before .before .before .before in
+    let p = q .before .before in
+    let v = p .before .before .before .args .slots .now in
+    let e = ap toldPart (sym (q .start .given .1)) ∙ p .lines-part .ensures in (
+      o .order-list .ensures .0 ∙ of-part (onGave (λ (a : List ℕ). ordered ruled a (length v))) _ _ _ _ e (add-sub-cancel-left _ _),
+      o .order-list .ensures .1 ∙ of-part (changed (λ (a : List ℕ). slotsAfter ruled a v) v) _ _ _ _ e (add-sub-cancel-left _ _),
+    )
+
+returns-2 : tie.Need-returns-2
+returns-2 c =
+    let p = c .before .before .before in
+    let v = p .before .before .before .args .slots .now in
+    let e = ap toldPart (sym (c .before .why .given .1)) ∙ p .lines-part .ensures in
+    (of-other (onGave (λ (a : List ℕ). ordered ruled a (length v))) _ _ _ e, of-other (changed (λ (a : List ℕ). slotsAfter ruled a v) v) _ _ _ e)
+
+pub module-order-list-spec : {M : Type 1} → statement M
+module-order-list-spec =
+    tie.close
+    (tie.spec
+    (λ c κs. search needs)
+    (λ c. search needs)
+    (λ c. omega (arith, lines-in _ _ _ (ap toldPart (sym (c .before .start .given .1)) ∙ c .before .before .before .lines-part .ensures)))
+    (λ c. search needs)
+    (λ c. search needs)
+    (λ c. omega (arith, lines-in _ _ _ (ap toldPart (sym (c .before .start .given .1)) ∙ c .before .before .before .lines-part .ensures)))
+    (λ c κs. search needs)
+    (λ c. search needs)
+    (λ c. search needs)
+    returns
+    returns-2)
