@@ -1,0 +1,3 @@
+pub mod Chapters
+pub mod ChaptersLaws
+pub mod TablesLaws

@@ -1,0 +1,9 @@
+pub mod Secs
+pub mod SecLaws
+pub mod Run
+pub mod HoldLaws
+pub mod RoundLaws
+pub mod BackLaws
+pub mod AgainLaws
+pub mod EachLaws
+pub mod Demand

@@ -1,0 +1,11 @@
+-- `item::columns_at` meets its contract: each way is a case of `columnsFrom`.
+-- Assumes nothing.
+use Rattle.item.proofs.columns_at.Statement.{statement}
+use Rattle.item.proofs.columns_at.Tie as tie
+
+pub columns-at-spec : {M : Type 1} → statement M
+columns-at-spec =
+    tie.close
+    (tie.spec
+    (λ c. rw (c .if1 .taken))
+    (λ c. rw (c .if1 .left)))

@@ -1,0 +1,8 @@
+pub mod Item
+pub mod Record
+pub mod Step
+pub mod Told
+pub mod StepLaws
+pub mod PartLaws
+pub mod WalkLaws
+pub mod ReadingLaws

@@ -1,0 +1,6 @@
+pub mod Plain
+pub mod Told
+pub mod WalkLaws
+pub mod RecordLaws
+pub mod PlainLaws
+pub mod LastLaws

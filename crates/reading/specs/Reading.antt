@@ -1,0 +1,80 @@
+-- The full reading of an area: every subsection in order, each typed body raw, markers kept. An item is also a call of the writer, so that what
+-- was written and what is read are lists of one type. Source: document 01, "Writer and plain areas" and "Area and subsections": refusals come in
+-- the order of the bytes, 11 first; a body is read before the next header is; an ignored subsection gives nothing.
+-- Definitions only; a reader must believe them.
+use Prim.Native.Nat.{ℕ, _%_}
+use mathlib.Core.List.{List}
+use mathlib.Core.Bool.{Bool, cond}
+use lib.ListN.{length, drop}
+use lib.Dec.{ltb, eqb}
+use Rattle.word.specs.Word.{u32At}
+use Rattle.walk.specs.Listing.{Listing, more, ends, fails, mapped, andThen}
+use Rattle.refusal.specs.Told.{Told, told, longest}
+use Rattle.refusal.specs.declared.Refusal.the-variants as why
+use Rattle.area.specs.Parts.{Raw, Parts, parts}
+use Rattle.area.specs.Kind.{Sort, onSort, ruled}
+use Rattle.body.specs.Lines.{LineHead, lineHead, columned, Block, blocks}
+use Rattle.body.specs.Checksums.{Checksum, checksums}
+use Rattle.body.specs.Inlinees.{Inlinee, extended, inlinees}
+use Rattle.body.specs.Imports.{Module, modules}
+use Rattle.body.specs.Exports.{Pair, pairs}
+
+pub data Item : Type 0 where
+  openLines : LineHead → Item
+  block : Block → Item
+  openChecksums : Item
+  checksum : Checksum → Item
+  openInlinees : ℕ → Item
+  inlinee : Inlinee → Item
+  openImports : Item
+  imports : Module → Item
+  openExports : Item
+  exports : Pair → Item
+  opaque : ℕ → List ℕ → Item
+
+abbrev pub Items : Type 0
+Items = Listing Item Told
+
+-- the records of a body as items
+abbrev pub each : {B : Type 0} → (B → Item) → Listing B Told → Items
+each f = mapped f (λ (t : Told). t)
+
+-- what each typed body is read as
+unfoldable pub linesItems : List ℕ → Items
+linesItems b =
+    cond (ltb (length b) 12) (fails (told why.Cut))
+    (more (openLines (lineHead b)) (each block (blocks (columned (lineHead b .flags)) (drop 12 b))))
+
+unfoldable pub checksumsItems : List ℕ → Items
+checksumsItems b = more openChecksums (each checksum (checksums b))
+
+unfoldable pub inlineesItems : List ℕ → Items
+inlineesItems b =
+    cond (ltb (length b) 4) (fails (told why.Cut))
+    (more (openInlinees (u32At b 0)) (each inlinee (inlinees (extended (u32At b 0)) (drop 4 b))))
+
+unfoldable pub importsItems : List ℕ → Items
+importsItems b = more openImports (each imports (modules b))
+
+unfoldable pub exportsItems : List ℕ → Items
+exportsItems b = cond (eqb (length b % 8) 0) (more openExports (each exports (pairs b))) (fails (told why.ExportLength))
+
+-- what a known subsection is read as
+unfoldable pub itemsOf : Raw → Items
+itemsOf r =
+    cond (eqb (r .kind) 0xf2) (linesItems (r .body))
+    (cond (eqb (r .kind) 0xf4) (checksumsItems (r .body))
+    (cond (eqb (r .kind) 0xf6) (inlineesItems (r .body))
+    (cond (eqb (r .kind) 0xf7) (importsItems (r .body))
+    (cond (eqb (r .kind) 0xf8) (exportsItems (r .body))
+    (more (opaque (r .kind) (r .body)) ends)))))
+
+-- the parts of an area, under a rule for kinds
+unfoldable pub itemsIn : (ℕ → Sort) → Parts → Items
+itemsIn rule (more r l) = onSort (rule (r .kind)) (andThen (itemsOf r) (itemsIn rule l)) (itemsIn rule l) (fails (told (why.UnknownKind (r .kind))))
+itemsIn rule ends = ends
+itemsIn rule (fails c) = fails (told why.Cut)
+
+-- THE FULL READING
+unfoldable pub reading : (ℕ → Sort) → List ℕ → Items
+reading rule s = cond (ltb longest (length s)) (fails (told why.TooLong)) (itemsIn rule (parts s))

@@ -1,0 +1,4 @@
+pub mod Calls
+pub mod Told
+pub mod LentLaws
+pub mod CallLaws
