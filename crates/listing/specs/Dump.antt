@@ -1,0 +1,76 @@
+-- The text of an area, as `c13dump` prints it. Source: document 01, "Sheet lines to try": a head line, the subsections, the files, the line records,
+-- the end; a refusal prints its number in place of the rest; above 65,536 bytes there is number 11 alone.
+-- Definitions only; a reader must believe them.
+use Prim.Native.Nat.{ℕ, suc, _≤_}
+use mathlib.Core.Path.{_≡_}
+use mathlib.Core.List.{List, [], _∷_, _++_}
+use mathlib.Core.Bool.{cond}
+use lib.ListN.{length}
+use lib.Dec.{ltb}
+use Rattle.walk.specs.Listing.{Listing, more, ends, fails, mapped, andThen, Reply, gave, nothing, refused}
+use Rattle.refusal.specs.Told.{Told, told}
+use Rattle.refusal.specs.declared.Refusal.the-variants as why
+use Rattle.area.specs.Kind.{Sort}
+use Rattle.area.specs.Subs.{Sub, subsFrom}
+use Rattle.find.specs.Find.{same}
+use Rattle.lines.specs.Lines.{countLines}
+use Rattle.files.specs.Files.{File, filesIn, spelt}
+use Rattle.records.specs.Meaning.{areaRecords}
+use Rattle.text.specs.Text.{joined}
+use Rattle.printed.specs.Printed.{Pieces, headLine, subLine, fileLine, recordLine, endLine, refusedLine}
+
+abbrev pub mostBytes : ℕ
+mostBytes = 65536
+
+-- the line of a subsection, and of a file of the area s, whose index is its entry's byte offset in the body
+abbrev pub subRow : Sub → Pieces
+subRow b = subLine (b .kind) (b .len)
+
+abbrev pub fileRow : List ℕ → File → Pieces
+fileRow s f = fileLine (f .index) (f .info .name) (f .info .kind) (spelt s f .bytes)
+
+-- the last line: the end, or the refusal's number
+abbrev pub refusal : Told → Pieces
+refusal t = refusedLine (t .number)
+
+unfoldable pub closing : Listing Pieces Told → Listing Pieces Told
+closing (more x l) = more x (closing l)
+closing ends = more endLine ends
+closing (fails t) = more (refusal t) ends
+
+-- THE LINES of the text
+unfoldable pub linesOf : (ℕ → Sort) → List ℕ → Listing Pieces Told
+linesOf rule s =
+    cond (ltb mostBytes (length s)) (more (refusal (told why.TooLong)) ends)
+    (more (headLine (length s))
+    (closing (andThen (mapped subRow same (subsFrom rule s 0))
+    (andThen (mapped (fileRow s) same (filesIn rule s)) (mapped recordLine same (areaRecords rule s))))))
+
+-- and their bytes, one line after the other
+unfoldable pub bytesOf : Listing Pieces Told → List ℕ
+bytesOf (more x l) = joined x ++ bytesOf l
+bytesOf ends = []
+bytesOf (fails t) = []
+
+-- THE TEXT
+abbrev pub textOf : (ℕ → Sort) → List ℕ → List ℕ
+textOf rule s = bytesOf (linesOf rule s)
+
+-- ---- what a caller of a walk over these lines has
+
+-- the lines of replies
+unfoldable pub spoken : List (Reply Pieces Told) → List ℕ
+spoken [] = []
+spoken (gave x ∷ rs) = joined x ++ spoken rs
+spoken (nothing ∷ rs) = spoken rs
+spoken (refused t ∷ rs) = spoken rs
+
+-- how many lines there are
+unfoldable pub size : Listing Pieces Told → ℕ
+size (more x l) = suc (size l)
+size ends = 0
+size (fails t) = 0
+
+-- slots for every line subsection
+abbrev pub Room : (ℕ → Sort) → List ℕ → List ℕ → Type 0
+Room rule s xs = (n : ℕ) → gave n ≡ countLines rule s → n ≤ length xs

@@ -1,0 +1,9 @@
+pub mod Dump
+pub mod Step
+pub mod Told
+pub mod StepLaws
+pub mod CallsLaws
+pub mod DumpLaws
+pub mod RoomLaws
+pub mod LessLaws
+pub mod Example

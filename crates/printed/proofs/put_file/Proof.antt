@@ -1,0 +1,38 @@
+-- `printed::put_file` meets its contract: its pieces one after the other.
+-- Assumes nothing.
+use borrow.Author.Needs.{needs}
+use Rattle.text.specs.Text.{ascii}
+use Rattle.text.specs.PageLaws.{and-one, and-all}
+use Rattle.printed.proofs.put_file.Statement.{statement}
+use Rattle.printed.proofs.put_file.Tie as tie
+
+returns : tie.Need-returns
+unfolding ascii
+returns c =
+    let p7 = c .before .before in
+    let p6 = p7 .before .before .before .before .before in
+    let p5 = p6 .before .before .before .before in
+    let p4 = p5 .before .before .before .before .before in
+    let p3 = p4 .before .before .before .before in
+    let p2 = p3 .before .before .before .before .before in
+    let p1 = p2 .before .before .before .before .before in
+    and-one _ _ _ _ _ (and-one _ _ _ _ _ (and-one _ _ _ _ _ (and-one _ _ _ _ _ (and-one _ _ _ _ _ (and-all _ _ _ _ _ (p1 .put-count .ensures) (p2 .put-count2 .ensures)) (p3 .put-bytes .ensures)) (p4 .put-word .ensures)) (p5 .put-bytes2 .ensures)) (p6 .put-sum .ensures)) (p7 .put-bytes3 .ensures)
+
+pub put-file-spec : {M : Type 1} → statement M
+put-file-spec =
+    tie.close
+    (tie.spec
+    (λ c. search needs)
+    (λ c κs. search needs)
+    (λ c. search needs)
+    (λ c κs. search needs)
+    (λ c. search needs)
+    (λ c κs. search needs)
+    (λ c κs. search needs)
+    (λ c. search needs)
+    (λ c κs. search needs)
+    (λ c κs. search needs)
+    (λ c. search needs)
+    (λ c κs. search needs)
+    (λ c. search needs)
+    returns)

@@ -1,0 +1,4 @@
+pub mod Text
+pub mod TextLaws
+pub mod PageLaws
+pub mod Told

@@ -1,0 +1,83 @@
+-- Numbers and bytes as text, and text put into a lent buffer. Source: document 01, "Sheet lines to try": kinds, offsets and checksum bytes in hex,
+-- other numbers in decimal. Text is the list of its ASCII codes.
+-- Definitions only; a reader must believe them.
+use Prim.Native.Nat.{ℕ, zero, suc, _+_, _/_, _%_}
+use Prim.Native.Char.{code}
+use Prim.Native.String.{String}
+use Prim.Native.String as string
+use mathlib.Core.List.{List, [], _∷_, _++_}
+use mathlib.Core.Bool.{cond}
+use lib.ListN.{length}
+use lib.Dec.{ltb, leb}
+use Rattle.word.specs.Word.{put}
+
+-- the codes of a text
+unfoldable pub ascii : String → List ℕ
+ascii string.[] = []
+ascii (string._∷_ c s) = code c ∷ ascii s
+
+-- ---- numbers
+
+-- a digit: 0 to 9, then a to f
+unfoldable pub glyph : ℕ → ℕ
+glyph d = cond (ltb d 10) (48 + d) (87 + d)
+
+-- the digits of n in base b, no zero in front; at most k of them stand before the last (`numeral-step` has no such number)
+unfoldable pub numeralIn : ℕ → ℕ → ℕ → List ℕ
+numeralIn b zero n = glyph n ∷ []
+numeralIn b (suc k) n =
+    let longer = numeralIn b k (n / b) ++ (glyph (n % b) ∷ []) in
+    cond (ltb n b) (glyph n ∷ []) longer
+
+unfoldable pub numeral : ℕ → ℕ → List ℕ
+numeral b n = numeralIn b n n
+
+abbrev pub decimal : ℕ → List ℕ
+decimal = numeral 10
+
+abbrev pub hex : ℕ → List ℕ
+hex = numeral 16
+
+-- ---- bytes, two digits each
+
+abbrev pub hexByte : ℕ → List ℕ
+hexByte b = glyph (b / 16) ∷ glyph (b % 16) ∷ []
+
+unfoldable pub hexBytes : List ℕ → List ℕ
+hexBytes [] = []
+hexBytes (b ∷ bs) = hexByte b ++ hexBytes bs
+
+-- ---- a page: what the buffer holds, and where the next piece goes
+
+pub data Next : Type 0 where
+  at : ℕ → Next
+  full : Next
+
+pub record Page : Type 0 where
+  pub bytes : List ℕ
+  pub next : Next
+
+abbrev pub page : List ℕ → Next → Page
+page b x = record { bytes = b; next = x }
+
+-- the place, if n bytes fit there
+unfoldable pub room : ℕ → ℕ → Next → Next
+room len n (at p) = cond (leb (p + n) len) (at p) full
+room len n full = full
+
+abbrev pub putAt : List ℕ → List ℕ → Next → Page
+putAt xs b (at p) = page (put b p xs) (at (p + length xs))
+putAt xs b full = page b full
+
+-- a piece xs, put: whole where it fits, else nothing, and then the page is full
+unfoldable pub written : List ℕ → Page → Page
+written xs q = putAt xs (q .bytes) (room (length (q .bytes)) (length xs) (q .next))
+
+-- several pieces, one after the other; and the text that they make
+unfoldable pub writtenAll : List (List ℕ) → Page → Page
+writtenAll [] q = q
+writtenAll (xs ∷ xss) q = writtenAll xss (written xs q)
+
+abbrev pub joined : List (List ℕ) → List ℕ
+joined [] = []
+joined (xs ∷ xss) = xs ++ joined xss

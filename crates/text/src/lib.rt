@@ -1,0 +1,165 @@
+// Text put into a lent buffer: bytes as they are, numbers in decimal and hexadecimal, bytes in hexadecimal.
+//
+// A put either fits and is written whole, or writes nothing and answers `Full`; behind a `Full` nothing more is written. So a line is put
+// piece by piece, and only its last answer is looked at.
+ghost use mathlib.Core.Path.{_≡_};
+ghost use Prim.Native.Nat.{_+_, _*_, _≤_, _<_};
+ghost use lib.ListN.{length};
+ghost use Rattle.word.specs.Word.{put};
+ghost use Rattle.text.specs.Text.{glyph as glyphOf, numeral, decimal, hex, hexBytes, page, written, room as roomFor};
+ghost use Rattle.text.specs.Told.{toldPlace};
+
+// Where the next piece goes: a place of the buffer; or nowhere, since a piece did not fit.
+pub enum Place {
+    At(usize),
+    Full,
+}
+
+// The place, if n bytes fit there.
+fn room(len: usize, place: Place, n: usize) -> Place
+    ensures { λ r. ⌜ toldPlace r ≡ roomFor len n (toldPlace place) ⌝ }
+{
+    match place {
+        Place::At(at) => {
+            if len < n {
+                return Place::Full;
+            }
+            if len - n < at {
+                Place::Full
+            } else {
+                Place::At(at)
+            }
+        }
+        Place::Full => Place::Full,
+    }
+}
+
+fn copy(buf: &mut [u8], at: usize, bytes: &[u8])
+    requires { ⌜ at + length (now bytes) ≤ length (now buf) ⌝ }
+    ensures { λ _. ⌜ now (buf .exit) ≡ put (now (buf .entry)) at (now (bytes .entry)) ⌝ }
+{
+    let mut i = 0;
+    while i < bytes.len() {
+        buf[at + i] = bytes[i];
+        i += 1;
+    }
+}
+
+pub fn put_bytes(buf: &mut [u8], place: Place, bytes: &[u8]) -> Place
+    ensures { λ r. ⌜ page (now (buf .exit)) (toldPlace r) ≡ written (now (bytes .entry)) (page (now (buf .entry)) (toldPlace place)) ⌝ }
+{
+    let n = bytes.len();
+    match room(buf.len(), place, n) {
+        Place::At(at) => {
+            copy(buf, at, bytes);
+            Place::At(at + n)
+        }
+        Place::Full => Place::Full,
+    }
+}
+
+fn low(d: u64) -> u8
+    requires { ⌜ d < 10 ⌝ }
+    ensures { λ r. ⌜ r ≡ 48 + d ⌝ }
+{
+    48 + (d as u8)
+}
+
+fn high(d: u64) -> u8
+    requires { ⌜ d < 16 ⌝ }
+    ensures { λ r. ⌜ r ≡ 87 + d ⌝ }
+{
+    87 + (d as u8)
+}
+
+fn glyph(d: u64) -> u8
+    requires { ⌜ d < 16 ⌝ }
+    ensures { λ r. ⌜ r ≡ glyphOf d ⌝ }
+{
+    if d < 10 { low(d) } else { high(d) }
+}
+
+// How many digits a number has.
+fn digits(n: u64, base: u64) -> usize
+    requires { ⌜ 2 ≤ base ⌝ }
+    ensures { λ r. ⌜ r ≡ length (numeral base n) ⌝ }
+{
+    let mut k = 1;
+    let mut m = n;
+    while base <= m {
+        m = m / base;
+        k += 1;
+    }
+    k
+}
+
+// The digits of a number, the last one first.
+fn spell(buf: &mut [u8], at: usize, n: u64, base: u64, count: usize)
+    requires { ⌜ (2 ≤ base) × (base ≤ 16) ⌝ }
+    requires { ⌜ (count ≡ length (numeral base n)) × (at + count ≤ length (now buf)) ⌝ }
+    ensures { λ _. ⌜ now (buf .exit) ≡ put (now (buf .entry)) at (numeral base n) ⌝ }
+{
+    let mut i = count;
+    let mut m = n;
+    while base <= m {
+        i -= 1;
+        buf[at + i] = glyph(m % base);
+        m = m / base;
+    }
+    buf[at] = glyph(m);
+}
+
+fn put_numeral(buf: &mut [u8], place: Place, n: u64, base: u64) -> Place
+    requires { ⌜ (2 ≤ base) × (base ≤ 16) ⌝ }
+    ensures { λ r. ⌜ page (now (buf .exit)) (toldPlace r) ≡ written (numeral base n) (page (now (buf .entry)) (toldPlace place)) ⌝ }
+{
+    let count = digits(n, base);
+    match room(buf.len(), place, count) {
+        Place::At(at) => {
+            spell(buf, at, n, base, count);
+            Place::At(at + count)
+        }
+        Place::Full => Place::Full,
+    }
+}
+
+pub fn put_decimal(buf: &mut [u8], place: Place, n: u64) -> Place
+    ensures { λ r. ⌜ page (now (buf .exit)) (toldPlace r) ≡ written (decimal n) (page (now (buf .entry)) (toldPlace place)) ⌝ }
+{
+    put_numeral(buf, place, n, 10)
+}
+
+pub fn put_hex(buf: &mut [u8], place: Place, n: u64) -> Place
+    ensures { λ r. ⌜ page (now (buf .exit)) (toldPlace r) ≡ written (hex n) (page (now (buf .entry)) (toldPlace place)) ⌝ }
+{
+    put_numeral(buf, place, n, 16)
+}
+
+fn spell_bytes(buf: &mut [u8], at: usize, bytes: &[u8])
+    requires { ⌜ at + 2 * length (now bytes) ≤ length (now buf) ⌝ }
+    ensures { λ _. ⌜ now (buf .exit) ≡ put (now (buf .entry)) at (hexBytes (now (bytes .entry))) ⌝ }
+{
+    let mut i = 0;
+    let mut p = at;
+    while i < bytes.len() {
+        let b = bytes[i];
+        buf[p] = glyph((b / 16) as u64);
+        buf[p + 1] = glyph((b % 16) as u64);
+        p += 2;
+        i += 1;
+    }
+}
+
+// Two digits a byte.
+pub fn put_hex_bytes(buf: &mut [u8], place: Place, bytes: &[u8]) -> Place
+    ensures { λ r. ⌜ page (now (buf .exit)) (toldPlace r) ≡ written (hexBytes (now (bytes .entry))) (page (now (buf .entry)) (toldPlace place)) ⌝ }
+{
+    let n = 2 * bytes.len();
+    match room(buf.len(), place, n) {
+        Place::At(at) => {
+            spell_bytes(buf, at, bytes);
+            Place::At(at + n)
+        }
+        Place::Full => Place::Full,
+    }
+}
