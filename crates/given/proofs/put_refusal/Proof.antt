@@ -1,0 +1,21 @@
+-- `given::put_refusal` meets its contract: the pair is the refusal's words.
+-- Assumes nothing.
+use borrow.Author.Needs.{needs}
+use mathlib.Core.Path.{sym}
+use Rattle.given.specs.Given.{given}
+use Rattle.given.specs.GivenLaws.{gives-as}
+use Rattle.given.proofs.put_refusal.Statement.{statement}
+use Rattle.given.proofs.put_refusal.Tie as tie
+
+returns : tie.Need-returns
+returns c = gives-as (given 2 (c .before .before .before .before .before .before .before .args .state)) (sym (c .before .before .before .before .before .refusal-pair .ensures)) (c .before .before .put .ensures)
+
+pub put-refusal-spec : {M : Type 1} → statement M
+put-refusal-spec =
+    tie.close
+    (tie.spec
+    (λ c κs. search needs)
+    (λ c. search needs)
+    (λ c κs. search needs)
+    (λ c. search needs)
+    returns)

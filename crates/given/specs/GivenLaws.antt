@@ -1,0 +1,77 @@
+-- Laws of what an exported call answers: the two ways of `put`, and a loop that copies words one by one.
+use Prim.Native.Nat.{ℕ, _+_, _-_, _≤_, _<_}
+use mathlib.Core.Path.{_≡_, refl, sym, ap, _∙_, subst}
+use mathlib.Core.List.{List, [], _∷_, _++_, append-assoc}
+use native.Mathlib.Omega.{arith}
+use native.Mathlib.Nat.{le-antisymm}
+use native.Mathlib.Numerals.{add-one}
+use lib.ListN.{length, take, drop, set, getD}
+use lib.Seq.{paste, paste-suc, take-length}
+use lib.Dec.{leb}
+use borrow.Author.Tests.{le-leb, lt-leb, leb-true}
+use Rattle.walk.specs.Cases.{by-cases}
+use Rattle.word.specs.Word.{put, store}
+use Rattle.word.specs.WordLaws.{put-before, put-behind}
+use Rattle.refusal.specs.Told.{told}
+use Rattle.refusal.specs.declared.Refusal.{Refusal}
+use Rattle.given.specs.Given.{Given, given, Gives, statusIn, noneGiven, refusalWords}
+
+module _ (o : List ℕ) (g : Given) where
+  -- words that fit are put
+  pub gives-put : g .at + length (g .words) ≤ length o → Gives o g (g .status) (put o (g .at) (g .words))
+  unfolding statusIn store
+  gives-put h = record { status = rw (le-leb (g .at + length (g .words)) (length o) h); words = rw (le-leb (g .at + length (g .words)) (length o) h) }
+
+  -- others are not
+  pub gives-short : length o < g .at + length (g .words) → Gives o g 3 o
+  unfolding statusIn store
+  gives-short h = record { status = rw (lt-leb (g .at + length (g .words)) (length o) h); words = rw (lt-leb (g .at + length (g .words)) (length o) h) }
+
+-- what is put changes nothing else: neither a word before its place nor one behind it
+module _ {o left : List ℕ} {g : Given} {r : ℕ} (h : Gives o g r left) where
+  pub keeps-before : (i : ℕ) → i < g .at → getD left i 0 ≡ getD o i 0
+  unfolding store
+  keeps-before i l =
+      ap (λ (x : List ℕ). getD x i 0) (h .words)
+      ∙ by-cases (λ (x : List ℕ). getD x i 0 ≡ getD o i 0) (leb (g .at + length (g .words)) (length o))
+      (λ t. put-before o (g .at) (g .words) i (omega (arith, leb-true)) l) (λ f. refl)
+
+  pub keeps-behind : (i : ℕ) → getD left (g .at + length (g .words) + i) 0 ≡ getD o (g .at + length (g .words) + i) 0
+  unfolding store
+  keeps-behind i =
+      ap (λ (x : List ℕ). getD x (g .at + length (g .words) + i) 0) (h .words)
+      ∙ by-cases (λ (x : List ℕ). getD x (g .at + length (g .words) + i) 0 ≡ getD o (g .at + length (g .words) + i) 0) (leb (g .at + length (g .words)) (length o))
+      (λ t. put-behind o (g .at) (g .words) i (omega (arith, leb-true))) (λ f. refl)
+
+-- one answer only: the result and the words left are determined
+pub gives-one : {o l m : List ℕ} {g : Given} {r q : ℕ} → Gives o g r l → Gives o g q m → (r ≡ q) × (l ≡ m)
+gives-one h k = (h .status ∙ sym (k .status), h .words ∙ sym (k .words))
+
+-- no words leave all as it was
+pub gives-nothing : (status : ℕ) (o : List ℕ) → Gives o (given status 0 []) status o
+gives-nothing status o = gives-put o (given status 0 []) (omega arith)
+
+pub gives-none : (o : List ℕ) → Gives o noneGiven 0 o
+gives-none o = gives-nothing 0 o
+
+-- what is given of an answer m is given of every n that it equals
+pub gives-as : {A : Type 0} (f : A → Given) {m n : A} {o left : List ℕ} {r : ℕ} → m ≡ n → Gives o (f m) r left → Gives o (f n) r left
+gives-as f {o = o} {left = left} {r = r} e h = subst (λ x. Gives o (f x) r left) e h
+
+-- a loop that copies the words s to a place of o one by one: a turn of it, and its end
+module _ (o : List ℕ) (at : ℕ) (s : List ℕ) (t : List ℕ) (i : ℕ) (e : t ≡ paste o at s i) where
+  pub copied-turn : at + length s ≤ length o → i < length s → set t (at + i) (getD s i 0) ≡ paste o at s (i + 1)
+  copied-turn room l = rw (e, add-one) (paste-suc o at s i 0 (omega arith) l)
+
+  pub copied-all : i ≤ length s → length s ≤ i → t ≡ put o at s
+  copied-all l h =
+      e ∙ ap (paste o at s) (le-antisymm l h)
+      ∙ ap (λ (x : List ℕ). take at o ++ x ++ drop (at + length s) o) (take-length s)
+      ∙ append-assoc (take at o) s (drop (at + length s) o)
+
+  pub gives-copied : (status : ℕ) → at + length s ≤ length o → i ≤ length s → length s ≤ i → Gives o (given status at s) status t
+  gives-copied status room l h = rw (copied-all l h) (gives-put o (given status at s) room)
+
+-- the words of a refusal that is known
+pub refusal-is : {r s : Refusal} → r ≡ s → refusalWords (told r) ≡ refusalWords (told s)
+refusal-is e = ap (λ x. refusalWords (told x)) e

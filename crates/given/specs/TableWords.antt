@@ -1,0 +1,21 @@
+-- A walk over a table in four words: 0 and whatever behind it for a new one; else any other number, where the body starts, how long it is, and
+-- the place in it. A word that is not there is 0.
+-- Definitions only; a reader must believe them.
+use Prim.Native.Nat.{ℕ}
+use mathlib.Core.List.{List, [], _∷_, _++_}
+use mathlib.Core.Bool.{cond}
+use lib.ListN.{getD}
+use lib.Dec.{eqb}
+use Rattle.table.specs.declared.TableWalk.{TableWalk}
+use Rattle.table.specs.declared.TableWalk.the-variants as walk
+
+unfoldable pub walkIn : List ℕ → TableWalk
+walkIn o = cond (eqb (getD o 0 0) 0) walk.New (walk.In (getD o 1 0) (getD o 2 0) (getD o 3 0))
+
+abbrev pub walkWords : TableWalk → List ℕ
+walkWords walk.New = 0 ∷ 0 ∷ 0 ∷ 0 ∷ []
+walkWords (walk.In start len at) = 1 ∷ start ∷ len ∷ at ∷ []
+
+-- a step of such a walk: f has the words of its record
+abbrev pub tableWords : {B : Type 0} → (B → List ℕ) → B → TableWalk → List ℕ
+tableWords f b w = walkWords w ++ f b

@@ -1,0 +1,107 @@
+// An answer for a program in another language: a status, and words put into lent ones. What each word is, is said once for every type of
+// answer, in specs/. A walk's state is the first words of the same lent words.
+ghost use mathlib.Core.Path.{_≡_};
+ghost use mathlib.Core.List.{[], _∷_};
+ghost use lib.ListN.{getD};
+ghost use Rattle.refusal.specs.Told.{told};
+ghost use Rattle.given.specs.Given.{given, Gives, refusalWords, refusalGiven};
+ghost use Rattle.given.specs.TableWords.{walkIn, walkWords};
+use refusal::Refusal;
+use table::TableWalk;
+
+// The statuses.
+pub const NONE: u32 = 0;
+
+pub const GIVEN: u32 = 1;
+
+pub const REFUSED: u32 = 2;
+
+pub const TOO_SHORT: u32 = 3;
+
+// Puts the words of an answer, and answers its status.
+pub fn put(out: &mut [u64], at: usize, words: &[u64], status: u32) -> u32
+    ensures { λ r. ⌜ Gives (now (out .entry)) (given status at (now (words .entry))) r (now (out .exit)) ⌝ }
+{
+    if out.len() < at {
+        return TOO_SHORT;
+    }
+    if out.len() - at < words.len() {
+        return TOO_SHORT;
+    }
+    let mut i: usize = 0;
+    while i < words.len() {
+        out[at + i] = words[i];
+        i += 1;
+    }
+    status
+}
+
+// A refusal in two words: its number of document 01, and what it carries or 0.
+struct Pair(u64, u64);
+
+fn refusal_pair(why: Refusal) -> Pair
+    ensures { λ r. ⌜ refusalWords (told why) ≡ r .0 ∷ r .1 ∷ [] ⌝ }
+{
+    match why {
+        Refusal::Cut => Pair(1, 0),
+        Refusal::UnknownKind(kind) => Pair(2, kind as u64),
+        Refusal::UnknownChecksumKind(kind) => Pair(3, kind as u64),
+        Refusal::ExportLength => Pair(4, 0),
+        Refusal::NotACrossModuleRef(index) => Pair(5, index as u64),
+        Refusal::CrossModuleRefNotFound(index) => Pair(6, index as u64),
+        Refusal::BlockSize => Pair(7, 0),
+        Refusal::OffsetTooLarge => Pair(8, 0),
+        Refusal::UnsortedExports => Pair(9, 0),
+        Refusal::NoRoom => Pair(10, 0),
+        Refusal::TooLong => Pair(11, 0),
+        Refusal::OldFormat => Pair(12, 0),
+        Refusal::NoStringTable => Pair(13, 0),
+        Refusal::HashVersion => Pair(14, 0),
+        Refusal::ModuleSizes => Pair(15, 0),
+        Refusal::WrongPlace => Pair(16, 0),
+        Refusal::NotPlain => Pair(17, 0),
+        Refusal::NoFile(index) => Pair(18, index as u64),
+        Refusal::WrongSlot => Pair(19, 0),
+    }
+}
+
+// A refusal, put behind the state of a walk, which stays.
+pub fn put_refusal(out: &mut [u64], state: usize, why: Refusal) -> u32
+    ensures { λ r. ⌜ Gives (now (out .entry)) (refusalGiven state (told why)) r (now (out .exit)) ⌝ }
+{
+    let pair = refusal_pair(why);
+    put(out, state, &[pair.0, pair.1], REFUSED)
+}
+
+// A word of a walk's state; a word that was not lent is 0.
+pub fn state_word(out: &[u64], i: usize) -> u64
+    ensures { λ r. ⌜ r ≡ getD (now (out .entry)) i 0 ⌝ }
+{
+    if i < out.len() { out[i] } else { 0 }
+}
+
+// The walk over a table that the first four words say.
+pub fn walk_in(out: &[u64]) -> TableWalk
+    ensures { λ r. ⌜ r ≡ walkIn (now (out .entry)) ⌝ }
+{
+    if state_word(out, 0) == 0 {
+        return TableWalk::New;
+    }
+    TableWalk::In {
+        start: state_word(out, 1) as usize,
+        len: state_word(out, 2) as usize,
+        at: state_word(out, 3) as usize,
+    }
+}
+
+// Such a walk in four words.
+pub struct Four(pub u64, pub u64, pub u64, pub u64);
+
+pub fn walk_words(walk: TableWalk) -> Four
+    ensures { λ r. ⌜ walkWords walk ≡ r .0 ∷ r .1 ∷ r .2 ∷ r .3 ∷ [] ⌝ }
+{
+    match walk {
+        TableWalk::New => Four(0, 0, 0, 0),
+        TableWalk::In { start, len, at } => Four(1, start as u64, len as u64, at as u64),
+    }
+}

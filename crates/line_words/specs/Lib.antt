@@ -1,0 +1,2 @@
+pub mod LineWords
+pub mod LineWordsLaws

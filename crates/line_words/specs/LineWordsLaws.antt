@@ -1,0 +1,126 @@
+-- Laws of a line walk in words: reading its state, and putting it piece by piece.
+use Prim.Native.Nat.{ℕ, _+_, _≤_}
+use mathlib.Core.Path.{_≡_, refl, sym, ap, _∙_}
+use mathlib.Core.List.{List, [], _∷_, _++_, append-assoc}
+use native.Mathlib.Omega.{arith}
+use native.Mathlib.Nat.{add-assoc}
+use lib.ListN.{length, getD, take, drop, length-append, length-take, length-drop}
+use lib.Seq.{length-take-le, take-at, drop-at, drop-drop, drop-append-add}
+use borrow.Author.Tests.{le-leb, eq-eqb, ne-eqb}
+use Rattle.line_record.specs.declared.Length.{Length}
+use Rattle.line_record.specs.declared.Length.the-variants as len
+use Rattle.line_record.specs.declared.Column.{Column}
+use Rattle.line_record.specs.declared.Column.the-variants as col
+use Rattle.line_record.specs.declared.LineRecord.{LineRecord}
+use Rattle.turns.specs.declared.Held.{Held}
+use Rattle.turns.specs.declared.Held.the-variants as held
+use Rattle.turns.specs.declared.Rest.{Rest}
+use Rattle.turns.specs.declared.Place.{Place}
+use Rattle.turns.specs.declared.LineWalk.{LineWalk}
+use Rattle.turns.specs.declared.LineWalk.the-variants as walk
+use Rattle.word.specs.Word.{put, store}
+use Rattle.given.specs.Given.{Given, given, Gives}
+use Rattle.given.specs.GivenLaws.{gives-put}
+use Rattle.line_words.specs.LineWords.{lengthWords, columnWords, kindWord, recordWords, heldWords, restWords, placeWords, lineWalkWords, lineWords, recordIn, heldIn, restIn, placeIn, lineWalkIn}
+
+-- ---- read back
+
+module _ (o : List ℕ) (n : ℕ) (e : n ≡ getD o 4 0) where
+  pub held-nothing : n ≡ 0 → held.Nothing ≡ heldIn o
+  unfolding heldIn
+  held-nothing z = rw (eq-eqb (getD o 4 0) 0 (sym e ∙ z))
+
+  pub held-one : (n ≡ 0 → ⊥) → (r : LineRecord) → r ≡ recordIn o → held.One r ≡ heldIn o
+  unfolding heldIn
+  held-one z r q = ap held.One q ∙ rw (ne-eqb (getD o 4 0) 0 (λ h. z (e ∙ h)))
+
+module _ (o : List ℕ) (n : ℕ) (e : n ≡ getD o 0 0) where
+  pub walk-new : n ≡ 0 → walk.New ≡ lineWalkIn o
+  unfolding lineWalkIn
+  walk-new z = rw (eq-eqb (getD o 0 0) 0 (sym e ∙ z))
+
+  pub walk-between : (n ≡ 0 → ⊥) → n ≡ 1 → (t : Rest) → t ≡ restIn o → walk.Between t ≡ lineWalkIn o
+  unfolding lineWalkIn
+  walk-between z u t q = ap walk.Between q ∙ rw (ne-eqb (getD o 0 0) 0 (λ h. z (e ∙ h)), eq-eqb (getD o 0 0) 1 (sym e ∙ u))
+
+  pub walk-inside : (n ≡ 0 → ⊥) → (n ≡ 1 → ⊥) → (p : Place) → p ≡ placeIn o → (t : Rest) → t ≡ restIn o → walk.Inside p t ≡ lineWalkIn o
+  unfolding lineWalkIn
+  walk-inside z u p r t q =
+      (λ i. walk.Inside (r i) (q i)) ∙ rw (ne-eqb (getD o 0 0) 0 (λ h. z (e ∙ h)), ne-eqb (getD o 0 0) 1 (λ h. u (e ∙ h)))
+
+-- ---- how many words
+
+two-length : (l : Length) → length (lengthWords l) ≡ 2
+two-length len.Unset = refl
+two-length (len.Is n) = refl
+
+two-column : (l : Column) → length (columnWords l) ≡ 2
+two-column col.None = refl
+two-column (col.At n) = refl
+
+pub record-length : (r : LineRecord) → length (recordWords r) ≡ 12
+record-length r =
+    simp length-append (omega (arith, two-length (r .length), two-column (r .«column_start»), two-column (r .«column_end»)))
+
+held-length : (h : Held) → length (heldWords h) ≡ 13
+held-length held.Nothing = refl
+held-length (held.One r) = omega (arith, record-length r)
+
+pub rest-length : (tag : ℕ) (t : Rest) → length (tag ∷ restWords t) ≡ 17
+rest-length tag t = omega (arith, held-length (t .held))
+
+pub walk-length : (w : LineWalk) → length (lineWalkWords w) ≡ 27
+walk-length walk.New = refl
+walk-length (walk.Between t) = simp length-append (omega (arith, held-length (t .held)))
+walk-length (walk.Inside p t) = simp length-append (omega (arith, held-length (t .held)))
+
+pub line-length : (r : LineRecord) (w : LineWalk) → length (lineWords r w) ≡ 39
+line-length r w = length-append (lineWalkWords w) (recordWords r) ∙ omega (arith, walk-length w, record-length r)
+
+-- ---- put
+
+-- the words of a record from those of its parts
+pub record-words : (r : LineRecord) {l₀ l₁ s₀ s₁ e₀ e₁ k : ℕ} → lengthWords (r .length) ≡ l₀ ∷ l₁ ∷ [] → columnWords (r .«column_start») ≡ s₀ ∷ s₁ ∷ []
+    → columnWords (r .«column_end») ≡ e₀ ∷ e₁ ∷ [] → kindWord (r .kind) ≡ k
+    → recordWords r ≡ r .section ∷ r .offset ∷ l₀ ∷ l₁ ∷ r .file ∷ r .«start_line» ∷ r .«end_line» ∷ s₀ ∷ s₁ ∷ e₀ ∷ e₁ ∷ k ∷ []
+record-words r l s e k =
+    λ i. r .section ∷ r .offset ∷ (l i ++ (r .file ∷ r .«start_line» ∷ r .«end_line» ∷ (s i ++ (e i ++ (k i ∷ [])))))
+
+-- a put that fits
+pub gives-is : {o left : List ℕ} {r : ℕ} (status at : ℕ) (ws : List ℕ) → Gives o (given status at ws) r left → at + length ws ≤ length o → left ≡ put o at ws
+unfolding store
+gives-is {o} status at ws h l = h .words ∙ rw (le-leb (at + length ws) (length o) l)
+
+-- a piece behind a piece
+module _ (o : List ℕ) (at : ℕ) (a b : List ℕ) (fits : at + length a ≤ length o) where
+  front : length (take at o ++ a) ≡ at + length a
+  front = length-append (take at o) a ∙ ap (λ (k : ℕ). k + length a) (length-take-le at o (omega arith))
+
+  shape : put o at a ≡ (take at o ++ a) ++ drop (at + length a) o
+  shape = sym (append-assoc (take at o) a (drop (at + length a) o))
+
+  taken : take (at + length a) (put o at a) ≡ take at o ++ a
+  taken = ap (take (at + length a)) shape ∙ take-at (take at o ++ a) (drop (at + length a) o) (at + length a) front
+
+  dropped : (n : ℕ) → drop (at + length a + n) (put o at a) ≡ drop (at + length a + n) o
+  dropped n =
+      ap (drop (at + length a + n)) shape
+      ∙ ap (λ (k : ℕ). drop (k + n) ((take at o ++ a) ++ drop (at + length a) o)) (sym front)
+      ∙ drop-append-add (take at o ++ a) (drop (at + length a) o) n
+      ∙ drop-drop n (at + length a) o
+
+  pub put-join : put (put o at a) (at + length a) b ≡ put o at (a ++ b)
+  put-join =
+      ap (λ (l : List ℕ). l ++ (b ++ drop (at + length a + length b) (put o at a))) taken
+      ∙ ap (λ (l : List ℕ). (take at o ++ a) ++ (b ++ l)) (dropped (length b))
+      ∙ append-assoc (take at o) a (b ++ drop (at + length a + length b) o)
+      ∙ ap (λ (l : List ℕ). take at o ++ l) (sym (append-assoc a b (drop (at + length a + length b) o)))
+      ∙ ap (λ (k : ℕ). take at o ++ ((a ++ b) ++ drop k o)) (add-assoc at (length a) (length b) ∙ ap (λ (k : ℕ). at + k) (sym (length-append a b)))
+
+pub two-pieces : (o o′ o″ : List ℕ) (at n : ℕ) (a b : List ℕ) → o′ ≡ put o at a → o″ ≡ put o′ n b → n ≡ at + length a → at + length a ≤ length o → o″ ≡ put o at (a ++ b)
+two-pieces o o′ o″ at n a b e q m fits =
+    q ∙ (λ i. put (e i) (m i) b) ∙ put-join o at a b fits
+
+-- all pieces together are the answer
+pub gives-pieces : (o left ws : List ℕ) → left ≡ put o 0 ws → length ws ≤ length o → Gives o (given 1 0 ws) 1 left
+gives-pieces o left ws e fits = rw e (gives-put o (given 1 0 ws) (omega arith))
