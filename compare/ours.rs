@@ -1,0 +1,413 @@
+//! ours < CASES: answers cases through the static library of the crate `export`, in the oracle's form (oracle/README.md).
+
+use std::collections::HashMap;
+use std::fmt::Write as _;
+use std::io::{BufRead, BufReader, BufWriter, Write};
+
+/// The exported calls, on safe slices. A Rattle slice is two C parameters: the pointer and the length.
+mod calls {
+    macro_rules! calls {
+        ($($name:ident($first:ident $(, $arg:ident: $type:ty)*);)*) => {
+            mod raw {
+                extern "C" {
+                    $(pub fn $name($first: *const u8, n: usize, $($arg: $type,)* out: *mut u64, m: usize) -> u32;)*
+                }
+            }
+            $(pub fn $name($first: &[u8], $($arg: $type,)* out: &mut [u64]) -> u32 {
+                unsafe { raw::$name($first.as_ptr(), $first.len(), $($arg,)* out.as_mut_ptr(), out.len()) }
+            })*
+        };
+    }
+
+    /// The call that writes slots, and those that read them.
+    pub fn c13_order_list(area: &[u8], slots: &mut [u32], out: &mut [u64]) -> u32 {
+        extern "C" {
+            #[link_name = "c13_order_list"]
+            fn raw(area: *const u8, n: usize, slots: *mut u32, k: usize, out: *mut u64, m: usize) -> u32;
+        }
+        unsafe { raw(area.as_ptr(), area.len(), slots.as_mut_ptr(), slots.len(), out.as_mut_ptr(), out.len()) }
+    }
+
+    pub fn c13_next_line(area: &[u8], slots: &[u32], out: &mut [u64]) -> u32 {
+        extern "C" {
+            #[link_name = "c13_next_line"]
+            fn raw(area: *const u8, n: usize, slots: *const u32, k: usize, out: *mut u64, m: usize) -> u32;
+        }
+        unsafe { raw(area.as_ptr(), area.len(), slots.as_ptr(), slots.len(), out.as_mut_ptr(), out.len()) }
+    }
+
+    pub fn c13_lines_for_symbol(area: &[u8], slots: &[u32], section: u16, offset: u32, out: &mut [u64]) -> u32 {
+        extern "C" {
+            #[link_name = "c13_lines_for_symbol"]
+            fn raw(area: *const u8, n: usize, slots: *const u32, k: usize, section: u16, offset: u32, out: *mut u64, m: usize) -> u32;
+        }
+        unsafe { raw(area.as_ptr(), area.len(), slots.as_ptr(), slots.len(), section, offset, out.as_mut_ptr(), out.len()) }
+    }
+
+    calls! {
+        c13_next_sub(area);
+        c13_next_file(area);
+        c13_file_at(area, index: u32);
+        c13_next_inlinee(area);
+        c13_next_import(area);
+        c13_word(area, words: usize, count: usize, i: usize);
+        c13_resolve_import(area, index: u32);
+        c13_next_export(area);
+        c13_export_count(area);
+        c13_resolve_export(area, local: u32);
+        c13_module_symbols(stream, symbols: u32, c11: u32, c13: u32);
+        c13_lines_part(stream, symbols: u32, c11: u32, c13: u32);
+        c13_tables_part(stream, symbols: u32, c11: u32, c13: u32);
+        c13_string_table(stream);
+        c13_name(stream, offset: u32);
+    }
+}
+
+/// The words lent to a call: a walk's state in front, and the answer.
+struct Words([u64; 40]);
+
+/// What a call answered.
+enum Said {
+    None,
+    Given,
+    Refused(String),
+}
+
+impl Words {
+    /// A walk at its start.
+    fn new() -> Words {
+        Words([0; 40])
+    }
+
+    /// `state` is the number of words of a walk's state, behind which a refusal stands.
+    fn said(&self, state: usize, status: u32) -> Said {
+        match status {
+            0 => Said::None,
+            1 => Said::Given,
+            2 => {
+                let (number, carried) = (self.0[state], self.0[state + 1]);
+                Said::Refused(if [2, 3, 5, 6, 18].contains(&number) { format!("error {number} {carried:#x}") } else { format!("error {number}") })
+            }
+            other => panic!("status {other}"),
+        }
+    }
+}
+
+struct Block {
+    text: String,
+}
+
+impl Block {
+    fn put(&mut self, line: &str) {
+        self.text.push_str(line);
+        self.text.push('\n');
+    }
+
+    /// A walk from its start to its end or its refusal, whose state is the first `state` words; then the same again.
+    fn walk(&mut self, name: &str, state: usize, step: impl FnMut(&mut Words) -> u32, show: impl FnMut(&[u64]) -> String) {
+        self.walk_from(Words::new(), name, state, step, show);
+    }
+
+    fn walk_from(&mut self, mut words: Words, name: &str, state: usize, mut step: impl FnMut(&mut Words) -> u32, mut show: impl FnMut(&[u64]) -> String) {
+        loop {
+            let status = step(&mut words);
+            let last = match words.said(state, status) {
+                Said::Given => {
+                    let shown = show(&words.0[state..]);
+                    writeln!(self.text, "{name} {shown}").unwrap();
+                    continue;
+                }
+                Said::None => "end".to_string(),
+                Said::Refused(why) => why,
+            };
+            writeln!(self.text, "{name} {last}").unwrap();
+            let status = step(&mut words);
+            let again = match words.said(state, status) {
+                Said::Given => "a record".to_string(),
+                Said::None => "end".to_string(),
+                Said::Refused(why) => why,
+            };
+            if again != last {
+                writeln!(self.text, "{name} ANOTHER-ANSWER-AGAIN {again}").unwrap();
+            }
+            return;
+        }
+    }
+
+    /// One answer.
+    fn one(&mut self, name: &str, call: impl FnOnce(&mut Words) -> u32, show: impl FnOnce(&[u64]) -> String, none: &str) {
+        let mut words = Words::new();
+        let status = call(&mut words);
+        let said = match words.said(0, status) {
+            Said::Given => show(&words.0),
+            Said::None => none.to_string(),
+            Said::Refused(why) => why,
+        };
+        writeln!(self.text, "{name} {said}").unwrap();
+    }
+}
+
+struct Case<'a> {
+    kind: &'a str,
+    id: &'a str,
+    keys: HashMap<&'a str, &'a str>,
+}
+
+impl<'a> Case<'a> {
+    fn parse(line: &'a str) -> Option<Case<'a>> {
+        let mut words = line.split_ascii_whitespace();
+        let kind = words.next().filter(|k| !k.starts_with('#'))?;
+        let id = words.next().unwrap_or("?");
+        Some(Case { kind, id, keys: words.map(|w| w.split_once('=').unwrap_or((w, ""))).collect() })
+    }
+
+    fn text(&self, key: &str) -> &'a str {
+        self.keys.get(key).copied().unwrap_or("")
+    }
+
+    fn list(&self, key: &str) -> impl Iterator<Item = &'a str> {
+        self.text(key).split(',').filter(|s| !s.is_empty())
+    }
+
+    /// The bytes, behind as many others as the case asks for, so that their address is any.
+    fn bytes(&self) -> Held {
+        let hex = self.text("hex").as_bytes();
+        let digit = |d: u8| if d < b'a' { d - b'0' } else { d - b'a' + 10 };
+        let data: Vec<u8> = if hex == b"-" { vec![] } else { hex.chunks_exact(2).map(|p| digit(p[0]) << 4 | digit(p[1])).collect() };
+        let at: usize = if self.text("at").is_empty() { 0 } else { self.text("at").parse().expect("at") };
+        let mut held = vec![0u64; (at + data.len()) / 8 + 1];
+        let whole = unsafe { std::slice::from_raw_parts_mut(held.as_mut_ptr() as *mut u8, held.len() * 8) };
+        whole[at..at + data.len()].copy_from_slice(&data);
+        Held { held, at, len: data.len() }
+    }
+}
+
+/// Bytes at an address divisible by 8, plus `at`.
+struct Held {
+    held: Vec<u64>,
+    at: usize,
+    len: usize,
+}
+
+impl Held {
+    fn bytes(&self) -> &[u8] {
+        let whole = unsafe { std::slice::from_raw_parts(self.held.as_ptr() as *const u8, self.held.len() * 8) };
+        &whole[self.at..self.at + self.len]
+    }
+}
+
+fn hex(bytes: &[u8]) -> String {
+    if bytes.is_empty() {
+        return "-".into();
+    }
+    bytes.iter().map(|b| format!("{b:02x}")).collect()
+}
+
+/// The words of a record, by their place and number, each through the call that hands out one of them.
+fn words_of(area: &[u8], place: u64, count: u64, show: impl Fn(u64) -> String) -> String {
+    if count == 0 {
+        return "-".into();
+    }
+    let word = |i: u64| {
+        let mut w = Words::new();
+        let status = calls::c13_word(area, place as usize, count as usize, i as usize, &mut w.0);
+        assert!(status == 1, "word {i} of {count} at {place}: status {status}");
+        show(w.0[0])
+    };
+    (0..count).map(word).collect::<Vec<_>>().join(",")
+}
+
+/// Name, checksum kind, place and length of the bytes.
+fn file_text(area: &[u8], r: &[u64]) -> String {
+    let kind = ["none", "md5", "sha1", "sha256"][r[1] as usize];
+    format!("{} {kind} {}", r[0], hex(&area[r[2] as usize..(r[2] + r[3]) as usize]))
+}
+
+/// The order list of an area, or its refusal. The slots that it does not take must stay.
+fn order(area: &[u8]) -> Result<Vec<u32>, String> {
+    // A line subsection has at least 20 bytes, so these slots suffice.
+    const FREE: u32 = 0xdead_beef;
+    let mut slots = vec![FREE; area.len() / 20 + 1];
+    let mut words = Words::new();
+    let status = calls::c13_order_list(area, &mut slots, &mut words.0);
+    let said = match words.said(0, status) {
+        Said::Given => Ok(words.0[0] as usize),
+        Said::None => panic!("no order list"),
+        Said::Refused(why) => Err(why),
+    };
+    let taken = *said.as_ref().unwrap_or(&0);
+    if slots[taken..].iter().any(|s| *s != FREE) {
+        return Err("A-SLOT-CHANGED".into());
+    }
+    slots.truncate(taken);
+    said.map(|_| slots)
+}
+
+/// A line record of 12 words: section, offset, length, file, lines, columns and kind, where a 0 in front of a number says that there is none.
+fn line_text(r: &[u64]) -> String {
+    let maybe = |at: usize| if r[at] == 0 { "-".into() } else { r[at + 1].to_string() };
+    format!(
+        "{}:{:x} {} {} {} {} {} {} {}",
+        r[0],
+        r[1],
+        maybe(2),
+        r[4],
+        r[5],
+        r[6],
+        maybe(7),
+        maybe(9),
+        ["ex", "st"][r[11] as usize]
+    )
+}
+
+/// The words of a line walk's state.
+const LINE_STATE: usize = 27;
+
+/// Files and lines.
+fn lines(b: &mut Block, case: &Case, area: &[u8]) {
+    match order(area) {
+        Ok(slots) => {
+            let step = |w: &mut Words| calls::c13_next_line(area, &slots, &mut w.0);
+            b.walk("line", LINE_STATE, step, line_text);
+            for symbol in case.list("syms") {
+                let (section, offset) = symbol.split_once(':').expect("section:offset");
+                let (section, offset) = (section.parse().expect("section"), u32::from_str_radix(offset, 16).expect("offset in hex"));
+                let mut words = Words::new();
+                let status = calls::c13_lines_for_symbol(area, &slots, section, offset, &mut words.0);
+                match words.said(0, status) {
+                    Said::Given => b.walk_from(words, &format!("sym {symbol}"), LINE_STATE, step, line_text),
+                    Said::None => panic!("no walk"),
+                    Said::Refused(why) => b.put(&format!("sym {symbol} {why}")),
+                }
+            }
+        }
+        // There is no list: the walk repeats its tests, with any slots.
+        Err(_) => {
+            b.walk("line", LINE_STATE, |w| calls::c13_next_line(area, &[], &mut w.0), line_text);
+            for symbol in case.list("syms") {
+                let mut words = Words::new();
+                let status = calls::c13_lines_for_symbol(area, &[], 1, 0, &mut words.0);
+                match words.said(0, status) {
+                    Said::Refused(why) => b.put(&format!("sym {symbol} {why}")),
+                    _ => b.put(&format!("sym {symbol} NOT-REFUSED")),
+                }
+            }
+        }
+    }
+    b.walk("file", 4, |w| calls::c13_next_file(area, &mut w.0), |r| format!("{} {}", r[0], file_text(area, &r[1..])));
+    for index in case.list("files") {
+        let i: u32 = index.parse().expect("index");
+        b.one(&format!("info {index}"), |w| calls::c13_file_at(area, i, &mut w.0), |r| file_text(area, r), "");
+    }
+}
+
+/// Inlinees, imports and exports.
+fn tables(b: &mut Block, case: &Case, area: &[u8]) {
+    b.walk("inlinee", 4, |w| calls::c13_next_inlinee(area, &mut w.0), |r| {
+        format!("{} {} {} {}", r[0], r[1], r[2], words_of(area, r[3], r[4], |w| w.to_string()))
+    });
+    b.walk("import", 4, |w| calls::c13_next_import(area, &mut w.0), |r| {
+        format!("{} {}", r[0], words_of(area, r[1], r[2], |w| format!("{w:x}")))
+    });
+    for index in case.list("imports") {
+        let i = u32::from_str_radix(index, 16).expect("index in hex");
+        b.one(&format!("resolve {index}"), |w| calls::c13_resolve_import(area, i, &mut w.0), |r| format!("{} {:x}", r[0], r[1]), "");
+    }
+    b.walk("export", 4, |w| calls::c13_next_export(area, &mut w.0), |r| {
+        format!("{} {:x} {:x}", ["type", "id"][r[0] as usize], r[1], r[2])
+    });
+    b.one("exports", |w| calls::c13_export_count(area, &mut w.0), |r| r[0].to_string(), "");
+    for index in case.list("exports") {
+        let local = u32::from_str_radix(index, 16).expect("index in hex");
+        b.one(&format!("lookup {index}"), |w| calls::c13_resolve_export(area, local, &mut w.0), |r| format!("{:x}", r[0]), "none");
+    }
+}
+
+fn area_case(b: &mut Block, case: &Case) {
+    let held = case.bytes();
+    let area = held.bytes();
+    b.put(&format!("case {} area {}", case.id, area.len()));
+    b.walk("sub", 1, |w| calls::c13_next_sub(area, &mut w.0), |r| format!("{:x} {} {}", r[0], r[1], r[2]));
+    let order = match order(area) {
+        Ok(slots) if slots.is_empty() => "-".to_string(),
+        Ok(slots) => slots.iter().map(|s| s.to_string()).collect::<Vec<_>>().join(" "),
+        Err(why) => why,
+    };
+    b.put(&format!("order {order}"));
+    lines(b, case, area);
+    tables(b, case, area);
+}
+
+/// What refuses a module's part refuses every call on it.
+fn refused(b: &mut Block, case: &Case, why: &str, walks: &[&str], lists: &[(&str, &str)]) {
+    for walk in walks {
+        b.put(&format!("{walk} {why}"));
+    }
+    for (key, name) in lists {
+        for asked in case.list(key) {
+            b.put(&format!("{name} {asked} {why}"));
+        }
+    }
+}
+
+fn module_case(b: &mut Block, case: &Case) {
+    let held = case.bytes();
+    let stream = held.bytes();
+    let size = |key: &str| if case.text(key).is_empty() { 0 } else { case.text(key).parse::<u32>().expect("size") };
+    let (symbols, c11, c13) = (size("sym"), size("c11"), size("c13"));
+    b.put(&format!("case {} module {} {symbols} {c11} {c13}", case.id, stream.len()));
+    b.one("symbols", |w| calls::c13_module_symbols(stream, symbols, c11, c13, &mut w.0), |_| "yes".into(), "");
+    let part = |call: fn(&[u8], u32, u32, u32, &mut [u64]) -> u32| {
+        let mut w = Words::new();
+        let status = call(stream, symbols, c11, c13, &mut w.0);
+        match w.said(0, status) {
+            Said::Given => Ok(&stream[w.0[0] as usize..(w.0[0] + w.0[1]) as usize]),
+            Said::None => panic!("no part"),
+            Said::Refused(why) => Err(why),
+        }
+    };
+    match part(calls::c13_lines_part) {
+        Ok(area) => {
+            b.put(&format!("program {}", order(area).map_or_else(|why| why, |_| "yes".into())));
+            lines(b, case, area);
+        }
+        Err(why) => refused(b, case, &why, &["program", "file", "line"], &[("files", "info"), ("syms", "sym")]),
+    }
+    match part(calls::c13_tables_part) {
+        Ok(area) => tables(b, case, area),
+        Err(why) => refused(b, case, &why, &["inlinee", "import", "export", "exports"], &[("imports", "resolve"), ("exports", "lookup")]),
+    }
+}
+
+fn string_case(b: &mut Block, case: &Case) {
+    let held = case.bytes();
+    let stream = held.bytes();
+    b.put(&format!("case {} strings {}", case.id, stream.len()));
+    b.one("table", |w| calls::c13_string_table(stream, &mut w.0), |_| "yes".into(), "");
+    for offset in case.list("offs") {
+        let at: u32 = offset.parse().expect("offset");
+        b.one(
+            &format!("name {offset}"),
+            |w| calls::c13_name(stream, at, &mut w.0),
+            |r| hex(&stream[r[0] as usize..r[0] as usize + r[1] as usize]),
+            "",
+        );
+    }
+}
+
+fn main() {
+    let mut out = BufWriter::with_capacity(1 << 20, std::io::stdout());
+    for line in BufReader::with_capacity(1 << 20, std::io::stdin()).lines() {
+        let line = line.expect("line");
+        let Some(case) = Case::parse(&line) else { continue };
+        let mut b = Block { text: String::new() };
+        match case.kind {
+            "area" => area_case(&mut b, &case),
+            "module" => module_case(&mut b, &case),
+            "strings" => string_case(&mut b, &case),
+            other => panic!("case kind {other}"),
+        }
+        b.put("");
+        out.write_all(b.text.as_bytes()).expect("write");
+    }
+}
