@@ -2,68 +2,12 @@
 //! it REPETITIONS times more, with each answer only handed over. bench/run counts the instructions.
 //!
 //! SIDE: rattle, the static library; crate, the crate pdb 0.8.0. Both do the same: a checksum that differs is a fault.
-//! INPUT: a file, or sorted:N, reversed:N or random:N for an area of N line subsections, in that order of their offsets.
+//! INPUT: a file (an area, or a string table X.names), or one that is made: sorted:N, reversed:N or random:N, an area of N line subsections in that
+//! order of their offsets; exports:N, imports:N, an area of one table of N exports or import words; names:N, a string table of N names.
 
+use c13::calls::{self, GIVEN, LINE_STATE, NONE, RECORD, TABLE_STATE};
 use pdb::{oracle_module, oracle_strings, CrossModuleExport, OracleProbe, C13, FallibleIterator, FileChecksum, FileIndex, FileInfo, LineInfo, LineInfoKind, LineIterator, Local, ModuleInfo, PdbInternalSectionOffset, StringRef, TypeIndex};
 use std::hint::black_box;
-
-/// The calls of the library, on safe slices. A Rattle slice is two C parameters: the pointer and the length.
-mod calls {
-    mod raw {
-        extern "C" {
-            pub fn c13_next_sub(area: *const u8, n: usize, out: *mut u64, m: usize) -> u32;
-            pub fn c13_order_list(area: *const u8, n: usize, slots: *mut u32, k: usize, out: *mut u64, m: usize) -> u32;
-            pub fn c13_next_line(area: *const u8, n: usize, slots: *const u32, k: usize, out: *mut u64, m: usize) -> u32;
-            pub fn c13_lines_for_symbol(area: *const u8, n: usize, slots: *const u32, k: usize, section: u16, offset: u32, out: *mut u64, m: usize) -> u32;
-            pub fn c13_next_file(area: *const u8, n: usize, out: *mut u64, m: usize) -> u32;
-            pub fn c13_file_at(area: *const u8, n: usize, index: u32, out: *mut u64, m: usize) -> u32;
-            pub fn c13_next_inlinee(area: *const u8, n: usize, out: *mut u64, m: usize) -> u32;
-            pub fn c13_resolve_import(area: *const u8, n: usize, index: u32, out: *mut u64, m: usize) -> u32;
-            pub fn c13_next_export(area: *const u8, n: usize, out: *mut u64, m: usize) -> u32;
-            pub fn c13_resolve_export(area: *const u8, n: usize, local: u32, out: *mut u64, m: usize) -> u32;
-            pub fn c13_name(stream: *const u8, n: usize, offset: u32, out: *mut u64, m: usize) -> u32;
-        }
-    }
-    pub fn next_sub(area: &[u8], out: &mut [u64]) -> u32 {
-        unsafe { raw::c13_next_sub(area.as_ptr(), area.len(), out.as_mut_ptr(), out.len()) }
-    }
-    pub fn order_list(area: &[u8], slots: &mut [u32], out: &mut [u64]) -> u32 {
-        unsafe { raw::c13_order_list(area.as_ptr(), area.len(), slots.as_mut_ptr(), slots.len(), out.as_mut_ptr(), out.len()) }
-    }
-    pub fn next_line(area: &[u8], slots: &[u32], out: &mut [u64]) -> u32 {
-        unsafe { raw::c13_next_line(area.as_ptr(), area.len(), slots.as_ptr(), slots.len(), out.as_mut_ptr(), out.len()) }
-    }
-    pub fn lines_for_symbol(area: &[u8], slots: &[u32], section: u16, offset: u32, out: &mut [u64]) -> u32 {
-        unsafe { raw::c13_lines_for_symbol(area.as_ptr(), area.len(), slots.as_ptr(), slots.len(), section, offset, out.as_mut_ptr(), out.len()) }
-    }
-    pub fn next_file(area: &[u8], out: &mut [u64]) -> u32 {
-        unsafe { raw::c13_next_file(area.as_ptr(), area.len(), out.as_mut_ptr(), out.len()) }
-    }
-    pub fn file_at(area: &[u8], index: u32, out: &mut [u64]) -> u32 {
-        unsafe { raw::c13_file_at(area.as_ptr(), area.len(), index, out.as_mut_ptr(), out.len()) }
-    }
-    pub fn next_inlinee(area: &[u8], out: &mut [u64]) -> u32 {
-        unsafe { raw::c13_next_inlinee(area.as_ptr(), area.len(), out.as_mut_ptr(), out.len()) }
-    }
-    pub fn resolve_import(area: &[u8], index: u32, out: &mut [u64]) -> u32 {
-        unsafe { raw::c13_resolve_import(area.as_ptr(), area.len(), index, out.as_mut_ptr(), out.len()) }
-    }
-    pub fn next_export(area: &[u8], out: &mut [u64]) -> u32 {
-        unsafe { raw::c13_next_export(area.as_ptr(), area.len(), out.as_mut_ptr(), out.len()) }
-    }
-    pub fn resolve_export(area: &[u8], local: u32, out: &mut [u64]) -> u32 {
-        unsafe { raw::c13_resolve_export(area.as_ptr(), area.len(), local, out.as_mut_ptr(), out.len()) }
-    }
-    pub fn name(stream: &[u8], offset: u32, out: &mut [u64]) -> u32 {
-        unsafe { raw::c13_name(stream.as_ptr(), stream.len(), offset, out.as_mut_ptr(), out.len()) }
-    }
-}
-
-const NONE: u32 = 0;
-const GIVEN: u32 = 1;
-const LINE_STATE: usize = 27;
-const LINE_STEP: usize = 39;
-const TABLE_STATE: usize = 4;
 
 /// An answer, of either side, as the numbers that both sides must agree on.
 trait Numbers {
@@ -172,14 +116,39 @@ fn word(bytes: &[u8], at: usize) -> u32 {
     u32::from_le_bytes(bytes[at..at + 4].try_into().expect("four bytes"))
 }
 
-/// An area of `n` line subsections of two lines each, at the offsets that `at` gives.
-fn made(n: u32, at: impl Fn(u32) -> u32) -> Vec<u8> {
-    let mut area = vec![];
-    for i in 0..n {
-        let words = [0xf2, 40, at(i), 1, 32, 0, 2, 28, 0, 0x8000_000a, 16, 0x8000_000b];
-        words.iter().for_each(|w: &u32| area.extend_from_slice(&w.to_le_bytes()));
+/// Little-endian words.
+fn bytes_of(words: impl IntoIterator<Item = u32>) -> Vec<u8> {
+    words.into_iter().flat_map(u32::to_le_bytes).collect()
+}
+
+/// A subsection.
+fn subsection(kind: u32, body: &[u8]) -> Vec<u8> {
+    let mut bytes = bytes_of([kind, body.len() as u32]);
+    bytes.extend_from_slice(body);
+    bytes
+}
+
+/// An area of line subsections of two lines each, of 32 bytes of code, that take these places.
+fn line_area(places: impl IntoIterator<Item = u32>) -> Vec<u8> {
+    let lines = |place| subsection(0xf2, &bytes_of([0x1000 + 32 * place, 1, 32, 0, 2, 28, 0, 0x8000_000a, 16, 0x8000_000b]));
+    places.into_iter().flat_map(lines).collect()
+}
+
+/// An input that is made: n of a thing.
+fn made(thing: &str, n: u32) -> Vec<u8> {
+    match thing {
+        "sorted" => line_area(0..n),
+        "reversed" => line_area((0..n).rev()),
+        "random" => line_area(shuffled(n)),
+        "exports" => subsection(0xf8, &bytes_of((0..n).flat_map(|i| [0x1000 + 2 * i, 0x2000 + i]))),
+        // modules of 16 words
+        "imports" => subsection(0xf7, &bytes_of((0..n / 16).flat_map(|m| [5 + m, 16].into_iter().chain((0..16).map(move |i| 0x1000 + 16 * m + i))))),
+        "names" => {
+            let names: Vec<u8> = (0..n).flat_map(|i| format!("c:\\project\\source\\file{i:06}.cpp\0").into_bytes()).collect();
+            [bytes_of([0xeffe_effe, 1, names.len() as u32]), names, vec![0; 12]].concat()
+        }
+        _ => panic!("input {thing}"),
     }
-    area
 }
 
 /// The numbers below n in an order without order: each is drawn from those that are left.
@@ -202,22 +171,11 @@ fn some<T: Copy>(all: &[T], most: usize) -> Vec<T> {
 impl Input {
     fn new(name: &str) -> Input {
         let bytes = match name.split_once(':') {
-            Some((order, n)) => {
-                let n: u32 = n.parse().expect("how many");
-                match order {
-                    "sorted" => made(n, |i| 0x1000 + 32 * i),
-                    "reversed" => made(n, |i| 0x1000 + 32 * (n - i)),
-                    "random" => {
-                        let order = shuffled(n);
-                        made(n, |i| 0x1000 + 32 * order[i as usize])
-                    }
-                    _ => panic!("order {order}"),
-                }
-            }
+            Some((thing, n)) => made(thing, n.parse().expect("how many")),
             None => std::fs::read(name).expect("input"),
         };
         let mut input = Input { bytes, module: None, slots: vec![], symbols: vec![], indices: vec![], locals: vec![], references: vec![], offsets: vec![] };
-        if name.ends_with(".names") {
+        if name.ends_with(".names") || name.starts_with("names:") {
             input.names();
         } else {
             input.area();
@@ -239,19 +197,19 @@ impl Input {
         let area = &self.bytes;
         self.module = Some(oracle_module(area, 0, 0, 0, area.len() as u32).expect("module"));
         let (mut symbols, mut bodies) = (vec![], vec![]);
-        let mut out = [0; LINE_STEP];
-        while calls::next_sub(area, &mut out) == GIVEN {
+        let mut out = [0; LINE_STATE + RECORD];
+        while calls::c13_next_sub(area, &mut out) == GIVEN {
             bodies.push((out[1], out[2] as usize, out[3] as usize));
             if out[1] == 0xf2 {
                 symbols.push((word(area, out[2] as usize + 4) as u16, word(area, out[2] as usize)));
             }
         }
         self.slots = vec![0; symbols.len()];
-        assert!(calls::order_list(area, &mut self.slots, &mut out) == GIVEN, "an area without refusals is measured");
+        assert!(calls::c13_order_list(area, &mut self.slots, &mut out) == GIVEN, "an area without refusals is measured");
         self.symbols = some(&symbols, 16);
         let mut files = vec![];
-        let mut out = [0; LINE_STEP];
-        while calls::next_file(area, &mut out) == GIVEN {
+        let mut out = [0; LINE_STATE + RECORD];
+        while calls::c13_next_file(area, &mut out) == GIVEN {
             files.push(out[TABLE_STATE] as u32);
         }
         self.indices = some(&files, 16);
@@ -291,19 +249,19 @@ mod rattle {
 
     pub fn list(i: &Input, slots: &mut [u32]) {
         let mut out = [0; 2];
-        given(calls::order_list(black_box(&i.bytes), slots, &mut out));
+        given(calls::c13_order_list(black_box(&i.bytes), slots, &mut out));
         black_box(&out);
     }
     pub fn walk(i: &Input, slots: &[u32], t: &mut impl Taker) {
         let area = black_box(i.bytes.as_slice());
-        steps(&mut [0; LINE_STEP], |out| calls::next_line(area, slots, out), |out| t.take(&out[LINE_STATE..]));
+        steps(&mut [0; LINE_STATE + RECORD], |out| calls::c13_next_line(area, slots, out), |out| t.take(&out[LINE_STATE..]));
     }
     pub fn symbol(i: &Input, slots: &[u32], t: &mut impl Taker) {
         let area = black_box(i.bytes.as_slice());
         for (section, offset) in &i.symbols {
-            let mut out = [0; LINE_STEP];
-            given(calls::lines_for_symbol(area, slots, *section, *offset, &mut out));
-            steps(&mut out, |out| calls::next_line(area, slots, out), |out| t.take(&out[LINE_STATE..]));
+            let mut out = [0; LINE_STATE + RECORD];
+            given(calls::c13_lines_for_symbol(area, slots, *section, *offset, &mut out));
+            steps(&mut out, |out| calls::c13_next_line(area, slots, out), |out| t.take(&out[LINE_STATE..]));
         }
     }
     fn file(area: &[u8], words: &[u64], t: &mut impl Taker) {
@@ -311,37 +269,37 @@ mod rattle {
     }
     pub fn files(i: &Input, t: &mut impl Taker) {
         let area = black_box(i.bytes.as_slice());
-        steps(&mut [0; 9], |out| calls::next_file(area, out), |out| file(area, &out[TABLE_STATE + 1..], t));
+        steps(&mut [0; 9], |out| calls::c13_next_file(area, out), |out| file(area, &out[TABLE_STATE + 1..], t));
     }
     pub fn file_at(i: &Input, t: &mut impl Taker) {
         let area = black_box(i.bytes.as_slice());
         for index in &i.indices {
             let mut out = [0; 4];
-            given(calls::file_at(area, *index, &mut out));
+            given(calls::c13_file_at(area, *index, &mut out));
             file(area, &out, t);
         }
     }
     pub fn inlinees(i: &Input, t: &mut impl Taker) {
         let area = black_box(i.bytes.as_slice());
-        steps(&mut [0; 9], |out| calls::next_inlinee(area, out), |out| t.take(&out[TABLE_STATE..TABLE_STATE + 1]));
+        steps(&mut [0; 9], |out| calls::c13_next_inlinee(area, out), |out| t.take(&out[TABLE_STATE..TABLE_STATE + 1]));
     }
     pub fn imports(i: &Input, t: &mut impl Taker) {
         let area = black_box(i.bytes.as_slice());
         for index in &i.references {
             let mut out = [0; 2];
-            given(calls::resolve_import(area, *index, &mut out));
+            given(calls::c13_resolve_import(area, *index, &mut out));
             t.take(&out[..]);
         }
     }
     pub fn export_list(i: &Input, t: &mut impl Taker) {
         let area = black_box(i.bytes.as_slice());
-        steps(&mut [0; 7], |out| calls::next_export(area, out), |out| t.take(&out[TABLE_STATE..]));
+        steps(&mut [0; 7], |out| calls::c13_next_export(area, out), |out| t.take(&out[TABLE_STATE..]));
     }
     pub fn exports(i: &Input, t: &mut impl Taker) {
         let area = black_box(i.bytes.as_slice());
         for local in &i.locals {
             let mut out = [0; 2];
-            given(calls::resolve_export(area, *local, &mut out));
+            given(calls::c13_resolve_export(area, *local, &mut out));
             t.take(&out[..1]);
         }
     }
@@ -349,7 +307,7 @@ mod rattle {
         let stream = black_box(i.bytes.as_slice());
         for offset in &i.offsets {
             let mut out = [0; 2];
-            given(calls::name(stream, *offset, &mut out));
+            given(calls::c13_name(stream, *offset, &mut out));
             t.take(&stream[out[0] as usize..(out[0] + out[1]) as usize]);
         }
     }
