@@ -3,7 +3,7 @@
 use Prim.Native.Nat.{ℕ, suc, _+_, _-_, _<_, _≤_}
 use mathlib.Core.Path.{_≡_, refl, sym, ap, _∙_, subst⁻¹}
 use mathlib.Core.List.{List}
-use mathlib.Core.Bool.{Bool, true, false, _&&_}
+use mathlib.Core.Bool.{Bool, true, false, cond, _&&_}
 use native.Mathlib.Numerals.{add-one}
 use native.Mathlib.Omega.{arith}
 use lib.ListN.{length, getD, drop, drop-of-length-le}
@@ -126,6 +126,12 @@ module _ (rule : ℕ → Sort) (s : List ℕ) where
   scans-found v a q = behind (subsFrom rule s 0) 0 (subs-chained rule s 0) v a q .1
 
 -- ---- one slot
+
+-- where the search begins does not matter
+pub slot-same : (rule : ℕ → Sort) (s v : List ℕ) (i p q : ℕ) → Scans rule s p → Scans rule s q → slotAt rule s v i p ≡ slotAt rule s v i q
+unfolding slotAt
+slot-same rule s v i p q f g =
+    ap (λ x. cond (leb (length v) i) (refused (told why.WrongSlot)) (nameOf x)) (scan-right rule s p (getD v i 0) f ∙ sym (scan-right rule s q (getD v i 0) g))
 
 module _ (rule : ℕ → Sort) (s v : List ℕ) (i p : ℕ) where
   pub slot-missing : length v ≤ i → refused (told why.WrongSlot) ≡ slotAt rule s v i p

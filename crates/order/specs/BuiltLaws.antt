@@ -63,7 +63,7 @@ each-after x m p l [] h k e = tt
 each-after x m p l (b ∷ bs) h k e = (omega arith, omega (arith, e .0 .1), each-after x m p l bs h k (e .1))
 
 module _ (rule : ℕ → Sort) (s : List ℕ) (short : length s ≤ longest) where
-  ascends : (l : Listing Sub Told) (p : ℕ) → Chained rule s p l → Ascends (map startOf (lines l))
+  pub ascends : (l : Listing Sub Told) (p : ℕ) → Chained rule s p l → Ascends (map startOf (lines l))
   unfolding only listed
   ascends (more b l) p w =
       let x = b .start + b .len in

@@ -8,3 +8,5 @@ pub mod PickLaws
 pub mod Spread
 pub mod SpreadLaws
 pub mod PickMapLaws
+pub mod Many
+pub mod ManyLaws

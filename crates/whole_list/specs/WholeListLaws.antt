@@ -1,0 +1,118 @@
+-- What a whole list gives its callers: each of the n slots says where the search for its body may begin, the place that was given is one too, and the
+-- slots suffice.
+use Prim.Native.Nat.{ℕ, zero, suc, _+_, _-_, _/_, _<_, _≤_}
+use mathlib.Core.Path.{_≡_, refl, sym, ap, _∙_, subst}
+use mathlib.Core.Logic.{⊎-elim}
+use mathlib.Core.List.{List, [], _∷_}
+use mathlib.Core.Bool.{Bool, true, false, cond}
+use native.Mathlib.Omega.{arith}
+use lib.ListN.{length, getD, take, drop}
+use lib.Seq.{length-take-le, getD-take}
+use lib.Dec.{ltb, eqb}
+use borrow.Author.Tests.{ltb-false, eqb-true, eqb-false}
+use Rattle.walk.specs.Cases.{by-cases, le-or-gt}
+use Rattle.walk.specs.Listing.{Reply, gave, nothing, refused}
+use Rattle.refusal.specs.Told.{Told, longest}
+use Rattle.area.specs.Kind.{Sort}
+use Rattle.area.specs.Subs.{subsFrom}
+use Rattle.area.specs.SubsLaws.{subs-chained}
+use Rattle.lines.specs.Lines.{countLines}
+use Rattle.lines.specs.LinesLaws.{counted-short}
+use Rattle.lines.specs.Slots.{slotAt}
+use Rattle.lines.specs.SlotsLaws.{Scans, slot-same}
+use Rattle.sort.specs.SortLaws.{Each}
+use Rattle.sort.specs.Rank.{rank}
+use Rattle.sort.specs.RankLaws.{After, Ascends}
+use Rattle.order.specs.Order.{startsFrom}
+use Rattle.order.specs.OrderLaws.{counted-starts}
+use Rattle.order.specs.BuiltLaws.{ascends}
+use Rattle.whole_list.specs.WholeList.{lookAt, halvedIn, halved, allFound, comesTo, wholeIn, wholeList}
+use Rattle.whole_list.specs.MemberLaws.{In, in-at, in-take, in-drop, each-in, Apart, nothing-else}
+use Rattle.whole_list.specs.PlacesLaws.{First, Begins, begins, comes-finds}
+
+-- ---- what is found by halving stands in the list
+
+module _ (w : ℕ → ℕ) (v : ℕ) where
+  halved-in : (k : ℕ) (xs : List ℕ) → halvedIn w v k xs ≡ true → In v xs
+  unfolding halvedIn lookAt
+  halved-in zero xs = λ q. let z : _≡_ {A = ℕ} 0 1 = cc in absurd (omega arith)
+  halved-in (suc k) xs =
+      let m = length xs / 2 in
+      by-cases (λ (t : Bool). t ≡ true → In v xs) (eqb (length xs) 0) (λ e q. let z : _≡_ {A = ℕ} 0 1 = cc in absurd (omega arith))
+      (λ e. by-cases (λ (t : Bool). t ≡ true → In v xs) (eqb (getD xs m 0) v)
+      (λ g q. subst (λ x. In x xs) (eqb-true (getD xs m 0) v g) (in-at xs m (omega (arith, eqb-false (length xs) 0 e))))
+      (λ g. by-cases (λ (t : Bool). t ≡ true → In v xs) (ltb (w (getD xs m 0)) (w v))
+      (λ h q. in-drop v (m + 1) xs (halved-in k (drop (m + 1) xs) q))
+      (λ h q. in-take v m xs (halved-in k (take m xs) q))))
+
+all-in : (w : ℕ → ℕ) (xs vs : List ℕ) → allFound w xs vs ≡ true → Each (λ v. In v xs) vs
+unfolding allFound halved
+all-in w xs [] = λ q. tt
+all-in w xs (v ∷ vs) =
+    by-cases (λ (t : Bool). t ≡ true → Each (λ x. In x xs) (v ∷ vs)) (halved w v xs)
+    (λ e q. (halved-in w v (suc (length xs)) xs e, all-in w xs vs q)) (λ e q. let z : _≡_ {A = ℕ} 0 1 = cc in absurd (omega arith))
+
+-- ---- the starts of line bodies are told apart
+
+apart : (xs : List ℕ) → Ascends xs → Apart xs
+apart [] a = tt
+apart (x ∷ xs) a = (others xs (a .1), apart xs (a .2))
+  where
+    others : (ys : List ℕ) → After x ys → Each (λ y. x ≡ y → ⊥) ys
+    others [] f = tt
+    others (y ∷ ys) f = (λ e. omega arith, others ys (f .2))
+
+-- ---- an answer above 0: what was tested
+
+module _ (rule : ℕ → Sort) (s v : List ℕ) (p : ℕ) where
+  record Passed (n : ℕ) : Type 0 where
+    counted : gave n ≡ countLines rule s
+    room : n ≤ length v
+    place : comesTo rule s p ≡ true
+    all : allFound (rank s) (take n v) (startsFrom rule s 0) ≡ true
+
+  passed-in : (m : ℕ) (x : Reply ℕ Told) → x ≡ countLines rule s → m < wholeIn rule s v p x → Passed (wholeIn rule s v p x)
+  unfolding wholeIn
+  passed-in m (gave n) e =
+      by-cases (λ (k : ℕ). m < k → Passed k) (ltb (length v) n) (λ a h. absurd (omega arith))
+      (λ a. by-cases (λ (k : ℕ). m < k → Passed k) (comesTo rule s p)
+      (λ b. by-cases (λ (k : ℕ). m < k → Passed k) (allFound (rank s) (take n v) (startsFrom rule s 0))
+      (λ c h. record { counted = e; room = ltb-false (length v) n a; place = b; all = c })
+      (λ c h. absurd (omega arith)))
+      (λ b h. absurd (omega arith)))
+  passed-in m nothing e = λ h. absurd (omega arith)
+  passed-in m (refused t) e = λ h. absurd (omega arith)
+
+  passed : (m : ℕ) → m < wholeList rule s v p → Passed (wholeList rule s v p)
+  unfolding wholeList
+  passed m h = passed-in m (countLines rule s) refl h
+
+  pub whole-room : wholeList rule s v p ≤ length v
+  whole-room = ⊎-elim (λ (h : wholeList rule s v p ≤ 0). omega arith) (λ (h : 0 < wholeList rule s v p). passed 0 h .room) (le-or-gt (wholeList rule s v p) 0)
+
+  pub scan-right : 0 < wholeList rule s v p → Scans rule s p
+  scan-right h = comes-finds rule s (subsFrom rule s 0) 0 p refl (passed 0 h .place) .1
+
+  -- THE THEOREM: by counting, each of the slots names a line body
+  slot-begins : (i : ℕ) → i < wholeList rule s v p → Begins rule s (subsFrom rule s 0) 0 (getD v i 0)
+  slot-begins i h =
+      let n = wholeList rule s v p in
+      let w = passed i h in
+      let starts = startsFrom rule s 0 in
+      let room : length (take n v) ≡ n = length-take-le n v (w .room) in
+      let there : In (getD (take n v) i 0) (take n v) = in-at (take n v) i (omega arith) in
+      let named = nothing-else starts (take n v) (apart starts (ascends rule s (counted-short rule s n (w .counted)) (subsFrom rule s 0) 0 (subs-chained rule s 0)))
+      (all-in (rank s) (take n v) starts (w .all)) (counted-starts rule s n (w .counted) ∙ sym room) (getD (take n v) i 0) there in
+      each-in (Begins rule s (subsFrom rule s 0) 0) starts (begins rule s (subsFrom rule s 0) 0 refl) (getD v i 0)
+      (subst (λ x. In x starts) (getD-take n v i 0 h) named)
+
+  pub hint-right : (i : ℕ) → i < wholeList rule s v p → (8 ≤ getD v i 0) × Scans rule s (getD v i 0 - 8)
+  hint-right i h = let b = slot-begins i h in (omega arith, b .1)
+
+  -- and the search for it ends at its first look
+  pub first-look : (i : ℕ) → i < wholeList rule s v p → First rule s (getD v i 0)
+  first-look i h = slot-begins i h .2
+
+  -- from any place at which it may begin, it finds the same
+  pub slot-hint : (i q : ℕ) → i < wholeList rule s v p → Scans rule s q → slotAt rule s v i (getD v i 0 - 8) ≡ slotAt rule s v i q
+  slot-hint i q h g = slot-same rule s v i (getD v i 0 - 8) q (hint-right i h .1) g
