@@ -6,7 +6,7 @@ use mathlib.Core.Logic.{_⊎_, inl, inr, ⊎-elim}
 use mathlib.Core.List.{List, [], _∷_}
 use mathlib.Core.Bool.{cond}
 use native.Mathlib.Omega.{arith}
-use lib.ListN.{length, getD, take, drop}
+use lib.ListN.{length, getD}
 use lib.Dec.{eqb}
 use borrow.Author.Tests.{eqb-true, eqb-false}
 use Rattle.walk.specs.Cases.{by-cases, eq-or-ne}
@@ -20,16 +20,6 @@ pub in-at : (xs : List ℕ) (i : ℕ) → i < length xs → In (getD xs i 0) xs
 in-at [] i h = absurd (omega arith)
 in-at (x ∷ xs) zero h = inl (λ i. x)
 in-at (x ∷ xs) (suc i) h = inr (in-at xs i (omega arith))
-
-pub in-take : (v n : ℕ) (xs : List ℕ) → In v (take n xs) → In v xs
-in-take v zero xs m = absurd m
-in-take v (suc n) [] m = m
-in-take v (suc n) (x ∷ xs) m = ⊎-elim (λ (e : v ≡ x). inl e) (λ (k : In v (take n xs)). inr (in-take v n xs k)) m
-
-pub in-drop : (v n : ℕ) (xs : List ℕ) → In v (drop n xs) → In v xs
-in-drop v zero xs m = m
-in-drop v (suc n) [] m = m
-in-drop v (suc n) (x ∷ xs) m = inr (in-drop v n xs m)
 
 pub each-in : (P : ℕ → Type 0) (xs : List ℕ) → Each P xs → (v : ℕ) → In v xs → P v
 each-in P [] f v m = absurd m

@@ -33,7 +33,8 @@ module _ (rule : ℕ → Sort) (s : List ℕ) where
   abbrev Stands : ℕ → Listing Sub Told → Type 0
   Stands p l = l ≡ subsFrom rule s p → Heads l
 
-  stand : (p : ℕ) (u : Move ℕ Sub Told) → Within (length s) p u → To u (λ t. Stands t (subsFrom rule s t)) → Stands p (onMove (subsFrom rule s) u)
+  stand : (p : ℕ) (u : Move ℕ Sub Told) → Within (length s) p u → To u (λ t. Stands t (subsFrom rule s t))
+      → Stands p (onMove (subsFrom rule s) u)
   stand p (item b x) w f = λ e. let q : p ≡ b .start - 8 = omega arith in e ∙ ap (subsFrom rule s) q
   stand p (pass x) w f = λ e. f refl
   stand p over w f = λ e. tt
@@ -73,10 +74,11 @@ module _ (rule : ℕ → Sort) (s : List ℕ) where
       let x = b .start + b .len in
       let c = chained p b l e in
       let g = begin p b l e in
+      let here = finds-there (more b l) (b .start - 8) g in
       let rest = each-map (Begins l x) (Begins (more b l) p) (λ v f. (omega arith, finds-passed b l (v - 8) (omega arith) (f .1), f .2))
       (map startOf (listed (only (is 0xf2) l))) (begins l x (c .0)) in
       by-cases (λ (k : Listing Sub Told). Each (Begins (more b l) p) (map startOf (listed k))) (eqb (b .kind) 0xf2)
-      (λ t. ((c .1, finds-there (more b l) (b .start - 8) g, record { sub = b; step = ap firstOf g; start = refl; kind = eqb-true (b .kind) 0xf2 t }), rest))
+      (λ t. ((c .1, here, record { sub = b; step = ap firstOf g; start = refl; kind = eqb-true (b .kind) 0xf2 t }), rest))
       (λ t. rest)
   begins ends p e = tt
   begins (fails t) p e = tt

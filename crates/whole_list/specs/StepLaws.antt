@@ -1,14 +1,14 @@
 -- The tests of a whole list as code makes them: one law for each way of the halving, of the two loops over the area, and of the call.
-use Prim.Native.Nat.{ℕ, zero, suc, _+_, _/_, _<_, _≤_}
+use Prim.Native.Nat.{ℕ, zero, suc, _+_, _-_, _<_, _≤_}
 use mathlib.Core.Path.{_≡_, refl, sym, ap, _∙_}
 use mathlib.Core.List.{List, [], _∷_}
 use mathlib.Core.Bool.{Bool, true, false, cond}
 use native.Mathlib.Omega.{arith}
-use lib.ListN.{length, getD, take, drop, length-take, length-drop}
-use lib.Dec.{ltb, eqb}
-use borrow.Author.Tests.{eqb-false, ne-eqb}
+use lib.ListN.{length, getD}
+use lib.Dec.{ltb, leb, eqb}
+use borrow.Author.Tests.{leb-false, ne-eqb}
 use Rattle.walk.specs.Cases.{tests}
-use Rattle.walk.specs.Listing.{Listing, more, ends, fails, Reply, gave, nothing, refused, gives, none, refuses}
+use Rattle.walk.specs.Listing.{Listing, more, ends, fails, gave, refused, gives, none, refuses}
 use Rattle.refusal.specs.Told.{Told}
 use Rattle.area.specs.Kind.{Sort}
 use Rattle.area.specs.Subs.{Sub, subsFrom, stepAt}
@@ -16,77 +16,92 @@ use Rattle.area.specs.SubsLaws.{sub-next, sub-end, sub-refused}
 use Rattle.lines.specs.Lines.{countLines}
 use Rattle.sort.specs.Rank.{rank}
 use Rattle.order.specs.Order.{startsFrom}
-use Rattle.whole_list.specs.WholeList.{lookAt, halvedIn, halved, allFound, comesBy, comesTo, wholeIn, wholeList}
+use Rattle.whole_list.specs.WholeList.{middle, lookAt, halvedIn, halved, slotBehind, allFound, comesBy, comesTo, wholeIn, wholeList}
 
 -- ---- the halving
 
-module _ (w : ℕ → ℕ) (v : ℕ) where
+module _ (w : ℕ → ℕ) (v : ℕ) (xs : List ℕ) where
   -- both halves are shorter
-  look-same : (f g : List ℕ → Bool) (xs : List ℕ) → ((ys : List ℕ) → length ys < length xs → f ys ≡ g ys) → lookAt w v f xs ≡ lookAt w v g xs
+  look-same : (f g : ℕ → ℕ → ℕ) (a e : ℕ) → ((b c : ℕ) → c - b < e - a → f b c ≡ g b c) → lookAt w v xs f a e ≡ lookAt w v xs g a e
   unfolding lookAt
-  look-same f g xs h = by (eqb (length xs) 0) refl
+  look-same f g a e h = by (leb e a) refl
     where
       m : ℕ
-      m = length xs / 2
+      m = middle a e
 
-      by : (t : Bool) → eqb (length xs) 0 ≡ t
-          → cond t false (cond (eqb (getD xs m 0) v) true (cond (ltb (w (getD xs m 0)) (w v)) (f (drop (m + 1) xs)) (f (take m xs))))
-          ≡ cond t false (cond (eqb (getD xs m 0) v) true (cond (ltb (w (getD xs m 0)) (w v)) (g (drop (m + 1) xs)) (g (take m xs))))
-      by true e = refl
-      by false e =
-          let n = eqb-false (length xs) 0 e in
-          let a = h (drop (m + 1) xs) (simp length-drop (omega arith)) in
-          let b = h (take m xs) (simp length-take (omega arith)) in
-          λ i. cond (eqb (getD xs m 0) v) true (cond (ltb (w (getD xs m 0)) (w v)) (a i) (b i))
+      by : (t : Bool) → leb e a ≡ t
+          → cond t 0 (cond (eqb (getD xs m 0) v) (m + 1) (cond (ltb (w (getD xs m 0)) (w v)) (f (m + 1) e) (f a m)))
+          ≡ cond t 0 (cond (eqb (getD xs m 0) v) (m + 1) (cond (ltb (w (getD xs m 0)) (w v)) (g (m + 1) e) (g a m)))
+      by true q = refl
+      by false q =
+          let l = leb-false e a q in
+          let back = h (m + 1) e (omega arith) in
+          let front = h a m (omega arith) in
+          λ i. cond (eqb (getD xs m 0) v) (m + 1) (cond (ltb (w (getD xs m 0)) (w v)) (back i) (front i))
 
-  settled : (k m : ℕ) (xs : List ℕ) → length xs < k → length xs < m → halvedIn w v k xs ≡ halvedIn w v m xs
+  settled : (k m a e : ℕ) → e - a < k → e - a < m → halvedIn w v xs k a e ≡ halvedIn w v xs m a e
   unfolding halvedIn
-  settled zero m xs h l = absurd (omega arith)
-  settled (suc k) zero xs h l = absurd (omega arith)
-  settled (suc k) (suc m) xs h l = look-same (halvedIn w v k) (halvedIn w v m) xs (λ ys f. settled k m ys (omega arith) (omega arith))
+  settled zero m a e h l = absurd (omega arith)
+  settled (suc k) zero a e h l = absurd (omega arith)
+  settled (suc k) (suc m) a e h l = look-same (halvedIn w v xs k) (halvedIn w v xs m) a e (λ b c f. settled k m b c (omega arith) (omega arith))
 
   -- a look, and then the halving of what is left
-  look : (xs : List ℕ) → lookAt w v (halved w v) xs ≡ halved w v xs
+  look : (a e : ℕ) → lookAt w v xs (halved w v xs) a e ≡ halved w v xs a e
   unfolding halved halvedIn
-  look xs = look-same (halved w v) (halvedIn w v (length xs)) xs (λ ys f. settled (suc (length ys)) (length xs) ys (omega arith) f)
+  look a e = look-same (halved w v xs) (halvedIn w v xs (e - a)) a e (λ b c f. settled (suc (c - b)) (e - a) b c (omega arith) f)
 
-  module _ (xs : List ℕ) where
-    abbrev mid : ℕ
-    mid = length xs / 2
-
-    pub found-none : length xs ≡ 0 → false ≡ halved w v xs
+  module _ (a e : ℕ) where
+    pub halved-none : e ≤ a → 0 ≡ halved w v xs a e
     unfolding lookAt
-    found-none h = sym (simp tests) ∙ look xs
+    halved-none h = sym (simp tests) ∙ look a e
 
-    module _ (h₁ : length xs ≡ 0 → ⊥) where
-      pub found-here : getD xs mid 0 ≡ v → true ≡ halved w v xs
+    module _ (h₁ : a < e) where
+      pub halved-here : getD xs (middle a e) 0 ≡ v → middle a e + 1 ≡ halved w v xs a e
       unfolding lookAt
-      found-here h = sym (simp tests) ∙ look xs
+      halved-here h = sym (simp tests) ∙ look a e
 
-      module _ (h₂ : getD xs mid 0 ≡ v → ⊥) where
-        pub found-behind : ltb (w (getD xs mid 0)) (w v) ≡ true → halved w v (drop (mid + 1) xs) ≡ halved w v xs
+      module _ (h₂ : getD xs (middle a e) 0 ≡ v → ⊥) where
+        pub halved-back : ltb (w (getD xs (middle a e) 0)) (w v) ≡ true → halved w v xs (middle a e + 1) e ≡ halved w v xs a e
         unfolding lookAt
-        found-behind h = sym (simp (tests, h)) ∙ look xs
+        halved-back h = sym (simp (tests, h)) ∙ look a e
 
-        pub found-before : ltb (w (getD xs mid 0)) (w v) ≡ false → halved w v (take mid xs) ≡ halved w v xs
+        pub halved-front : ltb (w (getD xs (middle a e) 0)) (w v) ≡ false → halved w v xs a (middle a e) ≡ halved w v xs a e
         unfolding lookAt
-        found-before h = sym (simp (tests, h)) ∙ look xs
+        halved-front h = sym (simp (tests, h)) ∙ look a e
 
--- ---- the loop of `all_found`: vs are still to be found
+  -- ---- the slot that is looked at first
 
-module _ (w : ℕ → ℕ) (xs vs : List ℕ) where
-  pub all-end : [] ≡ vs → true ≡ allFound w xs vs
+  module _ (n i : ℕ) where
+    pub behind-far : n ≤ i → halved w v xs 0 n ≡ slotBehind w v xs n i
+    unfolding slotBehind
+    behind-far h = sym (simp tests)
+
+    module _ (h₁ : i < n) where
+      pub behind-next : getD xs i 0 ≡ v → i + 1 ≡ slotBehind w v xs n i
+      unfolding slotBehind
+      behind-next h = sym (simp tests)
+
+      pub behind-other : (getD xs i 0 ≡ v → ⊥) → halved w v xs 0 n ≡ slotBehind w v xs n i
+      unfolding slotBehind
+      behind-other h = sym (simp tests)
+
+-- ---- the loop of `all_found`: vs are still to be found, and i is the slot to look at first
+
+module _ (w : ℕ → ℕ) (xs : List ℕ) (n i : ℕ) (vs : List ℕ) where
+  pub all-end : [] ≡ vs → true ≡ allFound w xs n i vs
   unfolding allFound
-  all-end e = ap (allFound w xs) e
+  all-end e = ap (allFound w xs n i) e
 
-  module _ (v : ℕ) (us : List ℕ) (e : v ∷ us ≡ vs) where
-    pub all-on : true ≡ halved w v xs → allFound w xs us ≡ allFound w xs vs
+  module _ (v : ℕ) (us : List ℕ) (e : v ∷ us ≡ vs) (j : ℕ) (f : j ≡ slotBehind w v xs n i) where
+    all-step : cond (eqb j 0) false (allFound w xs n j us) ≡ allFound w xs n i vs
     unfolding allFound
-    all-on h = ap (λ t. cond t (allFound w xs us) false) h ∙ ap (allFound w xs) e
+    all-step = ap (λ k. cond (eqb k 0) false (allFound w xs n k us)) f ∙ ap (allFound w xs n i) e
 
-    pub all-missed : false ≡ halved w v xs → false ≡ allFound w xs vs
-    unfolding allFound
-    all-missed h = ap (λ t. cond t (allFound w xs us) false) h ∙ ap (allFound w xs) e
+    pub all-on : (j ≡ 0 → ⊥) → allFound w xs n j us ≡ allFound w xs n i vs
+    all-on h = sym (simp tests) ∙ all-step
+
+    pub all-missed : j ≡ 0 → false ≡ allFound w xs n i vs
+    all-missed h = sym (simp tests) ∙ all-step
 
 -- ---- the loop of `comes_to`, on an answer of `sub_at`
 
@@ -132,6 +147,6 @@ module _ (rule : ℕ → Sort) (s v : List ℕ) (p : ℕ) where
       whole-elsewhere h = let f = sym h in sym (simp (tests, f)) ∙ ap (wholeIn rule s v p) e
 
       module _ (h₂ : true ≡ comesTo rule s p) where
-        pub whole-is : (t : Bool) → t ≡ allFound (rank s) (take n v) (startsFrom rule s 0) → cond t n 0 ≡ wholeList rule s v p
+        pub whole-is : (t : Bool) → t ≡ allFound (rank s) v n 0 (startsFrom rule s 0) → cond t n 0 ≡ wholeList rule s v p
         unfolding wholeList wholeIn
         whole-is t h = let f = sym h₂ in ap (λ (x : Bool). cond x n 0) h ∙ sym (simp (tests, f)) ∙ ap (wholeIn rule s v p) e

@@ -1,12 +1,12 @@
--- Whether a lent list is whole, as it is tested. Source: document 01, "each look at the middle leaves a shorter span": halving over slots that are in
--- the order of the list. No answer of the library depends on these definitions: they only say when a call may begin its searches elsewhere, and what
--- that rests on is proved of them (WholeListLaws).
+-- What is tested of a lent list before it is called whole. Source: document 01, "each look at the middle leaves a shorter span": halving over sorted
+-- slots. No answer of the library depends on these definitions: they say when a call may begin its searches elsewhere, and that this changes no
+-- answer is proved (WholeListLaws).
 -- Definitions only; a reader must believe them.
-use Prim.Native.Nat.{ℕ, zero, suc, _+_, _/_}
+use Prim.Native.Nat.{ℕ, zero, suc, _+_, _-_, _/_}
 use mathlib.Core.List.{List, [], _∷_}
 use mathlib.Core.Bool.{Bool, true, false, cond}
-use lib.ListN.{length, getD, take, drop}
-use lib.Dec.{ltb, eqb}
+use lib.ListN.{length, getD}
+use lib.Dec.{ltb, leb, eqb}
 use Rattle.walk.specs.Listing.{Listing, more, ends, fails, Reply, gave, nothing, refused}
 use Rattle.refusal.specs.Told.{Told}
 use Rattle.area.specs.Kind.{Sort}
@@ -15,25 +15,33 @@ use Rattle.lines.specs.Lines.{countLines}
 use Rattle.sort.specs.Rank.{rank}
 use Rattle.order.specs.Order.{startsFrom}
 
--- a look at the middle of a span for v, w being the order, and then f of the half that is left
-unfoldable pub lookAt : (ℕ → ℕ) → ℕ → (List ℕ → Bool) → List ℕ → Bool
-lookAt w v f xs =
-    cond (eqb (length xs) 0) false
-    (cond (eqb (getD xs (length xs / 2) 0) v) true
-    (cond (ltb (w (getD xs (length xs / 2) 0)) (w v)) (f (drop (length xs / 2 + 1) xs)) (f (take (length xs / 2) xs))))
+-- a look for v at the middle of the slots from a to e, w being their order, and then f of the half that is left. Where v is found the answer is the
+-- place behind its slot, and else 0
+abbrev pub middle : ℕ → ℕ → ℕ
+middle a e = a + (e - a) / 2
 
--- is v found by halving? In at most k looks, and in as many as it takes
-unfoldable pub halvedIn : (ℕ → ℕ) → ℕ → ℕ → List ℕ → Bool
-halvedIn w v zero xs = false
-halvedIn w v (suc k) xs = lookAt w v (halvedIn w v k) xs
+unfoldable pub lookAt : (ℕ → ℕ) → ℕ → List ℕ → (ℕ → ℕ → ℕ) → ℕ → ℕ → ℕ
+lookAt w v xs f a e =
+    cond (leb e a) 0
+    (cond (eqb (getD xs (middle a e) 0) v) (middle a e + 1)
+    (cond (ltb (w (getD xs (middle a e) 0)) (w v)) (f (middle a e + 1) e) (f a (middle a e))))
 
-unfoldable pub halved : (ℕ → ℕ) → ℕ → List ℕ → Bool
-halved w v xs = halvedIn w v (suc (length xs)) xs
+-- v found by halving: in at most k looks, and in as many as it takes
+unfoldable pub halvedIn : (ℕ → ℕ) → ℕ → List ℕ → ℕ → ℕ → ℕ → ℕ
+halvedIn w v xs zero a e = 0
+halvedIn w v xs (suc k) a e = lookAt w v xs (halvedIn w v xs k) a e
 
--- is each of them?
-unfoldable pub allFound : (ℕ → ℕ) → List ℕ → List ℕ → Bool
-allFound w xs [] = true
-allFound w xs (v ∷ vs) = cond (halved w v xs) (allFound w xs vs) false
+unfoldable pub halved : (ℕ → ℕ) → ℕ → List ℕ → ℕ → ℕ → ℕ
+halved w v xs a e = halvedIn w v xs (suc (e - a)) a e
+
+-- v at the i-th of n slots, or else found by halving
+unfoldable pub slotBehind : (ℕ → ℕ) → ℕ → List ℕ → ℕ → ℕ → ℕ
+slotBehind w v xs n i = cond (ltb i n) (cond (eqb (getD xs i 0) v) (i + 1) (halved w v xs 0 n)) (halved w v xs 0 n)
+
+-- each of them found so, the slot behind the last one found being looked at first
+unfoldable pub allFound : (ℕ → ℕ) → List ℕ → ℕ → ℕ → List ℕ → Bool
+allFound w xs n i [] = true
+allFound w xs n i (v ∷ vs) = cond (eqb (slotBehind w v xs n i) 0) false (allFound w xs n (slotBehind w v xs n i) vs)
 
 -- does a walk over the subsections that stands at p come to q?
 unfoldable pub comesBy : ℕ → ℕ → Listing Sub Told → Bool
@@ -48,7 +56,7 @@ comesTo rule s q = comesBy q 0 (subsFrom rule s 0)
 unfoldable pub wholeIn : (ℕ → Sort) → List ℕ → List ℕ → ℕ → Reply ℕ Told → ℕ
 wholeIn rule s v p (gave n) =
     cond (ltb (length v) n) 0
-    (cond (comesTo rule s p) (cond (allFound (rank s) (take n v) (startsFrom rule s 0)) n 0) 0)
+    (cond (comesTo rule s p) (cond (allFound (rank s) v n 0 (startsFrom rule s 0)) n 0) 0)
 wholeIn rule s v p nothing = 0
 wholeIn rule s v p (refused t) = 0
 
