@@ -1,6 +1,7 @@
 pub mod Cases
 pub mod Listing
 pub mod ListingLaws
+pub mod CallsLaws
 pub mod First
 pub mod FirstLaws
 pub mod Pick
