@@ -4,8 +4,8 @@ use mathlib.Core.Path.{_≡_, refl, sym, ap, _∙_}
 use mathlib.Core.List.{List, [], _∷_, _++_, append-assoc}
 use native.Mathlib.Omega.{arith}
 use native.Mathlib.Nat.{add-assoc}
-use lib.ListN.{length, getD, take, drop, length-append, length-take, length-drop}
-use lib.Seq.{length-take-le, take-at, drop-at, drop-drop, drop-append-add}
+use lib.ListN.{length, getD, take, drop, length-append}
+use lib.Seq.{length-take-le, take-at, drop-drop, drop-append-add}
 use borrow.Author.Tests.{le-leb, eq-eqb, ne-eqb}
 use Rattle.line_record.specs.declared.Length.{Length}
 use Rattle.line_record.specs.declared.Length.the-variants as len
@@ -20,9 +20,9 @@ use Rattle.turns.specs.declared.LineWalk.{LineWalk}
 use Rattle.turns.specs.declared.LineWalk.the-variants as walk
 use Rattle.word.specs.Word.{put, store}
 use Rattle.word.specs.WordLaws.{store-put}
-use Rattle.given.specs.Given.{Given, given, Gives}
+use Rattle.given.specs.Given.{given, Gives}
 use Rattle.given.specs.GivenLaws.{gives-put}
-use Rattle.line_words.specs.LineWords.{lengthWords, columnWords, kindWord, recordWords, heldWords, restWords, placeWords, lineWalkWords, lineWords, recordIn, heldIn, restIn, placeIn, lineWalkIn}
+use Rattle.line_words.specs.LineWords.{lengthWords, columnWords, kindWord, recordWords, heldWords, restWords, lineWalkWords, lineWords, recordIn, heldIn, restIn, placeIn, lineWalkIn}
 
 -- ---- read back
 
