@@ -6,7 +6,10 @@
 //! order of their offsets; exports:N, imports:N, an area of one table of N exports or import words; names:N, a string table of N names.
 
 use c13::calls::{self, GIVEN, LINE_STATE, NONE, RECORD, TABLE_STATE};
-use pdb::{oracle_module, oracle_strings, CrossModuleExport, OracleProbe, C13, FallibleIterator, FileChecksum, FileIndex, FileInfo, LineInfo, LineInfoKind, LineIterator, Local, ModuleInfo, PdbInternalSectionOffset, StringRef, TypeIndex};
+use pdb::{
+    oracle_module, oracle_strings, CrossModuleExport, FallibleIterator, FileChecksum, FileIndex, FileInfo, LineInfo, LineInfoKind, LineIterator,
+    Local, ModuleInfo, OracleProbe, PdbInternalSectionOffset, StringRef, TypeIndex, C13,
+};
 use std::hint::black_box;
 
 /// An answer, of either side, as the numbers that both sides must agree on.
@@ -174,7 +177,8 @@ impl Input {
             Some((thing, n)) => made(thing, n.parse().expect("how many")),
             None => std::fs::read(name).expect("input"),
         };
-        let mut input = Input { bytes, module: None, slots: vec![], symbols: vec![], indices: vec![], locals: vec![], references: vec![], offsets: vec![] };
+        let mut input =
+            Input { bytes, module: None, slots: vec![], symbols: vec![], indices: vec![], locals: vec![], references: vec![], offsets: vec![] };
         if name.ends_with(".names") || name.starts_with("names:") {
             input.names();
         } else {
