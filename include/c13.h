@@ -18,9 +18,10 @@
  *
  * Words that are not named are left as they were. A refused call changes no other lent memory.
  *
- * WALKS. The first words of `out` are the state of a walk; all zeros is a new walk. A call that gives a record puts the next state in front of
- * it, so that calling again with the same `out` gives the next record. At its end a walk leaves its state and answers C13_NONE, again and again; a walk
- * that is refused leaves its state and gives the same refusal again. A state that no call gave is no fault: it has one answer, too.
+ * WALKS. The first words of `out` are the state of a walk; all zeros is a new walk, and a word that is not lent counts as 0. A call that gives a
+ * record puts the next state in front of it, so that calling again with the same `out` gives the next record. At its end a walk leaves its state and
+ * answers C13_NONE, again and again; a walk that is refused leaves its state and gives the same refusal again. A state that no call gave is no
+ * fault: it has one answer, too.
  *
  * An area or a stream of more than 16,777,216 bytes is refused with C13_TOO_LONG, before anything else. */
 #ifndef C13_H
