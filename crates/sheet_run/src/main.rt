@@ -41,7 +41,7 @@ fn end() {
 
 fn refused(why: Refusal) {
     say(b"refused ");
-    number(printed::number(why));
+    number(refusal::number(why));
     match why {
         Refusal::UnknownKind(kind) => number(kind as u64),
         Refusal::UnknownChecksumKind(kind) => number(kind as u64),

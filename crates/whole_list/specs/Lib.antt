@@ -1,0 +1,5 @@
+pub mod WholeList
+pub mod MemberLaws
+pub mod PlacesLaws
+pub mod WholeListLaws
+pub mod StepLaws
