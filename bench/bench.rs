@@ -1,12 +1,15 @@
-//! bench SIDE CASE INPUT REPETITIONS: does CASE over INPUT once and writes how many answers there were and a checksum over all of them, then does
-//! it REPETITIONS times more, with each answer only handed over. bench/run counts the instructions.
+//! bench SIDE CASE INPUT REPETITIONS: does CASE over INPUT once and writes what its count is divided by, how many answers there were and a checksum
+//! over all of them; then does it REPETITIONS times more, with each answer only handed over. bench/run counts the instructions.
 //!
 //! SIDE: rattle, the static library; crate, the crate pdb 0.8.0. Both do the same: a checksum that differs is a fault.
 //! INPUT: a file (an area, or a string table X.names), or one that is made: sorted:N, reversed:N or random:N, an area of N line subsections in that
 //! order of their offsets; exports:N, imports:N, an area of one table of N exports or import words; names:N, a string table of N names.
 
 use c13::calls::{self, GIVEN, LINE_STATE, NONE, RECORD, TABLE_STATE};
-use pdb::{oracle_module, oracle_strings, CrossModuleExport, OracleProbe, C13, FallibleIterator, FileChecksum, FileIndex, FileInfo, LineInfo, LineInfoKind, LineIterator, Local, ModuleInfo, PdbInternalSectionOffset, StringRef, TypeIndex};
+use pdb::{
+    oracle_module, oracle_strings, CrossModuleExport, FallibleIterator, FileChecksum, FileIndex, FileInfo, LineInfo, LineInfoKind, LineIterator,
+    Local, ModuleInfo, OracleProbe, PdbInternalSectionOffset, StringRef, TypeIndex, C13,
+};
 use std::hint::black_box;
 
 /// An answer, of either side, as the numbers that both sides must agree on.
@@ -168,13 +171,20 @@ fn some<T: Copy>(all: &[T], most: usize) -> Vec<T> {
     all.iter().copied().step_by(step.max(1)).collect()
 }
 
+/// The middle one.
+fn middle<T>(all: &[T]) -> &[T] {
+    let at = all.len() / 2;
+    &all[at..at + 1]
+}
+
 impl Input {
     fn new(name: &str) -> Input {
         let bytes = match name.split_once(':') {
             Some((thing, n)) => made(thing, n.parse().expect("how many")),
             None => std::fs::read(name).expect("input"),
         };
-        let mut input = Input { bytes, module: None, slots: vec![], symbols: vec![], indices: vec![], locals: vec![], references: vec![], offsets: vec![] };
+        let mut input =
+            Input { bytes, module: None, slots: vec![], symbols: vec![], indices: vec![], locals: vec![], references: vec![], offsets: vec![] };
         if name.ends_with(".names") || name.starts_with("names:") {
             input.names();
         } else {
@@ -256,9 +266,9 @@ mod rattle {
         let area = black_box(i.bytes.as_slice());
         steps(&mut [0; LINE_STATE + RECORD], |out| calls::c13_next_line(area, slots, out), |out| t.take(&out[LINE_STATE..]));
     }
-    pub fn symbol(i: &Input, slots: &[u32], t: &mut impl Taker) {
+    pub fn symbol(i: &Input, slots: &[u32], symbols: &[(u16, u32)], t: &mut impl Taker) {
         let area = black_box(i.bytes.as_slice());
-        for (section, offset) in &i.symbols {
+        for (section, offset) in symbols {
             let mut out = [0; LINE_STATE + RECORD];
             given(calls::c13_lines_for_symbol(area, slots, *section, *offset, &mut out));
             steps(&mut out, |out| calls::c13_next_line(area, slots, out), |out| t.take(&out[LINE_STATE..]));
@@ -271,9 +281,9 @@ mod rattle {
         let area = black_box(i.bytes.as_slice());
         steps(&mut [0; 9], |out| calls::c13_next_file(area, out), |out| file(area, &out[TABLE_STATE + 1..], t));
     }
-    pub fn file_at(i: &Input, t: &mut impl Taker) {
+    pub fn file_at(i: &Input, indices: &[u32], t: &mut impl Taker) {
         let area = black_box(i.bytes.as_slice());
-        for index in &i.indices {
+        for index in indices {
             let mut out = [0; 4];
             given(calls::c13_file_at(area, *index, &mut out));
             file(area, &out, t);
@@ -283,9 +293,9 @@ mod rattle {
         let area = black_box(i.bytes.as_slice());
         steps(&mut [0; 9], |out| calls::c13_next_inlinee(area, out), |out| t.take(&out[TABLE_STATE..TABLE_STATE + 1]));
     }
-    pub fn imports(i: &Input, t: &mut impl Taker) {
+    pub fn imports(i: &Input, references: &[u32], t: &mut impl Taker) {
         let area = black_box(i.bytes.as_slice());
-        for index in &i.references {
+        for index in references {
             let mut out = [0; 2];
             given(calls::c13_resolve_import(area, *index, &mut out));
             t.take(&out[..]);
@@ -295,9 +305,9 @@ mod rattle {
         let area = black_box(i.bytes.as_slice());
         steps(&mut [0; 7], |out| calls::c13_next_export(area, out), |out| t.take(&out[TABLE_STATE..]));
     }
-    pub fn exports(i: &Input, t: &mut impl Taker) {
+    pub fn exports(i: &Input, locals: &[u32], t: &mut impl Taker) {
         let area = black_box(i.bytes.as_slice());
-        for local in &i.locals {
+        for local in locals {
             let mut out = [0; 2];
             given(calls::c13_resolve_export(area, *local, &mut out));
             t.take(&out[..1]);
@@ -328,8 +338,8 @@ mod rust {
     pub fn walk(program: &pdb::LineProgram<'_>, t: &mut impl Taker) {
         lines(program.lines(), t);
     }
-    pub fn symbol(i: &Input, program: &pdb::LineProgram<'_>, t: &mut impl Taker) {
-        for (section, offset) in &i.symbols {
+    pub fn symbol(symbols: &[(u16, u32)], program: &pdb::LineProgram<'_>, t: &mut impl Taker) {
+        for (section, offset) in symbols {
             lines(program.lines_for_symbol(PdbInternalSectionOffset { section: *section, offset: *offset }), t);
         }
     }
@@ -339,8 +349,8 @@ mod rust {
             t.take(&file);
         }
     }
-    pub fn file_at(i: &Input, program: &pdb::LineProgram<'_>, t: &mut impl Taker) {
-        for index in &i.indices {
+    pub fn file_at(indices: &[u32], program: &pdb::LineProgram<'_>, t: &mut impl Taker) {
+        for index in indices {
             t.take(&program.get_file_info(FileIndex(*index)).expect("file"));
         }
     }
@@ -350,22 +360,27 @@ mod rust {
             t.take(&[inlinee.index().0 as u64][..]);
         }
     }
-    pub fn imports(i: &Input, imports: &pdb::CrossModuleImports<'_>, t: &mut impl Taker) {
-        for index in &i.references {
-            let found = imports.resolve_import(TypeIndex(*index)).expect("reference");
+    pub fn import_table(i: &Input) -> pdb::CrossModuleImports<'_> {
+        black_box(i).module().imports().expect("imports")
+    }
+    pub fn imports(references: &[u32], table: &pdb::CrossModuleImports<'_>, t: &mut impl Taker) {
+        for index in references {
+            let found = table.resolve_import(TypeIndex(*index)).expect("reference");
             t.take(&[(found.0).0 .0 as u64, (found.1).0 .0 as u64][..]);
         }
     }
-    pub fn export_list(i: &Input, t: &mut impl Taker) {
-        let exports = black_box(i).module().exports().expect("exports");
-        let mut all = exports.exports();
+    pub fn export_table(i: &Input) -> pdb::CrossModuleExports {
+        black_box(i).module().exports().expect("exports")
+    }
+    pub fn export_list(table: &pdb::CrossModuleExports, t: &mut impl Taker) {
+        let mut all = table.exports();
         while let Some(export) = all.next().expect("export") {
             t.take(&export);
         }
     }
-    pub fn exports(i: &Input, exports: &pdb::CrossModuleExports, t: &mut impl Taker) {
-        for local in &i.locals {
-            let global = exports.resolve_import(Local(TypeIndex(*local))).expect("export").expect("there");
+    pub fn exports(locals: &[u32], table: &pdb::CrossModuleExports, t: &mut impl Taker) {
+        for local in locals {
+            let global = table.resolve_import(Local(TypeIndex(*local))).expect("export").expect("there");
             t.take(&[global.0 as u64][..]);
         }
     }
@@ -376,17 +391,19 @@ mod rust {
     }
 }
 
-/// Does a case once with a checksum, writes that, and does it again as often as asked.
-fn repeat(repetitions: u64, mut case: impl FnMut(Option<&mut Summed>)) {
+/// Does a case once with a checksum and writes that, with what the count is divided by: the calls if there are any, else the answers. Then does it
+/// again as often as asked.
+fn repeat(repetitions: u64, calls: usize, mut case: impl FnMut(Option<&mut Summed>)) {
     let mut summed = Summed { answers: 0, sum: 0 };
     case(Some(&mut summed));
-    println!("{} {:016x}", summed.answers, summed.sum);
+    let per = if calls == 0 { summed.answers } else { calls as u64 };
+    println!("{per} {} {:016x}", summed.answers, summed.sum);
     (0..repetitions).for_each(|_| case(None));
 }
 
 macro_rules! repeat {
-    ($n:expr, $t:ident => $case:expr) => {
-        repeat($n, |summed| match summed {
+    ($n:expr, $calls:expr, $t:ident => $case:expr) => {
+        repeat($n, $calls, |summed| match summed {
             Some($t) => $case,
             None => {
                 let $t = &mut Handed;
@@ -396,64 +413,91 @@ macro_rules! repeat {
     };
 }
 
+/// The library's side.
+fn rattle_side(case: &str, n: u64, i: &Input, mut slots: Vec<u32>) {
+    let slots = slots.as_mut_slice();
+    match case {
+        "list" => repeat(n, 0, |summed| {
+            rattle::list(i, slots);
+            summed.map_or((), |t| slots.iter().for_each(|s| t.take(&[*s as u64][..])))
+        }),
+        "walk" => repeat!(n, 0, t => rattle::walk(i, slots, t)),
+        "lines" => repeat!(n, 0, t => {
+            rattle::list(i, slots);
+            rattle::walk(i, slots, t)
+        }),
+        "symbol" => repeat!(n, i.symbols.len(), t => rattle::symbol(i, slots, &i.symbols, t)),
+        "one_symbol" => repeat!(n, 1, t => {
+            rattle::list(i, slots);
+            rattle::symbol(i, slots, middle(&i.symbols), t)
+        }),
+        "files" => repeat!(n, 0, t => rattle::files(i, t)),
+        "file_at" => repeat!(n, 0, t => rattle::file_at(i, &i.indices, t)),
+        "one_file_at" => repeat!(n, 1, t => rattle::file_at(i, middle(&i.indices), t)),
+        "inlinees" => repeat!(n, 0, t => rattle::inlinees(i, t)),
+        "import" => repeat!(n, 0, t => rattle::imports(i, &i.references, t)),
+        "one_import" => repeat!(n, 1, t => rattle::imports(i, middle(&i.references), t)),
+        "exports" => repeat!(n, 0, t => rattle::export_list(i, t)),
+        "export" => repeat!(n, 0, t => rattle::exports(i, &i.locals, t)),
+        "one_export" => repeat!(n, 1, t => rattle::exports(i, middle(&i.locals), t)),
+        "name" => repeat!(n, 0, t => rattle::names(i, t)),
+        _ => panic!("case {case}"),
+    }
+}
+
+/// The crate's side.
+fn crate_side(case: &str, n: u64, i: &Input) {
+    match case {
+        "list" => repeat(n, 0, |summed| match summed {
+            // The program does not tell its list, so the oracle's probe does.
+            Some(t) => C13::order(&i.bytes).expect("order").iter().for_each(|s| t.take(&[*s as u64][..])),
+            None => drop(black_box(rust::program(i))),
+        }),
+        "walk" => {
+            let program = rust::program(i);
+            repeat!(n, 0, t => rust::walk(&program, t))
+        }
+        "lines" => repeat!(n, 0, t => rust::walk(&rust::program(i), t)),
+        "symbol" => {
+            let program = rust::program(i);
+            repeat!(n, i.symbols.len(), t => rust::symbol(&i.symbols, &program, t))
+        }
+        "one_symbol" => repeat!(n, 1, t => rust::symbol(middle(&i.symbols), &rust::program(i), t)),
+        "files" => repeat!(n, 0, t => rust::files(&rust::program(i), t)),
+        "file_at" => {
+            let program = rust::program(i);
+            repeat!(n, 0, t => rust::file_at(&i.indices, &program, t))
+        }
+        "one_file_at" => repeat!(n, 1, t => rust::file_at(middle(&i.indices), &rust::program(i), t)),
+        "inlinees" => repeat!(n, 0, t => rust::inlinees(i, t)),
+        "import" => {
+            let table = rust::import_table(i);
+            repeat!(n, 0, t => rust::imports(&i.references, &table, t))
+        }
+        "one_import" => repeat!(n, 1, t => rust::imports(middle(&i.references), &rust::import_table(i), t)),
+        "exports" => repeat!(n, 0, t => rust::export_list(&rust::export_table(i), t)),
+        "export" => {
+            let table = rust::export_table(i);
+            repeat!(n, 0, t => rust::exports(&i.locals, &table, t))
+        }
+        "one_export" => repeat!(n, 1, t => rust::exports(middle(&i.locals), &rust::export_table(i), t)),
+        "name" => {
+            let table = oracle_strings(&i.bytes).expect("table");
+            repeat!(n, 0, t => rust::names(i, &table, t))
+        }
+        _ => panic!("case {case}"),
+    }
+}
+
 fn main() {
     let words: Vec<String> = std::env::args().collect();
     let [_, side, case, name, n] = &words[..] else { panic!("usage: bench rattle|crate CASE INPUT REPETITIONS") };
     let n: u64 = n.parse().expect("repetitions");
     let mut input = Input::new(name);
-    let mut slots = std::mem::take(&mut input.slots);
-    let i = &input;
-    match (side.as_str(), case.as_str()) {
-        ("rattle", "list") => repeat(n, |summed| {
-            rattle::list(i, &mut slots);
-            summed.map_or((), |t| slots.iter().for_each(|s| t.take(&[*s as u64][..])))
-        }),
-        ("rattle", "walk") => repeat!(n, t => rattle::walk(i, &slots, t)),
-        ("rattle", "lines") => repeat!(n, t => {
-            rattle::list(i, &mut slots);
-            rattle::walk(i, &slots, t)
-        }),
-        ("rattle", "symbol") => repeat!(n, t => rattle::symbol(i, &slots, t)),
-        ("rattle", "files") => repeat!(n, t => rattle::files(i, t)),
-        ("rattle", "file_at") => repeat!(n, t => rattle::file_at(i, t)),
-        ("rattle", "inlinees") => repeat!(n, t => rattle::inlinees(i, t)),
-        ("rattle", "imports") => repeat!(n, t => rattle::imports(i, t)),
-        ("rattle", "export_list") => repeat!(n, t => rattle::export_list(i, t)),
-        ("rattle", "exports") => repeat!(n, t => rattle::exports(i, t)),
-        ("rattle", "names") => repeat!(n, t => rattle::names(i, t)),
-        ("crate", "list") => repeat(n, |summed| match summed {
-            // The program does not tell its list, so the oracle's probe does.
-            Some(t) => C13::order(&i.bytes).expect("order").iter().for_each(|s| t.take(&[*s as u64][..])),
-            None => drop(black_box(rust::program(i))),
-        }),
-        ("crate", "walk") => {
-            let program = rust::program(i);
-            repeat!(n, t => rust::walk(&program, t))
-        }
-        ("crate", "lines") => repeat!(n, t => rust::walk(&rust::program(i), t)),
-        ("crate", "symbol") => {
-            let program = rust::program(i);
-            repeat!(n, t => rust::symbol(i, &program, t))
-        }
-        ("crate", "files") => repeat!(n, t => rust::files(&rust::program(i), t)),
-        ("crate", "file_at") => {
-            let program = rust::program(i);
-            repeat!(n, t => rust::file_at(i, &program, t))
-        }
-        ("crate", "inlinees") => repeat!(n, t => rust::inlinees(i, t)),
-        ("crate", "imports") => {
-            let imports = i.module().imports().expect("imports");
-            repeat!(n, t => rust::imports(i, &imports, t))
-        }
-        ("crate", "export_list") => repeat!(n, t => rust::export_list(i, t)),
-        ("crate", "exports") => {
-            let exports = i.module().exports().expect("exports");
-            repeat!(n, t => rust::exports(i, &exports, t))
-        }
-        ("crate", "names") => {
-            let table = oracle_strings(&i.bytes).expect("table");
-            repeat!(n, t => rust::names(i, &table, t))
-        }
-        _ => panic!("no case {case} of {side}"),
+    let slots = std::mem::take(&mut input.slots);
+    match side.as_str() {
+        "rattle" => rattle_side(case, n, &input, slots),
+        "crate" => crate_side(case, n, &input),
+        _ => panic!("side {side}"),
     }
 }

@@ -59,7 +59,16 @@ mod slots {
     extern "C" {
         pub fn c13_order_list(area: *const u8, len: usize, slots: *mut u32, n: usize, out: *mut u64, words: usize) -> u32;
         pub fn c13_next_line(area: *const u8, len: usize, slots: *const u32, n: usize, out: *mut u64, words: usize) -> u32;
-        pub fn c13_lines_for_symbol(area: *const u8, len: usize, slots: *const u32, n: usize, section: u16, offset: u32, out: *mut u64, words: usize) -> u32;
+        pub fn c13_lines_for_symbol(
+            area: *const u8,
+            len: usize,
+            slots: *const u32,
+            n: usize,
+            section: u16,
+            offset: u32,
+            out: *mut u64,
+            words: usize,
+        ) -> u32;
     }
 }
 
