@@ -3,3 +3,5 @@ pub mod MemberLaws
 pub mod PlacesLaws
 pub mod WholeListLaws
 pub mod StepLaws
+pub mod Begin
+pub mod BeginLaws

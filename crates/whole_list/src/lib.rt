@@ -9,6 +9,7 @@ ghost use Rattle.area.specs.Kind.{ruled};
 ghost use Rattle.order.specs.Order.{startsFrom};
 ghost use Rattle.sort.specs.Rank.{rank};
 ghost use Rattle.whole_list.specs.WholeList.{halved, slotBehind, allFound, comesTo, wholeList};
+ghost use Rattle.whole_list.specs.Begin.{goesBack, backs, tested, beginAt};
 use area::SubStep;
 use area::sub_at;
 use lines::Counted;
@@ -126,4 +127,54 @@ pub fn whole_list(area: &[u8], slots: &[u32], scan: usize) -> usize
         }
         Counted::Refused(_) => 0,
     }
+}
+
+// 1 where y lies before x.
+fn back(x: u32, y: u32) -> usize
+    ensures { λ r. ⌜ r ≡ goesBack x y ⌝ }
+{
+    if y < x {
+        return 1;
+    }
+    0
+}
+
+// How often a slot lies before the one in front of it.
+fn backs_of(slots: &[u32]) -> usize
+    ensures { λ r. ⌜ r ≡ backs (now (slots .entry)) ⌝ }
+{
+    let mut n: usize = 0;
+    let mut i: usize = 1;
+    while i < slots.len() {
+        n += back(slots[i - 1], slots[i]);
+        i += 1;
+    }
+    n
+}
+
+// As `whole_list` where the test is worth it. A list that hardly goes back in the area is found in few passes over it, and is not tested: 0.
+pub fn tested_list(area: &[u8], slots: &[u32], scan: usize) -> usize
+    ensures { λ r. ⌜ r ≡ tested ruled (now (area .entry)) (now (slots .entry)) scan ⌝ }
+{
+    if backs_of(slots) < 16 {
+        return 0;
+    }
+    whole_list(area, slots, scan)
+}
+
+// Where the search for the body that a slot names may begin: of the first `whole` slots at the body's own header, else at `scan`.
+pub fn begin_at(slots: &[u32], whole: usize, slot: usize, scan: usize) -> usize
+    ensures { λ r. ⌜ r ≡ beginAt (now (slots .entry)) whole slot scan ⌝ }
+{
+    if whole <= slot {
+        return scan;
+    }
+    if slots.len() <= slot {
+        return scan;
+    }
+    let body = slots[slot] as usize;
+    if body < 8 {
+        return scan;
+    }
+    body - 8
 }
