@@ -1,6 +1,6 @@
 -- Laws of where a search begins: each way out of the code's tests, the loop that counts, and that a search from there finds the same.
 use Prim.Native.Nat.{ℕ, zero, suc, _+_, _-_, _<_, _≤_}
-use mathlib.Core.Path.{_≡_, refl, sym, ap, _∙_}
+use mathlib.Core.Path.{_≡_, refl, sym, ap, _∙_, subst⁻¹}
 use mathlib.Core.List.{List, [], _∷_}
 use mathlib.Core.Bool.{cond}
 use native.Mathlib.Omega.{arith}
@@ -56,13 +56,17 @@ module _ (rule : ℕ → Sort) (s v : List ℕ) (p : ℕ) where
   tested-le = by-cases (λ (k : ℕ). k ≤ wholeList rule s v p) (ltb (backs v) 16) (λ e. omega arith) (λ e. omega arith)
 
   -- a search that may begin at q may begin there
-  pub begin-right : (i q : ℕ) → Scans rule s q → Scans rule s (beginAt v (tested rule s v p) i q)
+  begin-right : (i q : ℕ) → Scans rule s q → Scans rule s (beginAt v (tested rule s v p) i q)
   unfolding beginAt
   begin-right i q g =
       by-cases (Scans rule s) (leb (tested rule s v p) i) (λ e. g)
       (λ e. by-cases (Scans rule s) (leb (length v) i) (λ f. g)
       (λ f. by-cases (Scans rule s) (ltb (getD v i 0) 8) (λ h. g)
       (λ h. hint-right rule s v p i (omega (arith, leb-false (tested rule s v p) i e, tested-le)) .1)))
+
+  -- the same as code has it: n is what was tested, and b where the search begins
+  pub begin-scans : (n i q b : ℕ) → n ≡ tested rule s v p → Scans rule s q → b ≡ beginAt v n i q → Scans rule s b
+  begin-scans n i q b e g h = subst⁻¹ (Scans rule s) (h ∙ ap (λ (k : ℕ). beginAt v k i q) e) (begin-right i q g)
 
 pub back-most : (x y : ℕ) → goesBack x y ≤ 1
 unfolding goesBack
