@@ -86,7 +86,7 @@ module _ (rule : ℕ → Sort) (s v : List ℕ) where
   subLines : ℕ → Listing Pieces Told
   subLines p = andThen (mapped subRow same (subsFrom rule s p)) (fileLines table.New)
 
-  linesFrom : TextWalk → Listing Pieces Told
+  pub linesFrom : TextWalk → Listing Pieces Told
   linesFrom Head =
       cond (ltb mostBytes (length s)) (more (refusal (told why.TooLong)) ends) (more (headLine (length s)) (closing (subLines 0)))
   linesFrom (Subs p) = closing (subLines p)
@@ -123,7 +123,7 @@ module _ (rule : ℕ → Sort) (s v : List ℕ) where
   unfolding linesFrom subLines
   subs-right p = stage-right Subs subRow (subsFrom rule s) (fileLines table.New) (filesStep rule s v table.New) (λ t. refl) (files-right table.New) (subsFrom rule s p) (stepAt rule s p) (subs-step p)
 
-  text-right : (w : TextWalk) → linesFrom w ≡ onMove linesFrom (moved (stepOf rule s v w))
+  pub text-right : (w : TextWalk) → linesFrom w ≡ onMove linesFrom (moved (stepOf rule s v w))
   unfolding linesFrom headStep
   text-right Head = by (ltb mostBytes (length s))
     where
@@ -173,7 +173,7 @@ records-built rule s xs room (gave n) e a =
 records-built rule s xs room nothing e a = absurd a
 records-built rule s xs room (refused t) e a = rw e
 
-lines-new : (rule : ℕ → Sort) (s xs : List ℕ) → Room rule s xs → linesFrom rule s (slotsAfter rule s xs) Head ≡ linesOf rule s
+pub lines-new : (rule : ℕ → Sort) (s xs : List ℕ) → Room rule s xs → linesFrom rule s (slotsAfter rule s xs) Head ≡ linesOf rule s
 unfolding linesFrom linesOf subLines fileLines recordLines
 lines-new rule s xs room =
     let v = slotsAfter rule s xs in
