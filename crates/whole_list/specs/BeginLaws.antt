@@ -12,7 +12,7 @@ use Rattle.walk.specs.Cases.{tests, by-cases}
 use Rattle.area.specs.Kind.{Sort}
 use Rattle.lines.specs.SlotsLaws.{Scans}
 use Rattle.whole_list.specs.WholeList.{wholeList}
-use Rattle.whole_list.specs.WholeListLaws.{hint-right}
+use Rattle.whole_list.specs.WholeListLaws.{hint-right, scan-right}
 use Rattle.whole_list.specs.Begin.{goesBack, backsBehind, backs, tested, beginAt}
 
 module _ (v : List ℕ) (n i p : ℕ) where
@@ -54,6 +54,10 @@ module _ (rule : ℕ → Sort) (s v : List ℕ) (p : ℕ) where
   tested-le : tested rule s v p ≤ wholeList rule s v p
   unfolding tested
   tested-le = by-cases (λ (k : ℕ). k ≤ wholeList rule s v p) (ltb (backs v) 16) (λ e. omega arith) (λ e. omega arith)
+
+  -- the place that was tested is one at which a search may begin
+  pub tested-right : 0 < tested rule s v p → Scans rule s p
+  tested-right h = scan-right rule s v p (omega (arith, tested-le))
 
   -- a search that may begin at q may begin there
   begin-right : (i q : ℕ) → Scans rule s q → Scans rule s (beginAt v (tested rule s v p) i q)
