@@ -1,67 +1,9 @@
 //! ours < CASES: answers cases through the static library of the crate `c13`, in the oracle's form (oracle/README.md).
 
+use c13::calls::{self, LINE_STATE, SUB_STATE, TABLE_STATE};
 use std::collections::HashMap;
 use std::fmt::Write as _;
 use std::io::{BufRead, BufReader, BufWriter, Write};
-
-/// The exported calls, on safe slices. A Rattle slice is two C parameters: the pointer and the length.
-mod calls {
-    macro_rules! calls {
-        ($($name:ident($first:ident $(, $arg:ident: $type:ty)*);)*) => {
-            mod raw {
-                extern "C" {
-                    $(pub fn $name($first: *const u8, n: usize, $($arg: $type,)* out: *mut u64, m: usize) -> u32;)*
-                }
-            }
-            $(pub fn $name($first: &[u8], $($arg: $type,)* out: &mut [u64]) -> u32 {
-                unsafe { raw::$name($first.as_ptr(), $first.len(), $($arg,)* out.as_mut_ptr(), out.len()) }
-            })*
-        };
-    }
-
-    /// The call that writes slots, and those that read them.
-    pub fn c13_order_list(area: &[u8], slots: &mut [u32], out: &mut [u64]) -> u32 {
-        extern "C" {
-            #[link_name = "c13_order_list"]
-            fn raw(area: *const u8, n: usize, slots: *mut u32, k: usize, out: *mut u64, m: usize) -> u32;
-        }
-        unsafe { raw(area.as_ptr(), area.len(), slots.as_mut_ptr(), slots.len(), out.as_mut_ptr(), out.len()) }
-    }
-
-    pub fn c13_next_line(area: &[u8], slots: &[u32], out: &mut [u64]) -> u32 {
-        extern "C" {
-            #[link_name = "c13_next_line"]
-            fn raw(area: *const u8, n: usize, slots: *const u32, k: usize, out: *mut u64, m: usize) -> u32;
-        }
-        unsafe { raw(area.as_ptr(), area.len(), slots.as_ptr(), slots.len(), out.as_mut_ptr(), out.len()) }
-    }
-
-    pub fn c13_lines_for_symbol(area: &[u8], slots: &[u32], section: u16, offset: u32, out: &mut [u64]) -> u32 {
-        extern "C" {
-            #[link_name = "c13_lines_for_symbol"]
-            fn raw(area: *const u8, n: usize, slots: *const u32, k: usize, section: u16, offset: u32, out: *mut u64, m: usize) -> u32;
-        }
-        unsafe { raw(area.as_ptr(), area.len(), slots.as_ptr(), slots.len(), section, offset, out.as_mut_ptr(), out.len()) }
-    }
-
-    calls! {
-        c13_next_sub(area);
-        c13_next_file(area);
-        c13_file_at(area, index: u32);
-        c13_next_inlinee(area);
-        c13_next_import(area);
-        c13_word(area, words: usize, count: usize, i: usize);
-        c13_resolve_import(area, index: u32);
-        c13_next_export(area);
-        c13_export_count(area);
-        c13_resolve_export(area, local: u32);
-        c13_module_symbols(stream, symbols: u32, c11: u32, c13: u32);
-        c13_lines_part(stream, symbols: u32, c11: u32, c13: u32);
-        c13_tables_part(stream, symbols: u32, c11: u32, c13: u32);
-        c13_string_table(stream);
-        c13_name(stream, offset: u32);
-    }
-}
 
 /// The words lent to a call: a walk's state in front, and the answer.
 struct Words([u64; 40]);
@@ -260,9 +202,6 @@ fn line_text(r: &[u64]) -> String {
     )
 }
 
-/// The words of a line walk's state.
-const LINE_STATE: usize = 27;
-
 /// Files and lines.
 fn lines(b: &mut Block, case: &Case, area: &[u8]) {
     match order(area) {
@@ -294,7 +233,7 @@ fn lines(b: &mut Block, case: &Case, area: &[u8]) {
             }
         }
     }
-    b.walk("file", 4, |w| calls::c13_next_file(area, &mut w.0), |r| format!("{} {}", r[0], file_text(area, &r[1..])));
+    b.walk("file", TABLE_STATE, |w| calls::c13_next_file(area, &mut w.0), |r| format!("{} {}", r[0], file_text(area, &r[1..])));
     for index in case.list("files") {
         let i: u32 = index.parse().expect("index");
         b.one(&format!("info {index}"), |w| calls::c13_file_at(area, i, &mut w.0), |r| file_text(area, r), "");
@@ -303,17 +242,17 @@ fn lines(b: &mut Block, case: &Case, area: &[u8]) {
 
 /// Inlinees, imports and exports.
 fn tables(b: &mut Block, case: &Case, area: &[u8]) {
-    b.walk("inlinee", 4, |w| calls::c13_next_inlinee(area, &mut w.0), |r| {
+    b.walk("inlinee", TABLE_STATE, |w| calls::c13_next_inlinee(area, &mut w.0), |r| {
         format!("{} {} {} {}", r[0], r[1], r[2], words_of(area, r[3], r[4], |w| w.to_string()))
     });
-    b.walk("import", 4, |w| calls::c13_next_import(area, &mut w.0), |r| {
+    b.walk("import", TABLE_STATE, |w| calls::c13_next_import(area, &mut w.0), |r| {
         format!("{} {}", r[0], words_of(area, r[1], r[2], |w| format!("{w:x}")))
     });
     for index in case.list("imports") {
         let i = u32::from_str_radix(index, 16).expect("index in hex");
         b.one(&format!("resolve {index}"), |w| calls::c13_resolve_import(area, i, &mut w.0), |r| format!("{} {:x}", r[0], r[1]), "");
     }
-    b.walk("export", 4, |w| calls::c13_next_export(area, &mut w.0), |r| {
+    b.walk("export", TABLE_STATE, |w| calls::c13_next_export(area, &mut w.0), |r| {
         format!("{} {:x} {:x}", ["type", "id"][r[0] as usize], r[1], r[2])
     });
     b.one("exports", |w| calls::c13_export_count(area, &mut w.0), |r| r[0].to_string(), "");
@@ -327,7 +266,7 @@ fn area_case(b: &mut Block, case: &Case) {
     let held = case.bytes();
     let area = held.bytes();
     b.put(&format!("case {} area {}", case.id, area.len()));
-    b.walk("sub", 1, |w| calls::c13_next_sub(area, &mut w.0), |r| format!("{:x} {} {}", r[0], r[1], r[2]));
+    b.walk("sub", SUB_STATE, |w| calls::c13_next_sub(area, &mut w.0), |r| format!("{:x} {} {}", r[0], r[1], r[2]));
     let order = match order(area) {
         Ok(slots) if slots.is_empty() => "-".to_string(),
         Ok(slots) => slots.iter().map(|s| s.to_string()).collect::<Vec<_>>().join(" "),

@@ -25,7 +25,6 @@ use Rattle.table.specs.Whole.{ofBody}
 use Rattle.rows.specs.CollectLaws.{mapped-same, mapped-mapped}
 use Rattle.body.specs.Lines.{lineHead, columned, blocks}
 use Rattle.body.specs.Checksums.{checksums}
-use Rattle.body.specs.Inlinees.{inlinees}
 use Rattle.body.specs.Imports.{modules}
 use Rattle.body.specs.Exports.{pairs}
 use Rattle.exports.specs.Exports.{pairsOf}

@@ -1,9 +1,9 @@
 -- Laws of the bytes of subsections: `parts` undoes `join`, and `join` undoes `parts`.
-use Prim.Native.Nat.{ℕ, _+_, _-_, _<_, _≤_}
+use Prim.Native.Nat.{ℕ, _+_, _-_}
 use mathlib.Core.Path.{_≡_, refl, sym, ap, _∙_}
 use mathlib.Core.List.{List, [], _∷_, _++_, append-assoc, append-nil}
 use native.Mathlib.Omega.{arith}
-use lib.ListN.{length, take, drop, length-append, length-drop, take-append-drop}
+use lib.ListN.{length, take, drop, length-append, take-append-drop}
 use lib.Seq.{drop-drop, drop-at, take-add, take-append-seam, drop-append-seam}
 use borrow.Author.Tests.{le-ltb, ne-eqb}
 use Rattle.word.specs.Word.{u32At}

@@ -1,25 +1,25 @@
 -- Laws of an area from a place on, as code reads it: one step (`headAt`), the whole, where its numbers lie, and the bodies at its places.
 use Prim.Native.Nat.{ℕ, _+_, _-_, _<_, _≤_}
 use mathlib.Core.Path.{_≡_, refl, sym, ap, _∙_, subst⁻¹}
-use mathlib.Core.List.{List, [], _∷_}
-use mathlib.Core.Bool.{Bool, true, false, cond, _&&_}
+use mathlib.Core.List.{List}
+use mathlib.Core.Bool.{Bool, true, false, cond}
 use native.Mathlib.Omega.{arith}
 use native.Mathlib.Nat.{add-zero, add-assoc}
 use lib.ListN.{length, take, drop, length-drop}
 use lib.Seq.{drop-drop, length-take-le}
-use lib.Dec.{ltb, leb, eqb}
-use borrow.Author.Tests.{lt-ltb, le-ltb, ltb-true, ltb-false}
+use lib.Dec.{ltb}
+use borrow.Author.Tests.{ltb-true, ltb-false}
 use Rattle.word.specs.Word.{u32At}
 use Rattle.word.specs.WordLaws.{u32-drop}
 use Rattle.walk.specs.Cases.{by-cases, tests}
-use Rattle.walk.specs.Listing.{Move, item, pass, over, fail, Listing, more, ends, fails, Answer, gives, none, refuses, onMove, mapped, moved, all, calls, replies}
+use Rattle.walk.specs.Listing.{Move, item, pass, over, fail, Listing, more, ends, fails, gives, none, refuses, onMove, mapped, moved, all, calls, replies}
 use Rattle.walk.specs.ListingLaws.{To, Every, all-ind, all-unique, calls-are}
 use Rattle.refusal.specs.Told.{Told, told, longest, numberOf}
 use Rattle.refusal.specs.declared.Refusal.the-variants as why
-use Rattle.area.specs.Parts.{Raw, Lack, noHead, noBody, Parts, bite, parts}
+use Rattle.area.specs.Parts.{Raw, Lack, Parts, bite, parts}
 use Rattle.area.specs.PartsLaws.{parts-step, parts-ind, Bitten, bitten}
 use Rattle.area.specs.Kind.{Sort, known, skipped, unknown, onSort, ruled}
-use Rattle.area.specs.Subs.{Sub, subOf, placed, subsFrom, firstOf, stepAt, after, bodiesIn, bodies}
+use Rattle.area.specs.Subs.{Sub, subOf, placed, subsFrom, firstOf, stepAt, bodiesIn, bodies}
 
 -- a whole subsection of kind k at p with n bytes of body
 unfoldable pub wholeAs : (ℕ → Sort) → ℕ → ℕ → ℕ → Move ℕ Sub Told

@@ -1,6 +1,6 @@
 -- What each answer of this crate tells: document 01's numbers and values. Nothing is lost on the way (`untold-..`), so no second answer tells
 -- the same.
-use Prim.Native.Nat.{ℕ, _+_}
+use Prim.Native.Nat.{ℕ}
 use mathlib.Core.Path.{_≡_, refl, sym, ap, _∙_}
 use Rattle.walk.specs.Listing.{Move, item, pass, over, fail, Answer, gives, none, refuses}
 use Rattle.refusal.specs.Told.{Told, told}

@@ -3,7 +3,7 @@
 -- countOfExtraFiles and that many fileIds); document 01, "Checksums, inlinees": whatever is cut is 1, and only the signature 1 has extra files.
 -- Definitions only; a reader must believe them.
 use Prim.Native.Nat.{ℕ, _+_, _-_, _*_}
-use mathlib.Core.List.{List, [], _∷_, _++_}
+use mathlib.Core.List.{List, [], _++_}
 use mathlib.Core.Bool.{Bool, true, false, cond}
 use lib.ListN.{length, drop}
 use lib.Dec.{ltb, eqb}

@@ -5,7 +5,7 @@ use mathlib.Core.List.{List, [], _∷_, _++_, append-assoc, append-nil}
 use native.Mathlib.Omega.{arith}
 use lib.ListN.{length, drop, length-drop}
 use Rattle.word.specs.WordLaws.{Bytes}
-use Rattle.walk.specs.Listing.{Move, item, pass, over, fail, more, ends, fails, onMove, before, all}
+use Rattle.walk.specs.Listing.{Move, item, pass, over, fail, more, ends, onMove, before, all}
 use Rattle.walk.specs.ListingLaws.{To, all-step, all-ind}
 use Rattle.refusal.specs.Told.{Told}
 

@@ -26,8 +26,8 @@ use Rattle.body.specs.LinesLaws.{Filled}
 use Rattle.body.specs.InlineesLaws.{Fits}
 use Rattle.reading.specs.Reading.{Item, openLines, block, openChecksums, checksum, openInlinees, inlinee, openImports, imports, openExports, exports, opaque, reading}
 use Rattle.plain.specs.Plain.{sizeOf, Last, nothing-yet, plainOf}
-use Rattle.writer.specs.Calls.{kindOf, begins, bytesFor, blockRule, checksumRule, obeys, goes, stops, limit, place, ofKind, room, ruled as obeyed-room, needs, onLast, act, grown, patch}
-use Rattle.writer.specs.CallLaws.{room-there}
+use Rattle.calls.specs.Calls.{kindOf, begins, bytesFor, blockRule, checksumRule, obeys, goes, stops, limit, place, ofKind, room, ruled as obeyed-room, needs, onLast, act, grown, patch}
+use Rattle.calls.specs.CallLaws.{room-there}
 use Rattle.demand.specs.Secs.{Sec, linesOf, checksumsOf, inlineesOf, importsOf, exportsOf, opaqueOf, kindSec, bodySec, rawSec, callsSec, Sized, Ascend, floorAfter, GoodSec, markSec, rawsOf, callsOf, lastOf}
 use Rattle.demand.specs.SecLaws.{reads-join}
 use Rattle.demand.specs.Run.{State, called, run, empty, written, accepted}

@@ -1,5 +1,5 @@
 -- A plain area of bytes is the bytes of subsections of good form.
-use Prim.Native.Nat.{ℕ, _+_, _-_, _%_}
+use Prim.Native.Nat.{ℕ, _+_, _%_}
 use mathlib.Core.Path.{_≡_, refl, sym, ap, _∙_}
 use mathlib.Core.List.{List, [], _∷_, _++_}
 use mathlib.Core.Bool.{Bool, true, false, cond, _&&_}
@@ -10,6 +10,7 @@ use lib.Dec.{ltb, leb, eqb}
 use borrow.Author.Tests.{ltb-false, leb-true, eqb-true}
 use Rattle.word.specs.Word.{u16At, u32At, le16, le32}
 use Rattle.word.specs.WordLaws.{Bytes, bytes-drop, u16-drop, le16-u16, header}
+use Rattle.walk.specs.Cases.{and-true}
 use Rattle.walk.specs.Listing.{Move, item, pass, over, fail, Listing, more, ends, fails, before, all}
 use Rattle.refusal.specs.Told.{Told, told}
 use Rattle.refusal.specs.declared.Refusal.the-variants as why
@@ -39,10 +40,6 @@ no-some e = let z : _≡_ {A = ℕ} 0 1 = cc in absurd (omega arith)
 
 no-true : {A : Type 0} → _≡_ {A = Bool} false true → A
 no-true e = let z : _≡_ {A = ℕ} 0 1 = cc in absurd (omega arith)
-
-and-true : (a b : Bool) → a && b ≡ true → (a ≡ true) × (b ≡ true)
-and-true true b e = (refl, e)
-and-true false b e = no-true e
 
 marked-some : (t : Bool) (x m : ℕ) → marked t x ≡ some m → t ≡ true
 marked-some true x m q = refl

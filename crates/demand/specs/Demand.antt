@@ -20,7 +20,7 @@ use Rattle.area.specs.Parts.{parts}
 use Rattle.area.specs.Kind.{ruled}
 use Rattle.reading.specs.Reading.{Item, reading}
 use Rattle.plain.specs.Plain.{Last, nothing-yet, plainFrom, plainOf, Plain}
-use Rattle.writer.specs.Calls.{answered, after}
+use Rattle.calls.specs.Calls.{answered, after}
 use Rattle.demand.specs.Run.{run, empty, written, accepted}
 use Rattle.demand.specs.RoundLaws.{round-trip, before-one}
 use Rattle.demand.specs.AgainLaws.{made-again}

@@ -15,8 +15,8 @@ use Rattle.refusal.specs.Told.{Told, told}
 use Rattle.refusal.specs.declared.Refusal.the-variants as why
 use Rattle.reading.specs.Reading.{Item}
 use Rattle.plain.specs.Plain.{Last}
-use Rattle.writer.specs.Calls.{kindOf, begins, bytesFor, obeys, Act, goes, stops, needs, act, grown, patch, wrote, kept, answered, after, lastFor, room, ruled, onLast, limit}
-use Rattle.writer.specs.CallLaws.{act-goes, grow-goes}
+use Rattle.calls.specs.Calls.{kindOf, begins, bytesFor, obeys, Act, goes, stops, needs, act, grown, patch, wrote, kept, answered, after, lastFor, room, ruled, onLast, limit}
+use Rattle.calls.specs.CallLaws.{act-goes, grow-goes}
 use Rattle.demand.specs.RoundLaws.{kind-some, grow-is}
 
 never : {A : Type 0} {n : ℕ} {t : Told} → _≡_ {A = Reply ℕ Told} (gave n) (refused t) → A

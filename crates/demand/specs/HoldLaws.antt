@@ -24,8 +24,8 @@ use Rattle.body.specs.LinesLaws.{Filled}
 use Rattle.body.specs.InlineesLaws.{Fits}
 use Rattle.reading.specs.Reading.{Item, openLines, block, openChecksums, checksum, openInlinees, inlinee, openImports, imports, openExports, exports, opaque}
 use Rattle.plain.specs.Plain.{isOpaque, Last}
-use Rattle.writer.specs.Calls.{kindOf, begins, bytesFor, blockRule, obeys, grown}
-use Rattle.writer.specs.CallLaws.{fits-size, fits-block, fits-opaque}
+use Rattle.calls.specs.Calls.{kindOf, begins, bytesFor, blockRule, obeys, grown}
+use Rattle.calls.specs.CallLaws.{fits-size, fits-block, fits-opaque}
 use Rattle.writer.specs.LentLaws.{put-at}
 use Rattle.demand.specs.Secs.{Sec, linesOf, checksumsOf, inlineesOf, importsOf, exportsOf, opaqueOf, kindSec, bodySec, rawSec, callsSec, Sized, Ascend, floorAfter, GoodSec, markSec, rawsOf, callsOf, lastOf}
 

@@ -10,7 +10,7 @@ use lib.ListN.{length, take, length-append}
 use lib.Seq.{length-take-le}
 use Rattle.word.specs.Word.{le32, put}
 use Rattle.word.specs.WordLaws.{header, header-length, le32-length, put-length}
-use Rattle.walk.specs.Listing.{Listing, more, ends, before}
+use Rattle.walk.specs.Listing.{Listing, ends, before}
 use Rattle.refusal.specs.Told.{Told, told}
 use Rattle.refusal.specs.declared.Refusal.the-variants as why
 use Rattle.area.specs.Kind.{ruled}
@@ -18,8 +18,8 @@ use Rattle.area.specs.Join.{join}
 use Rattle.body.specs.RunLaws.{Each, each-snoc}
 use Rattle.reading.specs.Reading.{Item, openLines, block, openChecksums, checksum, openInlinees, inlinee, openImports, imports, openExports, exports, opaque, reading}
 use Rattle.plain.specs.Plain.{Last, nothing-yet, plainOf}
-use Rattle.writer.specs.Calls.{kindOf, begins, bytesFor, obeys, Act, goes, stops, limit, place, ofKind, room, ruled as obeyed-room, needs, onLast, act, grown, patch, wrote, kept}
-use Rattle.writer.specs.CallLaws.{growAct, place-in, act-goes, Grows, grow-goes}
+use Rattle.calls.specs.Calls.{kindOf, begins, bytesFor, obeys, Act, goes, stops, limit, place, ofKind, room, ruled as obeyed-room, needs, onLast, act, grown, patch, wrote, kept, growAct}
+use Rattle.calls.specs.CallLaws.{place-in, act-goes, Grows, grow-goes}
 use Rattle.demand.specs.Secs.{Sec, kindSec, bodySec, callsSec, GoodSec, markSec, rawsOf, callsOf, lastOf}
 use Rattle.demand.specs.SecLaws.{plain-join, reads-join}
 use Rattle.demand.specs.Run.{State, placeAfter, doneAfter, called, run, empty, written, accepted}

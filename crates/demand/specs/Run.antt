@@ -7,7 +7,7 @@ use lib.ListN.{take}
 use Rattle.walk.specs.Listing.{Reply, gave, nothing, refused}
 use Rattle.refusal.specs.Told.{Told}
 use Rattle.reading.specs.Reading.{Item}
-use Rattle.writer.specs.Calls.{answered, after}
+use Rattle.calls.specs.Calls.{answered, after}
 
 -- the buffer, the place, and the calls that were accepted
 pub record State : Type 0 where

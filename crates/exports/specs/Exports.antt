@@ -7,7 +7,7 @@ use mathlib.Core.List.{List, [], _∷_}
 use mathlib.Core.Bool.{Bool, true, cond, _&&_}
 use lib.ListN.{length}
 use lib.Dec.{ltb, eqb}
-use Rattle.walk.specs.Listing.{Listing, mapped, Answer, refuses, Reply, gave, nothing, refused}
+use Rattle.walk.specs.Listing.{Listing, fails, mapped, Answer, refuses, Reply, gave, nothing, refused}
 use Rattle.refusal.specs.Told.{Told, told}
 use Rattle.refusal.specs.declared.Refusal.the-variants as why
 use Rattle.area.specs.Kind.{Sort}
@@ -15,7 +15,7 @@ use Rattle.find.specs.Find.{same, firstSub}
 use Rattle.body.specs.Exports.{Pair, pairBite, pairs}
 use Rattle.table.specs.declared.TableWalk.{TableWalk}
 use Rattle.table.specs.Table.{shifted, tableStep, tableOf}
-use Rattle.rows.specs.Rows.{rowAt}
+use Rattle.rows.specs.Rows.{rowAt, rowsFrom}
 use Rattle.rows.specs.Collect.{onGave, collected, counted}
 
 -- an export, local and global index
@@ -70,6 +70,10 @@ resolveExport rule s n = onGave (lookup n) (collected (pairsOf rule s))
 unfoldable pub pairAt : List ℕ → ℕ → Answer ℕ Pair Told
 pairAt b p =
     cond (eqb (length b % 8) 0) (rowAt pairBite pairSize unplaced b p) (refuses (told why.ExportLength))
+
+-- the pairs of a body from a place on
+abbrev pub pairsFrom : List ℕ → ℕ → Listing Pair Told
+pairsFrom b p = cond (eqb (length b % 8) 0) (rowsFrom pairBite pairSize unplaced b p) (fails (told why.ExportLength))
 
 abbrev pub exportShown : ℕ → ℕ → Answer ℕ Pair Told → Answer TableWalk Export Told
 exportShown = shifted exportIn

@@ -26,7 +26,7 @@ use Rattle.rows.specs.Rows.{placed, rowAt, rowsFrom}
 use Rattle.rows.specs.RowsLaws.{Bitten, bites-step, rows-step, rows-in}
 use Rattle.rows.specs.Collect.{onGave, collected, counted}
 use Rattle.rows.specs.CollectLaws.{mapped-same, collected-length}
-use Rattle.exports.specs.Exports.{Export, aType, anId, exportOf, pairSize, unplaced, exportIn, pairsOf, exportsOf, exportCount, above, ascends, globalOf, lookup, pairAt, exportShown, exportStep}
+use Rattle.exports.specs.Exports.{Export, aType, anId, exportOf, pairSize, unplaced, exportIn, pairsOf, exportsOf, exportCount, above, ascends, globalOf, lookup, pairAt, exportShown, exportStep, pairsFrom}
 
 -- ---- the kind of an export
 
@@ -97,20 +97,13 @@ bitten s =
     by-cases (Bitten pairSize s) (eqb (length s) 0) (λ a. tt)
     (λ a. by-cases (Bitten pairSize s) (ltb (length s) 8) (λ d. tt) (λ d. (omega arith, omega (arith, ltb-false), refl)))
 
-abbrev rows : List ℕ → ℕ → Listing Pair Told
-rows = rowsFrom pairBite pairSize unplaced
-
--- the pairs of a body from a place on
-abbrev pub pairsFrom : List ℕ → ℕ → Listing Pair Told
-pairsFrom b p = cond (eqb (length b % 8) 0) (rows b p) (fails (told why.ExportLength))
-
--- one step of them
+-- one step of the pairs of a body
 pub pairs-right : (b : List ℕ) (p : ℕ) → pairsFrom b p ≡ onMove (pairsFrom b) (moved (pairAt b p))
 unfolding pairAt
 pairs-right b p = by (eqb (length b % 8) 0)
   where
     from : Bool → ℕ → Listing Pair Told
-    from a q = cond a (rows b q) (fails (told why.ExportLength))
+    from a q = cond a (rowsFrom pairBite pairSize unplaced b q) (fails (told why.ExportLength))
 
     by : (a : Bool)
         → from a p ≡ onMove (from a) (moved (cond a (rowAt pairBite pairSize unplaced b p) (refuses (told why.ExportLength))))

@@ -4,14 +4,13 @@
 -- without a checksum subsection the body is empty.
 -- Definitions only; a reader must believe them.
 use Prim.Native.Nat.{ℕ, _+_, _-_}
-use mathlib.Core.Path.{_≡_}
 use mathlib.Core.List.{List, []}
-use denote.Ref.{RefT, ptr, now}
 use Rattle.walk.specs.Listing.{Listing, Answer, gives, none, refuses, Reply, gave, nothing, refused}
+use Rattle.walk.specs.Pick.{mapReply}
 use Rattle.refusal.specs.Told.{Told, told}
 use Rattle.refusal.specs.declared.Refusal.the-variants as why
 use Rattle.area.specs.Kind.{Sort}
-use Rattle.find.specs.Find.{Span, lastSub, bytesAt}
+use Rattle.find.specs.Find.{same, Span, lastSub, bytesAt, heldSpan}
 use Rattle.table.specs.Table.{Place, spotIn, tableStep, tableOf}
 use Rattle.table.specs.declared.TableWalk.{TableWalk}
 use Rattle.body.specs.Checksums.{Checksum}
@@ -72,16 +71,10 @@ fileAt rule s i = fileIn s i (filesSub rule s)
 
 -- a part of the area that is asked for: what does not lie in it, and every part of an area that is too long, is the empty one at its start
 abbrev pub held : Reply Place Told → Span
-held (gave q) = record { start = q .start; len = q .len }
-held nothing = record { start = 0; len = 0 }
-held (refused t) = record { start = 0; len = 0 }
+held x = heldSpan (mapReply (λ (q : Place). record { start = q .start; len = q .len }) same x)
 
 unfoldable pub partOf : List ℕ → ℕ → ℕ → Span
 partOf s start len = held (spotIn s start len 0)
-
--- the part itself, by its pointer (block and offset) and its bytes
-abbrev pub HandsBack : RefT (List ℕ) → Span → RefT (List ℕ) → Type 0
-HandsBack s a r = (ptr r .0 ≡ ptr s .0) × (ptr r .1 ≡ ptr s .1 + a .start) × (now r ≡ bytesAt (now s) a)
 
 -- a file with its checksum's bytes in place of where they stand
 abbrev pub spelt : List ℕ → File → Checksum

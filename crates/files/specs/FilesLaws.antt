@@ -1,11 +1,10 @@
 -- Laws of the files of an area: a law for each way out of the code, the walk, the file at an index, and what the files are in the bytes.
 use Prim.Native.Nat.{ℕ, _+_, _-_, _≤_}
 use mathlib.Core.Path.{_≡_, sym, ap, _∙_, subst⁻¹}
-use mathlib.Core.List.{List, []}
+use mathlib.Core.List.{List}
 use native.Mathlib.Omega.{arith}
-use native.Mathlib.Nat.{add-zero}
-use lib.ListN.{length, take, drop, length-take, length-drop}
-use lib.Seq.{drop-drop, drop-at, take-add, take-take, length-take-le}
+use lib.ListN.{length, take, drop, length-take}
+use Rattle.word.specs.PartLaws.{part-bytes}
 use Rattle.walk.specs.Listing.{Listing, mapped, Answer, gives, Reply, gave, nothing, refused, calls, replies}
 use Rattle.walk.specs.ListingLaws.{Every}
 use Rattle.walk.specs.Pick.{mapReply}
@@ -130,32 +129,6 @@ files-indexed rule s = by (filesSub rule s)
 pub part-in : (s : List ℕ) (start len : ℕ) (o : Place) → gave o ≡ spotIn s start len 0 → o .start + o .len ≤ length s
 part-in s start len o e = spot-in-area s nothing tt (walk.In start len 0) o e
 
--- what is handed back points to block b, offset q, and has the bytes y; the area points to a and p and has x
-module _ (a b p q : ℕ) (x y : List ℕ) (start len : ℕ) (block : b ≡ a) where
-  abbrev Behind : Type 0
-  Behind = (b ≡ a) × (q ≡ p + partOf x start len .start) × (y ≡ bytesAt x (partOf x start len))
-
-  pub hands-part : (o : Place) (k : ℕ) → gave o ≡ spotIn x start len 0 → k ≡ o .len → q ≡ p + o .start → y ≡ take k (drop (o .start) x) → Behind
-  unfolding partOf
-  hands-part o k e ek place bytes =
-      let h : held (gave o) ≡ held (spotIn x start len 0) = ap held e in
-      (block, place ∙ ap (λ (c : Span). p + c .start) h, bytes ∙ ap (λ (j : ℕ). take j (drop (o .start) x)) ek ∙ ap (bytesAt x) h)
-
-  pub hands-empty : (r : Reply Place Told) → r ≡ spotIn x start len 0 → held r ≡ record { start = 0; len = 0 } → q ≡ p → y ≡ [] → Behind
-  unfolding partOf
-  hands-empty r e z place bytes =
-      let h : record { start = 0; len = 0 } ≡ held (spotIn x start len 0) = sym z ∙ ap held e in
-      (block, place ∙ sym (add-zero p) ∙ ap (λ (c : Span). p + c .start) h, bytes ∙ ap (bytesAt x) h)
-
--- a part of a part
-take-part : (m i n : ℕ) (t : List ℕ) → i + m ≤ n → n ≤ length t → take m (drop i t) ≡ take m (drop i (take n t))
-take-part m i n t h l =
-    let j : i + (n - i) ≡ n = omega arith in
-    let e : drop i (take n t) ≡ take (n - i) (drop i t)
-    = ap (λ (k : ℕ). drop i (take k t)) (sym j) ∙ ap (drop i) (take-add i (n - i) t)
-    ∙ drop-at (take i t) (take (n - i) (drop i t)) i (length-take-le i t (omega arith)) in
-    sym (ap (take m) e ∙ take-take m (n - i) (drop i t) (omega arith))
-
 -- a part that lies in an area
 pub part-inside : (s : List ℕ) (start len : ℕ) → length s ≤ longest → start + len ≤ length s → partOf s start len ≡ record { start = start; len = len }
 unfolding partOf
@@ -173,6 +146,5 @@ files-mean rule s =
     moves start n e h m q =
         let bytes : bytesAt s (partOf s (start + e .start) (e .len)) ≡ take (e .len) (drop (e .start) (take n (drop start s)))
         = ap (bytesAt s) (part-inside s (start + e .start) (e .len) m (omega arith))
-        ∙ ap (take (e .len)) (sym (drop-drop (e .start) start s))
-        ∙ take-part (e .len) (e .start) n (drop start s) q (omega (arith, length-drop start s)) in
+        ∙ part-bytes s start n (e .start) (e .len) q in
         λ i. record { name = e .name; kind = e .kind; bytes = bytes i }

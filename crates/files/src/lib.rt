@@ -7,10 +7,11 @@ ghost use mathlib.Core.Path.{_≡_};
 ghost use Prim.Native.Nat.{_+_, _≤_};
 ghost use lib.ListN.{length};
 ghost use Rattle.area.specs.Kind.{ruled};
+ghost use Rattle.find.specs.Find.{HandsSpan};
 ghost use Rattle.find.specs.Told.{toldFound};
 ghost use Rattle.table.specs.Table.{spotOf};
 ghost use Rattle.table.specs.Told.{toldSpot};
-ghost use Rattle.files.specs.Files.{filesSub, fileStep, fileAt, partOf, HandsBack};
+ghost use Rattle.files.specs.Files.{filesSub, fileStep, fileAt, partOf};
 ghost use Rattle.files.specs.FilesLaws.{lookAt};
 ghost use Rattle.files.specs.Told.{toldFile, toldInfo};
 use checksums::ChecksumKind;
@@ -137,7 +138,7 @@ pub fn file_at(area: &[u8], index: u32) -> FileAnswer
 
 // The bytes of a checksum that an answer places in the area: the part itself. What does not lie in the area is the empty part at its start.
 pub fn checksum_bytes(area: &[u8], start: usize, len: usize) -> &[u8]
-    ensures { λ r. ⌜ HandsBack (area .entry) (partOf (now (area .entry)) start len) r ⌝ }
+    ensures { λ r. ⌜ HandsSpan (area .entry) (partOf (now (area .entry)) start len) r ⌝ }
 {
     match spot_in(area, start, len, 0) {
         Spot::At { start, len, at: _ } => &area[start..start + len],

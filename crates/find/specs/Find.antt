@@ -6,7 +6,9 @@ use mathlib.Core.List.{List}
 use mathlib.Core.Bool.{Bool}
 use lib.Dec.{eqb}
 use lib.ListN.{take, drop}
-use Rattle.walk.specs.Listing.{Reply}
+use denote.Ref.{RefT}
+use Rattle.word.specs.Part.{HandsBack}
+use Rattle.walk.specs.Listing.{Reply, gave, nothing, refused}
 use Rattle.walk.specs.Pick.{firstBy, lastBy, mapReply}
 use Rattle.refusal.specs.Told.{Told}
 use Rattle.area.specs.Kind.{Sort}
@@ -41,3 +43,12 @@ firstBytes rule w s = mapReply (bytesAt s) same (firstSub rule w s)
 
 abbrev pub lastBytes : (ℕ → Sort) → ℕ → List ℕ → Reply (List ℕ) Told
 lastBytes rule w s = mapReply (bytesAt s) same (lastSub rule w s)
+
+-- a part that a call hands back; where an answer has none it is the empty part at the start
+abbrev pub heldSpan : Reply Span Told → Span
+heldSpan (gave a) = a
+heldSpan nothing = record { start = 0; len = 0 }
+heldSpan (refused t) = record { start = 0; len = 0 }
+
+abbrev pub HandsSpan : RefT (List ℕ) → Span → RefT (List ℕ) → Type 0
+HandsSpan s a r = HandsBack s (a .start) (a .len) r

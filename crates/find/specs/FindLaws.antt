@@ -2,11 +2,11 @@
 use Prim.Native.Nat.{ℕ, _+_, _≤_}
 use mathlib.Core.Path.{_≡_, refl, sym, ap, _∙_, subst⁻¹}
 use mathlib.Core.List.{List}
-use mathlib.Core.Bool.{Bool, cond}
+use mathlib.Core.Bool.{Bool, true, false, cond}
 use lib.Dec.{eqb}
 use lib.ListN.{length}
 use borrow.Author.Tests.{eq-eqb, ne-eqb}
-use Rattle.walk.specs.Listing.{Listing, Reply, gave, nothing, refused, Answer, gives, none, refuses}
+use Rattle.walk.specs.Listing.{Listing, Reply, gave, nothing, refused, gives, none, refuses}
 use Rattle.walk.specs.Pick.{firstBy, lastBy, orElse, mapReply}
 use Rattle.walk.specs.PickLaws.{map-or, or-assoc, or-nothing, first-map, last-map, Gives, first-holds, last-holds}
 use Rattle.refusal.specs.Told.{Told, numberOf}
@@ -54,17 +54,18 @@ Best rule s w p y = orElse (mapReply spanOf same (lastBy (is w) (subsFrom rule s
 
 -- ---- the loops: one law for each way, on an answer of `sub_at`
 
-module _ (rule : ℕ → Sort) (s : List ℕ) (p w : ℕ) where
+-- the first that passes a test f
+module _ (rule : ℕ → Sort) (s : List ℕ) (p : ℕ) (f : Sub → Bool) where
   abbrev F : ℕ → Reply Span Told
-  F q = mapReply spanOf same (firstBy (is w) (subsFrom rule s q))
+  F q = mapReply spanOf same (firstBy f (subsFrom rule s q))
 
-  pub first-hit : (b : Sub) (x : ℕ) → gives b x ≡ stepAt rule s p → b .kind ≡ w → gave (spanOf b) ≡ F p
+  pub first-hit : (b : Sub) (x : ℕ) → gives b x ≡ stepAt rule s p → f b ≡ true → gave (spanOf b) ≡ F p
   unfolding firstBy
-  first-hit b x q h = rw (← sub-next rule s p b x q .is, eq-eqb (b .kind) w h)
+  first-hit b x q h = rw (← sub-next rule s p b x q .is, h)
 
-  pub first-miss : (b : Sub) (x : ℕ) → gives b x ≡ stepAt rule s p → (b .kind ≡ w → ⊥) → F x ≡ F p
+  pub first-miss : (b : Sub) (x : ℕ) → gives b x ≡ stepAt rule s p → f b ≡ false → F x ≡ F p
   unfolding firstBy
-  first-miss b x q h = rw (← sub-next rule s p b x q .is, ne-eqb (b .kind) w h)
+  first-miss b x q h = rw (← sub-next rule s p b x q .is, h)
 
   pub first-end : none ≡ stepAt rule s p → nothing ≡ F p
   unfolding firstBy
@@ -74,6 +75,8 @@ module _ (rule : ℕ → Sort) (s : List ℕ) (p w : ℕ) where
   unfolding firstBy
   first-refused r q = rw (← sub-refused rule s p r q)
 
+-- the last of kind w
+module _ (rule : ℕ → Sort) (s : List ℕ) (p w : ℕ) where
   pub last-first : Best rule s w p nothing ≡ mapReply spanOf same (lastBy (is w) (subsFrom rule s p))
   last-first = or-nothing (mapReply spanOf same (lastBy (is w) (subsFrom rule s p)))
 

@@ -5,11 +5,11 @@ use Prim.Native.Nat.{ℕ, _+_}
 use mathlib.Core.Path.{_≡_}
 use mathlib.Core.List.{List, [], _∷_}
 use mathlib.Core.Bool.{cond}
-use lib.ListN.{length, getD}
+use lib.ListN.{length}
 use lib.Dec.{leb}
 use Rattle.word.specs.Word.{store}
 use Rattle.walk.specs.Listing.{Answer, gives, none, refuses, Reply, gave, nothing, refused}
-use Rattle.refusal.specs.Told.{Told}
+use Rattle.refusal.specs.Told.{Told, numberOf, carriedOf}
 
 pub record Given : Type 0 where
   pub status : ℕ
@@ -34,7 +34,7 @@ noneGiven = given 0 0 []
 
 -- a refusal: its number, and what it carries or 0. It is put behind the k words of a walk's state, which stays, so that the walk refuses again
 abbrev pub refusalWords : Told → List ℕ
-refusalWords t = t .number ∷ getD (t .carries) 0 0 ∷ []
+refusalWords t = numberOf t ∷ carriedOf t ∷ []
 
 abbrev pub refusalGiven : ℕ → Told → Given
 refusalGiven k t = given 2 k (refusalWords t)

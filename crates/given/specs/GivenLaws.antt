@@ -1,7 +1,7 @@
 -- Laws of what an exported call answers: the two ways of `put`, and a loop that copies words one by one.
-use Prim.Native.Nat.{ℕ, _+_, _-_, _≤_, _<_}
+use Prim.Native.Nat.{ℕ, _+_, _≤_, _<_}
 use mathlib.Core.Path.{_≡_, refl, sym, ap, _∙_, subst}
-use mathlib.Core.List.{List, [], _∷_, _++_, append-assoc}
+use mathlib.Core.List.{List, [], _++_, append-assoc}
 use native.Mathlib.Omega.{arith}
 use native.Mathlib.Nat.{le-antisymm}
 use native.Mathlib.Numerals.{add-one}
@@ -14,9 +14,8 @@ use Rattle.walk.specs.Cases.{by-cases}
 use Rattle.word.specs.Word.{put, store}
 use Rattle.word.specs.WordLaws.{put-before, put-behind}
 use Rattle.walk.specs.Listing.{Reply, gave, nothing, refused}
-use Rattle.refusal.specs.Told.{Told, told}
-use Rattle.refusal.specs.declared.Refusal.{Refusal}
-use Rattle.given.specs.Given.{Given, given, Gives, statusIn, noneGiven, refusalWords, one, replyGiven, ifRoom, shortGiven}
+use Rattle.refusal.specs.Told.{Told}
+use Rattle.given.specs.Given.{Given, given, Gives, statusIn, noneGiven, one, replyGiven, ifRoom, shortGiven}
 
 module _ (o : List ℕ) (g : Given) where
   -- words that fit are put
@@ -73,10 +72,6 @@ module _ (o : List ℕ) (at : ℕ) (s : List ℕ) (t : List ℕ) (i : ℕ) (e : 
 
   pub gives-copied : (status : ℕ) → at + length s ≤ length o → i ≤ length s → length s ≤ i → Gives o (given status at s) status t
   gives-copied status room l h = rw (copied-all l h) (gives-put o (given status at s) room)
-
--- the words of a refusal that is known
-pub refusal-is : {r s : Refusal} → r ≡ s → refusalWords (told r) ≡ refusalWords (told s)
-refusal-is e = ap (λ x. refusalWords (told x)) e
 
 -- ---- a call that changes other lent memory m too, which it leaves as n
 

@@ -6,7 +6,7 @@ use lib.ListN.{getD}
 use borrow.Author.Tests.{eq-eqb, ne-eqb}
 use Rattle.table.specs.declared.TableWalk.{TableWalk}
 use Rattle.table.specs.declared.TableWalk.the-variants as walk
-use Rattle.given.specs.Given.{Given, given, Gives}
+use Rattle.given.specs.Given.{given, Gives}
 use Rattle.given.specs.GivenLaws.{gives-as}
 use Rattle.given.specs.TableWords.{walkIn, walkWords, tableWords}
 

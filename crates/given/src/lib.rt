@@ -4,9 +4,10 @@ ghost use mathlib.Core.Path.{_≡_};
 ghost use mathlib.Core.List.{[], _∷_};
 ghost use lib.ListN.{getD};
 ghost use Rattle.refusal.specs.Told.{told};
-ghost use Rattle.given.specs.Given.{given, Gives, refusalWords, refusalGiven};
+ghost use Rattle.given.specs.Given.{given, Gives, refusalGiven};
 ghost use Rattle.given.specs.TableWords.{walkIn, walkWords};
 use refusal::Refusal;
+use refusal::numbers;
 use table::TableWalk;
 
 // The statuses.
@@ -39,40 +40,11 @@ pub fn put(out: &mut [u64], at: usize, words: &[u64], status: u32) -> u32
     status
 }
 
-// A refusal in two words: its number of document 01, and what it carries or 0.
-struct Pair(u64, u64);
-
-fn refusal_pair(why: Refusal) -> Pair
-    ensures { λ r. ⌜ refusalWords (told why) ≡ r .0 ∷ r .1 ∷ [] ⌝ }
-{
-    match why {
-        Refusal::Cut => Pair(1, 0),
-        Refusal::UnknownKind(kind) => Pair(2, kind as u64),
-        Refusal::UnknownChecksumKind(kind) => Pair(3, kind as u64),
-        Refusal::ExportLength => Pair(4, 0),
-        Refusal::NotACrossModuleRef(index) => Pair(5, index as u64),
-        Refusal::CrossModuleRefNotFound(index) => Pair(6, index as u64),
-        Refusal::BlockSize => Pair(7, 0),
-        Refusal::OffsetTooLarge => Pair(8, 0),
-        Refusal::UnsortedExports => Pair(9, 0),
-        Refusal::NoRoom => Pair(10, 0),
-        Refusal::TooLong => Pair(11, 0),
-        Refusal::OldFormat => Pair(12, 0),
-        Refusal::NoStringTable => Pair(13, 0),
-        Refusal::HashVersion => Pair(14, 0),
-        Refusal::ModuleSizes => Pair(15, 0),
-        Refusal::WrongPlace => Pair(16, 0),
-        Refusal::NotPlain => Pair(17, 0),
-        Refusal::NoFile(index) => Pair(18, index as u64),
-        Refusal::WrongSlot => Pair(19, 0),
-    }
-}
-
 // A refusal, put behind the state of a walk, which stays.
 pub fn put_refusal(out: &mut [u64], state: usize, why: Refusal) -> u32
     ensures { λ r. ⌜ Gives (now (out .entry)) (refusalGiven state (told why)) r (now (out .exit)) ⌝ }
 {
-    let pair = refusal_pair(why);
+    let pair = numbers(why);
     put(out, state, &[pair.0, pair.1], REFUSED)
 }
 

@@ -16,7 +16,7 @@ use Rattle.body.specs.Words.{wordsIn}
 use Rattle.body.specs.Imports.{Module, moduleBite, modules}
 use Rattle.table.specs.declared.TableWalk.{TableWalk}
 use Rattle.table.specs.Table.{tableStep, tableOf}
-use Rattle.rows.specs.Rows.{placed, rowAt}
+use Rattle.rows.specs.Rows.{placed, rowAt, rowsFrom}
 use Rattle.rows.specs.Collect.{onGave, collected, ofNth}
 
 -- THE MODULES of an area
@@ -80,6 +80,10 @@ importsOf rule s = tableOf (λ (b : List ℕ). placed moduleSize moduleShown 0 (
 -- one step of a walk over them: the module at a place of the body, and where the walk goes on
 abbrev pub moduleAt : List ℕ → ℕ → Answer ℕ ModuleAt Told
 moduleAt = rowAt moduleBite moduleSize moduleShown
+
+-- the modules of a body from a place on, with their places
+abbrev pub modulesFrom : List ℕ → ℕ → Listing ModuleAt Told
+modulesFrom = rowsFrom moduleBite moduleSize moduleShown
 
 abbrev pub importStep : (ℕ → Sort) → List ℕ → TableWalk → Answer TableWalk ModuleAt Told
 importStep rule s w = tableStep moduleAt inArea (firstSub rule 0xf7 s) s w

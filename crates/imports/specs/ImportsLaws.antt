@@ -12,23 +12,24 @@ use borrow.Author.Tests.{eq-eqb, ne-eqb, ltb-false}
 use Rattle.word.specs.Word.{u32At}
 use Rattle.word.specs.WordLaws.{u32-drop}
 use Rattle.walk.specs.Cases.{tests, by-cases}
-use Rattle.walk.specs.Listing.{Move, item, pass, over, fail, Listing, more, mapped, onMove, moved, all, Answer, gives, none, refuses, Reply, gave, nothing, refused, calls, replies}
+use Rattle.walk.specs.Listing.{Move, item, pass, over, fail, more, mapped, onMove, moved, all, Answer, gives, none, refuses, Reply, gave, nothing, refused, calls, replies}
 use Rattle.refusal.specs.Told.{Told, told}
 use Rattle.refusal.specs.declared.Refusal.the-variants as why
 use Rattle.area.specs.Kind.{Sort}
 use Rattle.find.specs.Find.{same, Span, firstSub}
 use Rattle.body.specs.Words.{wordsIn}
+use Rattle.body.specs.WordsLaws.{words-length}
 use Rattle.body.specs.Imports.{Module, moduleBite, modules}
 use Rattle.table.specs.declared.TableWalk.{TableWalk}
 use Rattle.table.specs.declared.TableWalk.the-variants as walk
 use Rattle.table.specs.Table.{Place, shifted, spotOf, readAt, tableOf}
 use Rattle.table.specs.TableLaws.{spot-in-area, step-at, step-other, table-walk, first-finds}
-use Rattle.rows.specs.Rows.{placed, rowAt, rowsFrom}
+use Rattle.rows.specs.Rows.{placed, rowAt}
 use Rattle.rows.specs.RowsLaws.{Bitten, rows-step, rows-in, row-next, row-end, row-refused, rows-back}
 use Rattle.rows.specs.Collect.{onGave, collected, ofNth}
 use Rattle.rows.specs.CollectLaws.{mapped-same, mapped-mapped, sought, sought-is}
-use Rattle.rows.specs.WordsLaws.{words-length, words-nth, words-none, words-take}
-use Rattle.imports.specs.Imports.{modulesOf, Ref, scopeOf, idOf, ifRef, wordOf, refOf, ModuleAt, moduleOf, moduleShown, moduleSize, inArea, importsOf, moduleAt, importStep}
+use Rattle.rows.specs.WordsLaws.{words-nth, words-none, words-part}
+use Rattle.imports.specs.Imports.{modulesOf, Ref, scopeOf, idOf, ifRef, wordOf, refOf, ModuleAt, moduleOf, moduleShown, moduleSize, inArea, importsOf, moduleAt, importStep, modulesFrom}
 
 -- ---- the tests of `module_at`
 
@@ -129,7 +130,7 @@ in-area s start len p m t h e =
     let g : Bitten moduleSize (drop p b) (item m t) = subst (Bitten moduleSize (drop p b)) e (bitten (drop p b)) in
     let room : p + 8 + 4 * n ≤ len = omega (arith, length-drop p b, length-take len (drop start s)) in
     let d : wordsIn n (drop (start + (p + 8)) s) ≡ wordsIn n (drop (p + 8) b)
-    = ap (wordsIn n) (sym (drop-drop (p + 8) start s)) ∙ sym (words-take n (drop start s) len (p + 8) room) in
+    = words-part s start len (p + 8) n room in
     (λ i. record { name = m .name; words = d i }) ∙ in-body b p m t e
 
 -- ---- the loop of `resolve_in`
@@ -213,11 +214,7 @@ module _ (rule : ℕ → Sort) (s : List ℕ) (w : TableWalk) where
 
 -- ---- the theorems
 
--- the modules of a body from a place on, with their places
-abbrev pub modulesFrom : List ℕ → ℕ → Listing ModuleAt Told
-modulesFrom = rowsFrom moduleBite moduleSize moduleShown
-
--- one step of them
+-- one step of the modules of a body
 pub modules-right : (b : List ℕ) (p : ℕ) → modulesFrom b p ≡ onMove (modulesFrom b) (moved (moduleAt b p))
 modules-right = rows-step moduleBite moduleSize moduleShown bitten
 

@@ -6,11 +6,11 @@
 use Prim.Native.Nat.{ℕ, _+_, _-_, _*_}
 use mathlib.Core.List.{List}
 use mathlib.Core.Bool.{Bool, true, false, cond}
-use lib.ListN.{length, drop, getD}
+use lib.ListN.{length, drop}
 use lib.Dec.{ltb}
 use Rattle.word.specs.Word.{u32At}
-use Rattle.walk.specs.Listing.{Move, item, pass, over, fail, Listing, fails, moved, all, Answer, gives, none, refuses, Reply, gave, nothing, refused}
-use Rattle.refusal.specs.Told.{Told, told, longest}
+use Rattle.walk.specs.Listing.{Move, item, pass, over, fail, Listing, fails, moved, all, Answer, gives, none, refuses}
+use Rattle.refusal.specs.Told.{Told, told}
 use Rattle.refusal.specs.declared.Refusal.the-variants as why
 use Rattle.area.specs.Kind.{Sort}
 use Rattle.find.specs.Find.{firstSub}
@@ -68,13 +68,6 @@ inlineeStep rule s = tableStep sourceLineAt show (firstSub rule 0xf6 s) s
 abbrev pub inlineesIn : (ℕ → Sort) → List ℕ → Listing SourceLine Told
 inlineesIn rule s = tableOf (λ (b : List ℕ). sourceLinesFrom b 0) show s (firstSub rule 0xf6 s)
 
--- the i-th of `count` words from the place `extra` of an area on
-unfoldable pub extraFile : List ℕ → ℕ → ℕ → ℕ → Reply ℕ Told
-extraFile s extra count i =
-    cond (ltb longest (length s)) (refused (told why.TooLong))
-    (cond (ltb (length s) (extra + 4 * count)) (refused (told why.Cut))
-    (cond (ltb i count) (gave (u32At s (extra + 4 * i))) nothing))
-
 -- an entry with its extra files in place of where they stand in s
 abbrev pub spelt : List ℕ → SourceLine → Inlinee
 spelt s e = record { inlinee = e .inlinee; file = e .file; line = e .line; extra = wordsIn (e .count) (drop (e .extra) s) }
@@ -82,7 +75,3 @@ spelt s e = record { inlinee = e .inlinee; file = e .file; line = e .line; extra
 -- what the bytes of a body say: the signature, and the entries behind it
 unfoldable pub inlineesOf : List ℕ → Listing Inlinee Told
 inlineesOf b = cond (ltb (length b) 4) (fails (told why.Cut)) (inlinees (extended (u32At b 0)) (drop 4 b))
-
--- the i-th of a list
-unfoldable pub nth : ℕ → List ℕ → Reply ℕ Told
-nth i ws = cond (ltb i (length ws)) (gave (getD ws i 0)) nothing

@@ -1,5 +1,5 @@
 -- Laws of the entries of an inlinee body: a law for each way out of the code, one step of the whole, and what the entries are in the bytes.
-use Prim.Native.Nat.{ℕ, zero, suc, _+_, _-_, _*_, _<_, _≤_}
+use Prim.Native.Nat.{ℕ, _+_, _-_, _*_, _<_, _≤_}
 use mathlib.Core.Path.{_≡_, refl, sym, ap, _∙_, subst⁻¹}
 use mathlib.Core.List.{List}
 use mathlib.Core.Bool.{Bool, true, false, cond}
@@ -18,15 +18,9 @@ use Rattle.refusal.specs.Told.{Told, told}
 use Rattle.refusal.specs.declared.Refusal.the-variants as why
 use Rattle.find.specs.Find.{same}
 use Rattle.body.specs.Words.{wordsIn}
+use Rattle.body.specs.WordsLaws.{words-length}
 use Rattle.body.specs.Inlinees.{Inlinee, extended, extraBite, inlineeBite, inlinees}
 use Rattle.inlinees.specs.Inlinees.{SourceLine, headSize, placed, entryPlace, sourceLineAt, sourceLinesFrom, spelt, inlineesOf}
-
--- ---- runs of words
-
-pub words-length : (n : ℕ) (s : List ℕ) → length (wordsIn n s) ≡ n
-unfolding wordsIn
-words-length zero s = refl
-words-length (suc n) s = ap suc (words-length n (drop 4 s))
 
 -- ---- the tests of the code
 

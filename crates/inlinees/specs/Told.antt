@@ -2,7 +2,7 @@
 -- the same.
 use Prim.Native.Nat.{ℕ}
 use mathlib.Core.Path.{_≡_, refl, ap}
-use Rattle.walk.specs.Listing.{Answer, gives, none, refuses, Reply, gave, nothing, refused}
+use Rattle.walk.specs.Listing.{Answer, gives, none, refuses}
 use Rattle.refusal.specs.Told.{Told, told}
 use Rattle.refusal.specs.Untold.{untold, untold-told}
 use Rattle.table.specs.declared.TableWalk.{TableWalk}
@@ -11,8 +11,6 @@ use Rattle.inlinees.specs.declared.SourceLineStep.{SourceLineStep}
 use Rattle.inlinees.specs.declared.SourceLineStep.the-variants as line
 use Rattle.inlinees.specs.declared.InlineeStep.{InlineeStep}
 use Rattle.inlinees.specs.declared.InlineeStep.the-variants as step
-use Rattle.inlinees.specs.declared.WordAnswer.{WordAnswer}
-use Rattle.inlinees.specs.declared.WordAnswer.the-variants as word
 
 abbrev pub toldLine : SourceLineStep → Answer ℕ SourceLine Told
 toldLine (line.SourceLine i f l a n x) = gives (record { inlinee = i; file = f; line = l; extra = a; count = n }) x
@@ -43,18 +41,3 @@ pub untold-inlinee : (h : InlineeStep) → untoldInlinee (toldInlinee h) ≡ h
 untold-inlinee (step.Inlinee i f l a n w) = refl
 untold-inlinee step.None = refl
 untold-inlinee (step.Refused r) = ap step.Refused (untold-told r)
-
-abbrev pub toldWord : WordAnswer → Reply ℕ Told
-toldWord (word.Word w) = gave w
-toldWord word.None = nothing
-toldWord (word.Refused r) = refused (told r)
-
-abbrev pub untoldWord : Reply ℕ Told → WordAnswer
-untoldWord (gave w) = word.Word w
-untoldWord nothing = word.None
-untoldWord (refused t) = word.Refused (untold t)
-
-pub untold-word : (h : WordAnswer) → untoldWord (toldWord h) ≡ h
-untold-word (word.Word w) = refl
-untold-word word.None = refl
-untold-word (word.Refused r) = ap word.Refused (untold-told r)

@@ -1,16 +1,15 @@
 // The inlinees of an area: the entries of its first subsection of kind 0xf6, behind the body's signature (crate: `InlineeIterator`,
 // `DebugInlineeLinesIterator`, `InlineeSourceLine`).
 //
-// An entry with extra files says where their words stand and how many there are; `extra_file` hands out one of them.
+// An entry with extra files says where their words stand and how many there are; `rows::word_in` hands out one of them.
 ghost use mathlib.Core.Path.{_≡_};
 ghost use Prim.Native.Nat.{_+_, _*_, _≤_};
 ghost use lib.ListN.{length};
 ghost use Rattle.walk.specs.Listing.{gives};
 ghost use Rattle.area.specs.Kind.{ruled};
-ghost use Rattle.inlinees.specs.Inlinees.{entryPlace, sourceLineAt, inlineeStep, extraFile};
+ghost use Rattle.inlinees.specs.Inlinees.{entryPlace, sourceLineAt, inlineeStep};
 ghost use Rattle.inlinees.specs.SourceLineLaws.{lineAt, extendedAt};
-ghost use Rattle.inlinees.specs.Told.{toldLine, toldInlinee, toldWord};
-use refusal::LONGEST;
+ghost use Rattle.inlinees.specs.Told.{toldLine, toldInlinee};
 use refusal::Refusal;
 use table::Spot;
 use table::TableWalk;
@@ -137,29 +136,4 @@ pub fn next_inlinee(area: &[u8], walk: TableWalk) -> InlineeStep
         Spot::None => InlineeStep::None,
         Spot::Refused(why) => InlineeStep::Refused(why),
     }
-}
-
-pub enum WordAnswer {
-    Word(u32),
-    None,
-    Refused(Refusal),
-}
-
-// The i-th extra file of an inlinee that says `extra` and `count`. They are held against the area again.
-pub fn extra_file(area: &[u8], extra: usize, count: usize, i: usize) -> WordAnswer
-    ensures { λ r. ⌜ toldWord r ≡ extraFile (now (area .entry)) extra count i ⌝ }
-{
-    if LONGEST < area.len() {
-        return WordAnswer::Refused(Refusal::TooLong);
-    }
-    if area.len() < extra {
-        return WordAnswer::Refused(Refusal::Cut);
-    }
-    if (area.len() - extra) / 4 < count {
-        return WordAnswer::Refused(Refusal::Cut);
-    }
-    if i < count {
-        return WordAnswer::Word(u32_at(area, extra + 4 * i));
-    }
-    WordAnswer::None
 }

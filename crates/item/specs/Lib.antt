@@ -3,6 +3,5 @@ pub mod Record
 pub mod Step
 pub mod Told
 pub mod StepLaws
-pub mod PartLaws
 pub mod WalkLaws
 pub mod ReadingLaws

@@ -10,12 +10,14 @@ use lib.Seq.{length-take-le}
 use lib.Dec.{ltb, eqb}
 use borrow.Author.Tests.{ltb-false}
 use Rattle.word.specs.Word.{u32At}
+use Rattle.word.specs.PartLaws.{part-bytes}
 use Rattle.walk.specs.Cases.{both-ways, tests}
 use Rattle.walk.specs.Listing.{Listing, more, ends, fails, mapped, Reply, gave, nothing, refused, calls, replies}
 use Rattle.walk.specs.Pick.{mapReply}
 use Rattle.walk.specs.SpreadLaws.{map-spread, spread-every}
 use Rattle.table.specs.WholeLaws.{mapped-is}
 use Rattle.rows.specs.CollectLaws.{mapped-mapped}
+use Rattle.rows.specs.WordsLaws.{words-part}
 use Rattle.refusal.specs.Told.{Told}
 use Rattle.area.specs.Kind.{Sort}
 use Rattle.area.specs.Subs.{Sub, subsFrom}
@@ -31,18 +33,18 @@ use Rattle.lines.specs.Blocks.{LineBlock, blocksFrom, worded}
 use Rattle.lines.specs.BlocksLaws.{blocks-inside, blocks-are}
 use Rattle.inlinees.specs.Inlinees.{SourceLine, entryPlace, sourceLineAt, sourceLinesFrom, spelt, inlineesOf}
 use Rattle.inlinees.specs.SourceLineLaws.{In, lines-in, lines-step, lines-mean as source-lines-mean}
-use Rattle.imports.specs.Imports.{ModuleAt, moduleOf, inArea}
-use Rattle.imports.specs.ImportsLaws.{modulesFrom, modules-placed}
+use Rattle.imports.specs.Imports.{ModuleAt, moduleOf, inArea, modulesFrom}
+use Rattle.imports.specs.ImportsLaws.{modules-placed}
 use Rattle.checksums.specs.Entry.{Entry, entriesFrom}
 use Rattle.checksums.specs.EntryLaws.{checksumOf, entryOf, entries-as}
-use Rattle.exports.specs.ExportsLaws.{pairsFrom, pairs-from}
+use Rattle.exports.specs.Exports.{pairsFrom}
+use Rattle.exports.specs.ExportsLaws.{pairs-from}
 use Rattle.reading.specs.Reading.{Items, each, linesItems, checksumsItems, inlineesItems, importsItems, exportsItems, itemsOf, reading}
 use Rattle.reading.specs.Reading as reading
 use Rattle.reading.specs.BySubsLaws.{subItems, reading-subs}
 use Rattle.item.specs.Item.{ToldItem, columnWords, itemOf, exports}
 use Rattle.item.specs.Record.{withColumns, columnsFrom, blockItem, checksumItem, inlineeItem, moduleItem}
 use Rattle.item.specs.Step.{ItemAnswer, linesOpened, inlineesOpened, exportsOpened, opened, itemStep}
-use Rattle.item.specs.PartLaws.{part-bytes, part-words}
 use Rattle.item.specs.WalkLaws.{recordsFrom, openedItems, itemsAt, fromSubs, items-are}
 use Rattle.item.specs.declared.ItemWalk.the-variants as walk
 use Rattle.item.specs.declared.TypedBody.{TypedBody}
@@ -74,7 +76,7 @@ module _ (rule : ℕ → Sort) (s : List ℕ) where
     bytes p n h = part-bytes s start (length b) p n h ∙ ap (λ (x : List ℕ). take n (drop p x)) (sym here)
 
     words : (p n : ℕ) → p + 4 * n ≤ length b → wordsIn n (drop (start + p) s) ≡ wordsIn n (drop p b)
-    words p n h = part-words s start (length b) p n h ∙ ap (λ (x : List ℕ). wordsIn n (drop p x)) (sym here)
+    words p n h = words-part s start (length b) p n h ∙ ap (λ (x : List ℕ). wordsIn n (drop p x)) (sym here)
 
     column-words : (c : Bool) (p n : ℕ) → p + 4 * columnsOf c n ≤ length b → columnWords s n (columnsFrom c (start + p)) ≡ wordsIn (columnsOf c n) (drop p b)
     unfolding wordsIn

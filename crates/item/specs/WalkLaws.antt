@@ -25,10 +25,10 @@ use Rattle.checksums.specs.Entry.{entryAt, entriesFrom}
 use Rattle.checksums.specs.EntryLaws.{entries-step}
 use Rattle.inlinees.specs.Inlinees.{sourceLineAt, sourceLinesFrom}
 use Rattle.inlinees.specs.SourceLineLaws.{lines-step}
-use Rattle.imports.specs.Imports.{moduleAt}
-use Rattle.imports.specs.ImportsLaws.{modulesFrom, modules-right}
-use Rattle.exports.specs.Exports.{pairAt}
-use Rattle.exports.specs.ExportsLaws.{pairsFrom, pairs-right}
+use Rattle.imports.specs.Imports.{moduleAt, modulesFrom}
+use Rattle.imports.specs.ImportsLaws.{modules-right}
+use Rattle.exports.specs.Exports.{pairAt, pairsFrom}
+use Rattle.exports.specs.ExportsLaws.{pairs-right}
 use Rattle.item.specs.Item.{ToldItem, exports}
 use Rattle.item.specs.Record.{asItem, withColumns, blockItem, checksumItem, inlineeItem, moduleItem, recordAt}
 use Rattle.item.specs.Step.{ItemAnswer, linesOpened, inlineesOpened, exportsOpened, opened, openSub, openStep, orOpen, recordStep, inBody, itemStep}

@@ -4,8 +4,8 @@ use mathlib.Core.Path.{_≡_, refl, sym, ap, _∙_}
 use mathlib.Core.List.{List, [], _∷_, _++_, append-assoc}
 use native.Mathlib.Omega.{arith}
 use native.Mathlib.Nat.{add-assoc}
-use lib.ListN.{length, getD, take, drop, length-append, length-take, length-drop}
-use lib.Seq.{length-take-le, take-at, drop-at, drop-drop, drop-append-add}
+use lib.ListN.{length, getD, take, drop, length-append}
+use lib.Seq.{length-take-le, take-at, drop-drop, drop-append-add}
 use borrow.Author.Tests.{le-leb, eq-eqb, ne-eqb}
 use Rattle.line_record.specs.declared.Length.{Length}
 use Rattle.line_record.specs.declared.Length.the-variants as len
@@ -19,9 +19,10 @@ use Rattle.turns.specs.declared.Place.{Place}
 use Rattle.turns.specs.declared.LineWalk.{LineWalk}
 use Rattle.turns.specs.declared.LineWalk.the-variants as walk
 use Rattle.word.specs.Word.{put, store}
-use Rattle.given.specs.Given.{Given, given, Gives}
+use Rattle.word.specs.WordLaws.{store-put}
+use Rattle.given.specs.Given.{given, Gives}
 use Rattle.given.specs.GivenLaws.{gives-put}
-use Rattle.line_words.specs.LineWords.{lengthWords, columnWords, kindWord, recordWords, heldWords, restWords, placeWords, lineWalkWords, lineWords, recordIn, heldIn, restIn, placeIn, lineWalkIn}
+use Rattle.line_words.specs.LineWords.{lengthWords, columnWords, kindWord, recordWords, heldWords, restWords, lineWalkWords, lineWords, recordIn, heldIn, restIn, placeIn, lineWalkIn}
 
 -- ---- read back
 
@@ -90,6 +91,10 @@ record-words r l s e k =
 pub gives-is : {o left : List ℕ} {r : ℕ} (status at : ℕ) (ws : List ℕ) → Gives o (given status at ws) r left → at + length ws ≤ length o → left ≡ put o at ws
 unfolding store
 gives-is {o} status at ws h l = h .words ∙ rw (le-leb (at + length ws) (length o) l)
+
+-- a record that fits
+pub record-is : (o left : List ℕ) (at : ℕ) (r : LineRecord) → left ≡ store o at (recordWords r) → at + 12 ≤ length o → left ≡ put o at (recordWords r)
+record-is o left at r e h = e ∙ sym (store-put o at (recordWords r) 12 (record-length r) h)
 
 -- a piece behind a piece
 module _ (o : List ℕ) (at : ℕ) (a b : List ℕ) (fits : at + length a ≤ length o) where

@@ -1,9 +1,9 @@
 // A line record and a state of the line walk in words, for programs in other languages, and back.
 ghost use mathlib.Core.Path.{_≡_};
 ghost use mathlib.Core.List.{[], _∷_, _++_};
-ghost use Prim.Native.Nat.{_+_, _≤_};
+ghost use Prim.Native.Nat.{_≤_};
 ghost use lib.ListN.{length, getD};
-ghost use Rattle.word.specs.Word.{put};
+ghost use Rattle.word.specs.Word.{put, store};
 ghost use Rattle.given.specs.Given.{given, Gives};
 ghost use Rattle.line_words.specs.LineWords.{u16Of, u32Of, lengthOf, columnOf, kindOf, recordIn, heldIn, restIn, headIn, placeIn, lineWalkIn};
 ghost use Rattle.line_words.specs.LineWords.{lengthWords, columnWords, kindWord, recordWords, heldWords, restWords, placeWords, lineWalkWords, lineWords};
@@ -182,9 +182,9 @@ const STATE: usize = 27;
 
 const STEP: usize = 39;
 
-fn put_record(out: &mut [u64], at: usize, r: LineRecord)
-    requires { ⌜ (at + 12 ≤ length (now out)) ⌝ }
-    ensures { λ _. ⌜ now (out .exit) ≡ put (now (out .entry)) at (recordWords r) ⌝ }
+// A record at a place. Where its words do not fit nothing is put.
+pub fn put_record(out: &mut [u64], at: usize, r: LineRecord)
+    ensures { λ _. ⌜ now (out .exit) ≡ store (now (out .entry)) at (recordWords r) ⌝ }
 {
     let length = r.length;
     let column_start = r.column_start;

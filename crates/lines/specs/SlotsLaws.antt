@@ -3,15 +3,15 @@
 use Prim.Native.Nat.{ℕ, suc, _+_, _-_, _<_, _≤_}
 use mathlib.Core.Path.{_≡_, refl, sym, ap, _∙_, subst⁻¹}
 use mathlib.Core.List.{List}
-use mathlib.Core.Bool.{Bool, true, false, _&&_}
+use mathlib.Core.Bool.{true, false, cond}
 use native.Mathlib.Numerals.{add-one}
 use native.Mathlib.Omega.{arith}
 use lib.ListN.{length, getD, drop, drop-of-length-le}
 use lib.Seq.{drop-cons}
 use lib.Dec.{ltb, leb, eqb}
 use borrow.Author.Tests.{ltb-true, leb-true, leb-false, eqb-true, eq-eqb, ne-eqb}
-use Rattle.walk.specs.Cases.{tests, by-cases}
-use Rattle.walk.specs.Listing.{Listing, more, ends, fails, Reply, gave, nothing, refused, gives, none, refuses}
+use Rattle.walk.specs.Cases.{tests, by-cases, and-true}
+use Rattle.walk.specs.Listing.{Listing, more, ends, fails, Reply, gave, nothing, refused, gives}
 use Rattle.walk.specs.ListingLaws.{Every}
 use Rattle.walk.specs.Pick.{firstBy, mapReply}
 use Rattle.walk.specs.PickLaws.{Gives}
@@ -19,37 +19,25 @@ use Rattle.refusal.specs.Told.{Told, told}
 use Rattle.refusal.specs.declared.Refusal.the-variants as why
 use Rattle.area.specs.Kind.{Sort}
 use Rattle.area.specs.Subs.{Sub, subsFrom, stepAt}
-use Rattle.area.specs.SubsLaws.{sub-next, sub-end, sub-refused, Inside, subs-inside, Chained, subs-chained}
+use Rattle.area.specs.SubsLaws.{Inside, subs-inside, Chained, subs-chained}
 use Rattle.find.specs.Find.{same, Span, spanOf, bytesAt}
+use Rattle.find.specs.FindLaws.{first-hit, first-miss}
 use Rattle.lines.specs.Slots.{startsAt, bodyIn, bodyFrom, bodyAt, nameThen, named, scanFrom, nameOf, slotAt}
 
--- ---- the loop of `seek`: one law for each way, on an answer of `sub_at`
+-- ---- the loop of `seek`: the laws of `find` for a first one, at this test
 
 starts-not : (v : ℕ) (b : Sub) → (b .start ≡ v → ⊥) → startsAt v b ≡ false
 starts-not v b h = simp tests
 
-module _ (rule : ℕ → Sort) (s : List ℕ) (p v : ℕ) where
-  module _ (b : Sub) (x : ℕ) (q : gives b x ≡ stepAt rule s p) where
-    pub seek-miss : (b .start ≡ v → ⊥) → bodyFrom rule s x v ≡ bodyFrom rule s p v
-    unfolding firstBy
-    seek-miss h = rw (← sub-next rule s p b x q .is, starts-not v b h)
+module _ (rule : ℕ → Sort) (s : List ℕ) (p v : ℕ) (b : Sub) (x : ℕ) (q : gives b x ≡ stepAt rule s p) where
+  pub seek-miss : (b .start ≡ v → ⊥) → bodyFrom rule s x v ≡ bodyFrom rule s p v
+  seek-miss h = first-miss rule s p (startsAt v) b x q (starts-not v b h)
 
-    module _ (h₁ : b .start ≡ v) where
-      pub seek-other : (b .kind ≡ 0xf2 → ⊥) → bodyFrom rule s x v ≡ bodyFrom rule s p v
-      unfolding firstBy
-      seek-other h = rw (← sub-next rule s p b x q .is, eq-eqb (b .start) v h₁, ne-eqb (b .kind) 0xf2 h)
+  pub seek-other : b .start ≡ v → (b .kind ≡ 0xf2 → ⊥) → bodyFrom rule s x v ≡ bodyFrom rule s p v
+  seek-other h₁ h = first-miss rule s p (startsAt v) b x q (rw (eq-eqb (b .start) v h₁, ne-eqb (b .kind) 0xf2 h))
 
-      pub seek-hit : b .kind ≡ 0xf2 → gave (spanOf b) ≡ bodyFrom rule s p v
-      unfolding firstBy
-      seek-hit h = rw (← sub-next rule s p b x q .is, eq-eqb (b .start) v h₁, eq-eqb (b .kind) 0xf2 h)
-
-  pub seek-end : none ≡ stepAt rule s p → nothing ≡ bodyFrom rule s p v
-  unfolding firstBy
-  seek-end q = rw (← sub-end rule s p q)
-
-  pub seek-refused : (t : Told) → refuses t ≡ stepAt rule s p → refused t ≡ bodyFrom rule s p v
-  unfolding firstBy
-  seek-refused t q = rw (← sub-refused rule s p t q)
+  pub seek-hit : b .start ≡ v → b .kind ≡ 0xf2 → gave (spanOf b) ≡ bodyFrom rule s p v
+  seek-hit h₁ h = first-hit rule s p (startsAt v) b x q (rw (eq-eqb (b .start) v h₁, eq-eqb (b .kind) 0xf2 h))
 
 -- ---- where a body lies
 
@@ -57,11 +45,7 @@ abbrev Lies : ℕ → ℕ → Span → Type 0
 Lies m v a = (a .start ≡ v) × (a .start + a .len ≤ m)
 
 starts-start : (v : ℕ) (b : Sub) → startsAt v b ≡ true → b .start ≡ v
-starts-start v b e = eqb-true (b .start) v (first (eqb (b .start) v) (eqb (b .kind) 0xf2) e)
-  where
-    first : (x y : Bool) → x && y ≡ true → x ≡ true
-    first true y e = refl
-    first false y e = e
+starts-start v b e = eqb-true (b .start) v (and-true (eqb (b .start) v) (eqb (b .kind) 0xf2) e .0)
 
 lies-in : (m v : ℕ) (l : Listing Sub Told) → Every (Inside m) l → Gives (Lies m v) (bodyIn v l)
 unfolding firstBy
@@ -126,6 +110,12 @@ module _ (rule : ℕ → Sort) (s : List ℕ) where
   scans-found v a q = behind (subsFrom rule s 0) 0 (subs-chained rule s 0) v a q .1
 
 -- ---- one slot
+
+-- where the search begins does not matter
+pub slot-same : (rule : ℕ → Sort) (s v : List ℕ) (i p q : ℕ) → Scans rule s p → Scans rule s q → slotAt rule s v i p ≡ slotAt rule s v i q
+unfolding slotAt
+slot-same rule s v i p q f g =
+    ap (λ x. cond (leb (length v) i) (refused (told why.WrongSlot)) (nameOf x)) (scan-right rule s p (getD v i 0) f ∙ sym (scan-right rule s q (getD v i 0) g))
 
 module _ (rule : ℕ → Sort) (s v : List ℕ) (i p : ℕ) where
   pub slot-missing : length v ≤ i → refused (told why.WrongSlot) ≡ slotAt rule s v i p

@@ -1,6 +1,6 @@
 -- THE THEOREM of the text: n steps, each at the state that the step before handed on, put the lines of `linesOf` in order and then answer "none"
 -- again and again, if the slots hold the area's order list. And what a loop over the steps needs: each line leaves less to do.
-use Prim.Native.Nat.{ℕ, zero, suc, _+_, _-_, _≤_}
+use Prim.Native.Nat.{ℕ, zero, suc, _+_, _≤_}
 use mathlib.Core.Path.{_≡_, refl, sym, ap, _∙_}
 use mathlib.Core.List.{List, _++_}
 use mathlib.Core.Bool.{Bool, true, false, cond}
@@ -10,6 +10,7 @@ use lib.Dec.{ltb}
 use borrow.Author.Tests.{le-ltb}
 use Rattle.walk.specs.Listing.{Listing, more, ends, fails, mapped, andThen, onMove, all, Answer, gives, none, refuses, Reply, gave, nothing, refused, moved, calls, replies}
 use Rattle.walk.specs.ListingLaws.{calls-are}
+use Rattle.walk.specs.CallsLaws.{replies-same, calls-step}
 use Rattle.walk.specs.FirstLaws.{all-first}
 use Rattle.refusal.specs.Told.{Told, told}
 use Rattle.refusal.specs.declared.Refusal.the-variants as why
@@ -40,7 +41,6 @@ use Rattle.printed.specs.Printed.{Pieces, headLine, recordLine, endLine}
 use Rattle.listing.specs.Dump.{mostBytes, subRow, fileRow, refusal, closing, linesOf, bytesOf, textOf, Room, spoken, size}
 use Rattle.listing.specs.Step.{Line, stage, linesStep, filesStep, subsStep, headStep, stepOf}
 use Rattle.listing.specs.RoomLaws.{room-taken}
-use Rattle.listing.specs.CallsLaws.{replies-same, calls-step}
 use Rattle.listing.specs.declared.TextWalk.{TextWalk}
 use Rattle.listing.specs.declared.TextWalk.the-variants.{Head, Subs, Files, Lines, Done}
 
@@ -86,7 +86,7 @@ module _ (rule : ℕ → Sort) (s v : List ℕ) where
   subLines : ℕ → Listing Pieces Told
   subLines p = andThen (mapped subRow same (subsFrom rule s p)) (fileLines table.New)
 
-  linesFrom : TextWalk → Listing Pieces Told
+  pub linesFrom : TextWalk → Listing Pieces Told
   linesFrom Head =
       cond (ltb mostBytes (length s)) (more (refusal (told why.TooLong)) ends) (more (headLine (length s)) (closing (subLines 0)))
   linesFrom (Subs p) = closing (subLines p)
@@ -123,7 +123,7 @@ module _ (rule : ℕ → Sort) (s v : List ℕ) where
   unfolding linesFrom subLines
   subs-right p = stage-right Subs subRow (subsFrom rule s) (fileLines table.New) (filesStep rule s v table.New) (λ t. refl) (files-right table.New) (subsFrom rule s p) (stepAt rule s p) (subs-step p)
 
-  text-right : (w : TextWalk) → linesFrom w ≡ onMove linesFrom (moved (stepOf rule s v w))
+  pub text-right : (w : TextWalk) → linesFrom w ≡ onMove linesFrom (moved (stepOf rule s v w))
   unfolding linesFrom headStep
   text-right Head = by (ltb mostBytes (length s))
     where
@@ -173,7 +173,7 @@ records-built rule s xs room (gave n) e a =
 records-built rule s xs room nothing e a = absurd a
 records-built rule s xs room (refused t) e a = rw e
 
-lines-new : (rule : ℕ → Sort) (s xs : List ℕ) → Room rule s xs → linesFrom rule s (slotsAfter rule s xs) Head ≡ linesOf rule s
+pub lines-new : (rule : ℕ → Sort) (s xs : List ℕ) → Room rule s xs → linesFrom rule s (slotsAfter rule s xs) Head ≡ linesOf rule s
 unfolding linesFrom linesOf subLines fileLines recordLines
 lines-new rule s xs room =
     let v = slotsAfter rule s xs in

@@ -2,7 +2,6 @@ pub mod Dump
 pub mod Step
 pub mod Told
 pub mod StepLaws
-pub mod CallsLaws
 pub mod DumpLaws
 pub mod RoomLaws
 pub mod LessLaws

@@ -3,11 +3,9 @@
 -- alone: 1, then, if there are any, 1 below 4 bytes, and 12 for another signature than 4) and the sentence on number 11.
 -- Definitions only; a reader must believe them.
 use Prim.Native.Nat.{ℕ, _+_}
-use mathlib.Core.Path.{_≡_}
 use mathlib.Core.List.{List}
 use mathlib.Core.Bool.{cond}
 use lib.ListN.{length}
-use denote.Ref.{RefT, ptr, now}
 use lib.Dec.{ltb, eqb}
 use Rattle.word.specs.Word.{u32At}
 use Rattle.walk.specs.Listing.{Answer, none, refuses, Reply, gave, nothing, refused}
@@ -48,16 +46,6 @@ tablesArea z s = mapReply (bytesAt s) same (tablesSpan z s)
 
 abbrev pub linesArea : ModuleSizes → List ℕ → Reply (List ℕ) Told
 linesArea z s = mapReply (bytesAt s) same (linesSpan z s)
-
--- where the area is handed back from: where there is none, the empty part at the stream's start
-abbrev pub heldSpan : Reply Span Told → Span
-heldSpan (gave a) = a
-heldSpan nothing = record { start = 0; len = 0 }
-heldSpan (refused t) = record { start = 0; len = 0 }
-
--- the part itself, by its pointer (block and offset) and its bytes
-abbrev pub HandsBack : RefT (List ℕ) → Span → RefT (List ℕ) → Type 0
-HandsBack s a r = (ptr r .0 ≡ ptr s .0) × (ptr r .1 ≡ ptr s .1 + a .start) × (now r ≡ bytesAt (now s) a)
 
 -- a step of a walk over a table of such an area
 abbrev pub stepIn : {S B : Type 0} → (List ℕ → Answer S B Told) → Reply (List ℕ) Told → Answer S B Told

@@ -3,7 +3,6 @@ use Prim.Native.Nat.{ℕ, _+_, _<_, _≤_}
 use mathlib.Core.Path.{_≡_, refl, sym, ap, _∙_, subst⁻¹}
 use mathlib.Core.List.{List, []}
 use native.Mathlib.Omega.{arith}
-use native.Mathlib.Nat.{add-zero}
 use lib.ListN.{length, take, drop}
 use lib.Dec.{ltb}
 use borrow.Author.Tests.{ltb-false}
@@ -18,7 +17,7 @@ use Rattle.refusal.specs.declared.Refusal.the-variants as why
 use Rattle.find.specs.Find.{same, Span, bytesAt}
 use Rattle.table.specs.Whole.{ofBody}
 use Rattle.modi.specs.declared.ModuleSizes.{ModuleSizes}
-use Rattle.modi.specs.Modi.{moduleSymbols, moduleSpan, tablesSpan, linesSpan, tablesArea, linesArea, heldSpan, stepIn}
+use Rattle.modi.specs.Modi.{moduleSymbols, moduleSpan, tablesSpan, linesSpan, tablesArea, linesArea, stepIn}
 
 module _ (z : ModuleSizes) (s : List ℕ) where
   -- ---- the tests of `module_symbols`
@@ -140,20 +139,3 @@ module _ {S B : Type 0} (f : List ℕ → S → Answer S B Told) (l : List ℕ �
   walk-in (gave a) = right a
   walk-in nothing = calls-are (λ (v : S). none) (λ (v : S). ends) (λ v. refl) n w
   walk-in (refused t) = calls-are (λ (v : S). refuses t) (λ (v : S). fails t) (λ v. refl) n w
-
--- ---- `area_of`: the part at q of block b, with the bytes y, of the stream at p of block a, with the bytes x
-
-module _ {D : Type 0} (z : ModuleSizes) (x y : List ℕ) (a b : D) (p q : ℕ) (block : b ≡ a) where
-  abbrev Behind : Type 0
-  Behind = (b ≡ a) × (q ≡ p + heldSpan (moduleSpan z x) .start) × (y ≡ bytesAt x (heldSpan (moduleSpan z x)))
-
-  pub hands-area : (o : Span) (k : ℕ) → gave o ≡ moduleSpan z x → k ≡ o .len → q ≡ p + o .start → y ≡ take k (drop (o .start) x) → Behind
-  hands-area o k e ek place bytes =
-      let h : o ≡ heldSpan (moduleSpan z x) = ap heldSpan e in
-      (block, place ∙ ap (λ (c : Span). p + c .start) h, bytes ∙ ap (λ (j : ℕ). take j (drop (o .start) x)) ek ∙ ap (bytesAt x) h)
-
-  -- u is an answer without an area
-  pub hands-none : (u : Reply Span Told) → u ≡ moduleSpan z x → heldSpan u ≡ record { start = 0; len = 0 } → q ≡ p → y ≡ [] → Behind
-  hands-none u e n place bytes =
-      let h : record { start = 0; len = 0 } ≡ heldSpan (moduleSpan z x) = sym n ∙ ap heldSpan e in
-      (block, place ∙ sym (add-zero p) ∙ ap (λ (c : Span). p + c .start) h, bytes ∙ ap (bytesAt x) h)

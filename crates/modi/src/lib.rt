@@ -3,8 +3,9 @@
 // The C13 area is the part of the stream behind the symbols; places in the answers of calls on it count from the area's start. A module with C11
 // lines has no area: its tables are empty and its lines are refused. Every call tests number 11 first, of the stream.
 ghost use mathlib.Core.Path.{_≡_};
+ghost use Rattle.find.specs.Find.{heldSpan, HandsSpan};
 ghost use Rattle.find.specs.Told.{toldFound};
-ghost use Rattle.modi.specs.Modi.{moduleSpan, heldSpan, HandsBack, moduleSymbols, tablesSpan, linesSpan};
+ghost use Rattle.modi.specs.Modi.{moduleSpan, moduleSymbols, tablesSpan, linesSpan};
 ghost use Rattle.modi.specs.Told.{toldPart, toldSymbols};
 use find::Found;
 use refusal::LONGEST;
@@ -74,7 +75,7 @@ pub fn module_area(stream: &[u8], sizes: ModuleSizes) -> Found
 
 // The area itself, as a part of the lent stream; the empty part at its start where there is none.
 pub fn area_of(stream: &[u8], sizes: ModuleSizes) -> &[u8]
-    ensures { λ r. ⌜ HandsBack (stream .entry) (heldSpan (moduleSpan sizes (now (stream .entry)))) r ⌝ }
+    ensures { λ r. ⌜ HandsSpan (stream .entry) (heldSpan (moduleSpan sizes (now (stream .entry)))) r ⌝ }
 {
     match module_area(stream, sizes) {
         Found::At { start, len } => &stream[start..start + len],

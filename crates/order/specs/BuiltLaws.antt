@@ -5,19 +5,18 @@ use mathlib.Core.Path.{_≡_, refl, sym, ap, _∙_, subst⁻¹}
 use mathlib.Core.List.{List, [], _∷_, _++_, map}
 use mathlib.Core.Bool.{Bool, true, false, cond}
 use native.Mathlib.Omega.{arith}
-use lib.ListN.{length, take, drop, length-map}
-use lib.Seq.{getD-take}
+use lib.ListN.{length, drop, length-map}
 use lib.Dec.{ltb, eqb}
 use borrow.Author.Tests.{ltb-false, eq-eqb}
 use Rattle.word.specs.Word.{u16At, u32At}
-use Rattle.word.specs.WordLaws.{u16-drop, u32-drop}
+use Rattle.word.specs.WordLaws.{u16-drop, u32-drop, u16-take, u32-take}
 use native.Mathlib.Nat.{add-zero}
 use Rattle.walk.specs.Cases.{by-cases}
 use Rattle.walk.specs.Listing.{Listing, more, ends, fails, mapped, before, Reply, gave, nothing, refused}
 use Rattle.walk.specs.Pick.{only, firstBy, mapReply}
 use Rattle.refusal.specs.Told.{Told, longest, numberOf}
 use Rattle.area.specs.Kind.{Sort}
-use Rattle.area.specs.Subs.{Sub, subsFrom, bodies}
+use Rattle.area.specs.Subs.{Sub, subsFrom}
 use Rattle.area.specs.SubsLaws.{Chained, subs-chained, bodied, area-bodies}
 use Rattle.find.specs.Find.{same, is, spanOf, bytesAt}
 use Rattle.lines.specs.Lines.{headed, countOf, countLines}
@@ -63,7 +62,7 @@ each-after x m p l [] h k e = tt
 each-after x m p l (b ∷ bs) h k e = (omega arith, omega (arith, e .0 .1), each-after x m p l bs h k (e .1))
 
 module _ (rule : ℕ → Sort) (s : List ℕ) (short : length s ≤ longest) where
-  ascends : (l : Listing Sub Told) (p : ℕ) → Chained rule s p l → Ascends (map startOf (lines l))
+  pub ascends : (l : Listing Sub Told) (p : ℕ) → Chained rule s p l → Ascends (map startOf (lines l))
   unfolding only listed
   ascends (more b l) p w =
       let x = b .start + b .len in
@@ -80,15 +79,6 @@ order-stable rule s h = stable s (startsFrom rule s 0) (ascends rule s h (subsFr
 
 -- ---- the key of a body is that of its place
 
-u16-take : (n : ℕ) (s : List ℕ) (i : ℕ) → i + 1 < n → u16At (take n s) i ≡ u16At s i
-unfolding u16At
-u16-take n s i h = omega (arith, getD-take n s i 0 (omega arith), getD-take n s (i + 1) 0 h)
-
-u32-take : (n : ℕ) (s : List ℕ) (i : ℕ) → i + 3 < n → u32At (take n s) i ≡ u32At s i
-unfolding u32At
-u32-take n s i h =
-    omega (arith, getD-take n s i 0 (omega arith), getD-take n s (i + 1) 0 (omega arith), getD-take n s (i + 2) 0 (omega arith), getD-take n s (i + 3) 0 h)
-
 abbrev bytesOf : List ℕ → Sub → List ℕ
 bytesOf s b = bytesAt s (spanOf b)
 
@@ -99,8 +89,8 @@ same-key : (s : List ℕ) (b : Sub) → 12 ≤ b .len → keyOf (bytesOf s b) �
 unfolding keyOf keyAt
 same-key s b h =
     let a = b .start in
-    let e₁ : u16At (bytesOf s b) 4 ≡ u16At s (a + 4) = u16-take (b .len) (drop a s) 4 (omega arith) ∙ u16-drop s a 4 in
-    let e₂ : u32At (bytesOf s b) 0 ≡ u32At s a = u32-take (b .len) (drop a s) 0 (omega arith) ∙ u32-drop s a 0 ∙ ap (u32At s) (add-zero a) in
+    let e₁ : u16At (bytesOf s b) 4 ≡ u16At s (a + 4) = u16-take (drop a s) (b .len) 4 (omega arith) ∙ u16-drop s a 4 in
+    let e₂ : u32At (bytesOf s b) 0 ≡ u32At s a = u32-take (drop a s) (b .len) 0 (omega arith) ∙ u32-drop s a 0 ∙ ap (u32At s) (add-zero a) in
     λ i. e₁ i * 0x1_0000_0000 + e₂ i
 
 -- ---- the tests were passed

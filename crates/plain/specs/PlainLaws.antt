@@ -5,11 +5,12 @@ use mathlib.Core.List.{List, []}
 use mathlib.Core.Bool.{Bool, true, false, _&&_}
 use mathlib.Core.Option.{Option, none, some}
 use native.Mathlib.Omega.{arith}
-use native.Mathlib.Nat.{add-zero, le-of-eq}
+use native.Mathlib.Nat.{add-zero}
 use lib.ListN.{length, take, drop, length-drop, drop-of-length-le}
-use lib.Seq.{drop-drop, length-take-le, take-all}
+use lib.Seq.{drop-drop, length-take-le}
 use lib.Dec.{eqb}
 use borrow.Author.Tests.{lt-ltb, le-ltb, le-leb, lt-leb, eq-eqb, ne-eqb}
+use Rattle.word.specs.PartLaws.{lent, lent-is}
 use Rattle.word.specs.Word.{u16At, u32At}
 use Rattle.word.specs.WordLaws.{u32-drop}
 use Rattle.walk.specs.Listing.{over, Listing, more, onMove, all}
@@ -88,13 +89,6 @@ module _ (s : List ℕ) where
       floor-next g = sym (ap (ascends f) pair-here ∙ (rw (local-here, le-leb f l g)))
 
 -- ---- marks
-
--- a part lent from n to the end
-abbrev lent : ℕ → List ℕ → List ℕ
-lent n b = take (length b - n) (drop n b)
-
-lent-is : (n : ℕ) (b : List ℕ) → lent n b ≡ drop n b
-lent-is n b = take-all (length b - n) (drop n b) (le-of-eq (length-drop n b))
 
 module _ (b : List ℕ) where
   pub lines-short : length b < 12 → none ≡ linesMark b

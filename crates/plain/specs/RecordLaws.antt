@@ -10,7 +10,7 @@ use lib.Dec.{ltb, eqb}
 use borrow.Author.Tests.{lt-ltb, le-ltb, le-leb, lt-leb, eq-eqb, ne-eqb, ltb-false}
 use Rattle.word.specs.Word.{u16At, u32At}
 use Rattle.word.specs.WordLaws.{u16-drop, u32-drop}
-use Rattle.walk.specs.Cases.{by-cases, tests}
+use Rattle.walk.specs.Cases.{by-cases}
 use Rattle.walk.specs.Listing.{Move, fail}
 use Rattle.refusal.specs.Told.{Told, told}
 use Rattle.refusal.specs.declared.Refusal.the-variants as why

@@ -41,16 +41,24 @@ strict-sound s t (pass x) w = w
 strict-sound s t over w = w
 strict-sound s t (fail r) w = w
 
-module _ {B : Type 0} (step : List ℕ → Move (List ℕ) B Told) (sound : (s : List ℕ) → Sound s (step s)) where
+-- what a loop that stands at i of s has to know: `far` is how many bytes the record in front has, 0 where there is none, and `whole` whether bytes are
+-- records to their end
+pub record Scan (far : List ℕ → ℕ) (whole : List ℕ → Bool) (s : List ℕ) (i : ℕ) : Type 0 where
+  pub end : length s ≤ i → true ≡ whole (drop i s)
+  pub stuck : (n : ℕ) → i < length s → n ≡ far (drop i s) → n ≡ 0 → false ≡ whole (drop i s)
+  pub next : (n : ℕ) → n ≡ far (drop i s) → (n ≡ 0 → ⊥) → whole (drop (i + n) s) ≡ whole (drop i s)
+  pub inside : (n : ℕ) → n ≡ far (drop i s) → n ≤ length s - i
+
+module _ {B : Type 0} (step : List ℕ → Move (List ℕ) B Told) (sound : (s : List ℕ) → Sound s (step s)) (ended : step [] ≡ over) where
   turn : (s : List ℕ) → wholly step s ≡ endsWhole (onMove (all step length) (step s))
   unfolding wholly
   turn s = ap endsWhole (all-step step length (λ x. sound-falls x (step x) (sound x)) s)
 
   module _ (s : List ℕ) (i : ℕ) where
-    pub whole-end : step [] ≡ over → length s ≤ i → true ≡ wholly step (drop i s)
-    whole-end e h = sym (ap (wholly step) (drop-of-length-le s {i = i} h) ∙ turn [] ∙ ap (λ u. endsWhole (onMove (all step length) u)) e)
+    whole-end : length s ≤ i → true ≡ wholly step (drop i s)
+    whole-end h = sym (ap (wholly step) (drop-of-length-le s {i = i} h) ∙ turn [] ∙ ap (λ u. endsWhole (onMove (all step length) u)) ended)
 
-    pub whole-stuck : (n : ℕ) → i < length s → n ≡ stride (drop i s) (step (drop i s)) → n ≡ 0 → false ≡ wholly step (drop i s)
+    whole-stuck : (n : ℕ) → i < length s → n ≡ stride (drop i s) (step (drop i s)) → n ≡ 0 → false ≡ wholly step (drop i s)
     whole-stuck n h e z = sym (turn (drop i s) ∙ by (step (drop i s)) (sound (drop i s)) (sym z ∙ e))
       where
         by : (u : Move (List ℕ) B Told) → Sound (drop i s) u → 0 ≡ stride (drop i s) u → endsWhole (onMove (all step length) u) ≡ false
@@ -59,7 +67,7 @@ module _ {B : Type 0} (step : List ℕ → Move (List ℕ) B Told) (sound : (s :
         by over w q = absurd (omega (arith, length-drop i s))
         by (fail r) w q = refl
 
-    pub whole-next : (n : ℕ) → n ≡ stride (drop i s) (step (drop i s)) → (n ≡ 0 → ⊥) → wholly step (drop (i + n) s) ≡ wholly step (drop i s)
+    whole-next : (n : ℕ) → n ≡ stride (drop i s) (step (drop i s)) → (n ≡ 0 → ⊥) → wholly step (drop (i + n) s) ≡ wholly step (drop i s)
     unfolding wholly
     whole-next n e z = by (step (drop i s)) (sound (drop i s)) e ∙ sym (turn (drop i s))
       where
@@ -71,5 +79,8 @@ module _ {B : Type 0} (step : List ℕ → Move (List ℕ) B Told) (sound : (s :
         by over w q = absurd (z q)
         by (fail r) w q = absurd (z q)
 
-    pub whole-in : (n : ℕ) → n ≡ stride (drop i s) (step (drop i s)) → n ≤ length s - i
+    whole-in : (n : ℕ) → n ≡ stride (drop i s) (step (drop i s)) → n ≤ length s - i
     whole-in n e = omega (arith, stride-in (drop i s) (step (drop i s)), length-drop i s)
+
+    pub scan : Scan (λ t. stride t (step t)) (wholly step) s i
+    scan = record { end = whole-end; stuck = whole-stuck; next = whole-next; inside = whole-in }

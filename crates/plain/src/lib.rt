@@ -11,8 +11,9 @@ ghost use Rattle.body.specs.Lines.{lineBytes};
 ghost use Rattle.body.specs.Inlinees.{inlineeBite};
 ghost use Rattle.body.specs.Imports.{moduleBite};
 ghost use Rattle.body.specs.Exports.{pairs};
-ghost use Rattle.plain.specs.Plain.{sizeOf, plainBlock, plainChecksum, wholly, ascends, marked, linesMark, inlineesMark, isOpaque, markOf, plainOf};
+ghost use Rattle.plain.specs.Plain.{sizeOf, plainBlock, plainChecksum, ascends, marked, linesMark, inlineesMark, isOpaque, markOf, plainOf};
 ghost use Rattle.plain.specs.WalkLaws.{stride};
+ghost use Rattle.plain.specs.ScanLaws.{strideOf, whollyOf};
 ghost use Rattle.plain.specs.Told.{toldMark, toldPlain};
 use refusal::LONGEST;
 use word::u8_at;
@@ -138,54 +139,33 @@ fn module_at(body: &[u8], i: usize) -> usize
     8 + 4 * n
 }
 
-fn blocks_whole(body: &[u8], columns: bool) -> bool
-    ensures { λ r. ⌜ r ≡ wholly (plainBlock columns) (now (body .entry)) ⌝ }
-{
-    let mut i: usize = 0;
-    while i < body.len() {
-        let n = block_at(body, i, columns);
-        if n == 0 {
-            return false;
-        }
-        i += n;
-    }
-    true
+// What records a body is made of: blocks, with or without columns; checksums; inlinees, with or without extra files; modules.
+enum Records {
+    Blocks(bool),
+    Checksums,
+    Inlinees(bool),
+    Modules,
 }
 
-fn checksums_whole(body: &[u8]) -> bool
-    ensures { λ r. ⌜ r ≡ wholly plainChecksum (now (body .entry)) ⌝ }
+fn record_at(body: &[u8], i: usize, records: Records) -> usize
+    requires { ⌜ i < length (now body) ⌝ }
+    ensures { λ r. ⌜ r ≡ strideOf records (drop i (now (body .entry))) ⌝ }
 {
-    let mut i: usize = 0;
-    while i < body.len() {
-        let n = checksum_at(body, i);
-        if n == 0 {
-            return false;
-        }
-        i += n;
+    match records {
+        Records::Blocks(columns) => block_at(body, i, columns),
+        Records::Checksums => checksum_at(body, i),
+        Records::Inlinees(extended) => inlinee_at(body, i, extended),
+        Records::Modules => module_at(body, i),
     }
-    true
 }
 
-fn inlinees_whole(body: &[u8], extended: bool) -> bool
-    ensures { λ r. ⌜ r ≡ wholly (inlineeBite extended) (now (body .entry)) ⌝ }
+// Whether the body is records of plain form to its end.
+fn whole(body: &[u8], records: Records) -> bool
+    ensures { λ r. ⌜ r ≡ whollyOf records (now (body .entry)) ⌝ }
 {
     let mut i: usize = 0;
     while i < body.len() {
-        let n = inlinee_at(body, i, extended);
-        if n == 0 {
-            return false;
-        }
-        i += n;
-    }
-    true
-}
-
-fn modules_whole(body: &[u8]) -> bool
-    ensures { λ r. ⌜ r ≡ wholly moduleBite (now (body .entry)) ⌝ }
-{
-    let mut i: usize = 0;
-    while i < body.len() {
-        let n = module_at(body, i);
+        let n = record_at(body, i, records);
         if n == 0 {
             return false;
         }
@@ -230,7 +210,7 @@ fn lines_mark(body: &[u8]) -> Mark
         return Mark::Bad;
     }
     let flag = u16_at(body, 6) % 2;
-    mark_if(blocks_whole(&body[12..], flag == 1), flag as u64)
+    mark_if(whole(&body[12..], Records::Blocks(flag == 1)), flag as u64)
 }
 
 fn inlinees_mark(body: &[u8]) -> Mark
@@ -243,7 +223,10 @@ fn inlinees_mark(body: &[u8]) -> Mark
     if 1 < signature {
         return Mark::Bad;
     }
-    mark_if(inlinees_whole(&body[4..], signature == 1), signature as u64)
+    mark_if(
+        whole(&body[4..], Records::Inlinees(signature == 1)),
+        signature as u64,
+    )
 }
 
 // Whether a writer takes a body of the kind as it is.
@@ -264,9 +247,9 @@ fn mark_of(kind: u32, body: &[u8]) -> Mark
 {
     match kind {
         0xf2 => lines_mark(body),
-        0xf4 => mark_if(checksums_whole(body), 0),
+        0xf4 => mark_if(whole(body, Records::Checksums), 0),
         0xf6 => inlinees_mark(body),
-        0xf7 => mark_if(modules_whole(body), 0),
+        0xf7 => mark_if(whole(body, Records::Modules), 0),
         0xf8 => floor_of(body),
         _ => {
             if body.len() % 4 == 0 {

@@ -16,6 +16,7 @@ use line_record::Length;
 use line_record::LineKind;
 use line_record::LineRecord;
 use refusal::Refusal;
+use refusal::number;
 use text::Place;
 use text::put_bytes;
 use text::put_decimal;
@@ -158,33 +159,6 @@ pub fn put_end(buf: &mut [u8], place: Place) -> Place
     ensures { λ r. ⌜ page (now (buf .exit)) (toldPlace r) ≡ writtenAll endLine (page (now (buf .entry)) (toldPlace place)) ⌝ }
 {
     put_bytes(buf, place, b"end\n")
-}
-
-// Document 01's number of a refusal.
-pub fn number(why: Refusal) -> u64
-    ensures { λ r. ⌜ r ≡ numberOf (told why) ⌝ }
-{
-    match why {
-        Refusal::Cut => 1,
-        Refusal::UnknownKind(_) => 2,
-        Refusal::UnknownChecksumKind(_) => 3,
-        Refusal::ExportLength => 4,
-        Refusal::NotACrossModuleRef(_) => 5,
-        Refusal::CrossModuleRefNotFound(_) => 6,
-        Refusal::BlockSize => 7,
-        Refusal::OffsetTooLarge => 8,
-        Refusal::UnsortedExports => 9,
-        Refusal::NoRoom => 10,
-        Refusal::TooLong => 11,
-        Refusal::OldFormat => 12,
-        Refusal::NoStringTable => 13,
-        Refusal::HashVersion => 14,
-        Refusal::ModuleSizes => 15,
-        Refusal::WrongPlace => 16,
-        Refusal::NotPlain => 17,
-        Refusal::NoFile(_) => 18,
-        Refusal::WrongSlot => 19,
-    }
 }
 
 pub fn put_refused(buf: &mut [u8], place: Place, why: Refusal) -> Place

@@ -4,7 +4,7 @@
 -- Definitions only; a reader must believe them.
 use Prim.Native.Nat.{ℕ, _%_}
 use mathlib.Core.List.{List}
-use mathlib.Core.Bool.{Bool, cond}
+use mathlib.Core.Bool.{cond}
 use lib.ListN.{length, drop}
 use lib.Dec.{ltb, eqb}
 use Rattle.word.specs.Word.{u32At}
@@ -12,7 +12,7 @@ use Rattle.walk.specs.Listing.{Listing, more, ends, fails, mapped, andThen}
 use Rattle.refusal.specs.Told.{Told, told, longest}
 use Rattle.refusal.specs.declared.Refusal.the-variants as why
 use Rattle.area.specs.Parts.{Raw, Parts, parts}
-use Rattle.area.specs.Kind.{Sort, onSort, ruled}
+use Rattle.area.specs.Kind.{Sort, onSort}
 use Rattle.body.specs.Lines.{LineHead, lineHead, columned, Block, blocks}
 use Rattle.body.specs.Checksums.{Checksum, checksums}
 use Rattle.body.specs.Inlinees.{Inlinee, extended, inlinees}

@@ -1,6 +1,7 @@
 -- Document 01's table of refusals: the number of each, and what it carries. Definitions only; a reader must believe them.
 use Prim.Native.Nat.{ℕ}
 use mathlib.Core.List.{List, [], _∷_}
+use lib.ListN.{getD}
 use Rattle.refusal.specs.declared.Refusal.{Refusal}
 use Rattle.refusal.specs.declared.Refusal.the-variants as why
 
@@ -39,6 +40,10 @@ told why.WrongSlot = bare 19
 -- the number alone
 abbrev pub numberOf : Told → ℕ
 numberOf t = t .number
+
+-- what it carries, or 0
+abbrev pub carriedOf : Told → ℕ
+carriedOf t = getD (t .carries) 0 0
 
 -- number 11: the longest area or stream, in bytes
 abbrev pub longest : ℕ

@@ -3,7 +3,7 @@ use Prim.Native.Nat.{ℕ}
 use mathlib.Core.Path.{_≡_, refl, sym, ap, _∙_}
 use mathlib.Core.List.{List, [], _∷_}
 use lib.ListN.{getD}
-use Rattle.refusal.specs.Told.{Told, told}
+use Rattle.refusal.specs.Told.{Told, told, numberOf, carriedOf}
 use Rattle.refusal.specs.declared.Refusal.{Refusal}
 use Rattle.refusal.specs.declared.Refusal.the-variants as why
 
@@ -68,3 +68,7 @@ exact tell back undo a m e = sym (undo a) ∙ ap back e
 -- so two answers that tell the same are one
 pub one-answer : {A M : Type 0} (tell : A → M) (back : M → A) → ((a : A) → back (tell a) ≡ a) → (a b : A) (m : M) → tell a ≡ m → tell b ≡ m → a ≡ b
 one-answer tell back undo a b m e f = exact tell back undo a m e ∙ sym (exact tell back undo b m f)
+
+-- the numbers of a refusal that is known
+pub numbers-are : {r s : Refusal} → r ≡ s → (numberOf (told s) ≡ numberOf (told r)) × (carriedOf (told s) ≡ carriedOf (told r))
+numbers-are e = (ap (λ w. numberOf (told w)) (sym e), ap (λ w. carriedOf (told w)) (sym e))

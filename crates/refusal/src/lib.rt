@@ -1,6 +1,8 @@
 // Why a call refuses: document 01's table of refusal numbers, a case each, with what it carries.
 //
 // `told` of specs/Told.antt gives each case its number and its values; every promise about a refusal goes through it.
+ghost use mathlib.Core.Path.{_≡_};
+ghost use Rattle.refusal.specs.Told.{told, numberOf, carriedOf};
 
 // The longest area or stream that a call reads, in bytes: number 11.
 pub const LONGEST: usize = 16_777_216;
@@ -44,4 +46,40 @@ pub enum Refusal {
     NoFile(u32),
     // 19: a slot of an order list is missing, or names no line subsection.
     WrongSlot,
+}
+
+// A refusal in numbers: document 01's, and what it carries or 0.
+pub struct Pair(pub u64, pub u64);
+
+pub fn numbers(why: Refusal) -> Pair
+    ensures { λ r. ⌜ (r .0 ≡ numberOf (told why)) × (r .1 ≡ carriedOf (told why)) ⌝ }
+{
+    match why {
+        Refusal::Cut => Pair(1, 0),
+        Refusal::UnknownKind(kind) => Pair(2, kind as u64),
+        Refusal::UnknownChecksumKind(kind) => Pair(3, kind as u64),
+        Refusal::ExportLength => Pair(4, 0),
+        Refusal::NotACrossModuleRef(index) => Pair(5, index as u64),
+        Refusal::CrossModuleRefNotFound(index) => Pair(6, index as u64),
+        Refusal::BlockSize => Pair(7, 0),
+        Refusal::OffsetTooLarge => Pair(8, 0),
+        Refusal::UnsortedExports => Pair(9, 0),
+        Refusal::NoRoom => Pair(10, 0),
+        Refusal::TooLong => Pair(11, 0),
+        Refusal::OldFormat => Pair(12, 0),
+        Refusal::NoStringTable => Pair(13, 0),
+        Refusal::HashVersion => Pair(14, 0),
+        Refusal::ModuleSizes => Pair(15, 0),
+        Refusal::WrongPlace => Pair(16, 0),
+        Refusal::NotPlain => Pair(17, 0),
+        Refusal::NoFile(index) => Pair(18, index as u64),
+        Refusal::WrongSlot => Pair(19, 0),
+    }
+}
+
+pub fn number(why: Refusal) -> u64
+    ensures { λ r. ⌜ r ≡ numberOf (told why) ⌝ }
+{
+    let n = numbers(why);
+    n.0
 }

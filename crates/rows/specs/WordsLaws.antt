@@ -1,25 +1,20 @@
--- Laws of a run of words in bytes: how many there are, which is the one at an index, that a part of the bytes that holds the run has the same, and
--- a law for each way out of `word_in`.
+-- Laws of a run of words in bytes: which is the one at an index, that a part of the bytes that holds the run has the same, and a law for each way
+-- out of `word_in`.
 use Prim.Native.Nat.{ℕ, zero, suc, _+_, _*_, _<_, _≤_}
 use mathlib.Core.Path.{_≡_, refl, sym, ap, _∙_}
 use mathlib.Core.List.{List, _∷_}
 use native.Mathlib.Omega.{arith}
 use lib.ListN.{length, take, drop}
-use lib.Seq.{getD-take, drop-drop}
+use lib.Seq.{drop-drop}
 use Rattle.walk.specs.Cases.{tests}
 use Rattle.walk.specs.Listing.{gave, nothing, refused}
 use Rattle.refusal.specs.Told.{told, longest}
 use Rattle.refusal.specs.declared.Refusal.the-variants as why
 use Rattle.word.specs.Word.{u32At}
-use Rattle.word.specs.WordLaws.{u32-drop}
+use Rattle.word.specs.WordLaws.{u32-drop, u32-take}
 use Rattle.body.specs.Words.{wordsIn}
 use Rattle.rows.specs.Collect.{ofNth}
 use Rattle.rows.specs.Words.{wordIn}
-
-pub words-length : (n : ℕ) (s : List ℕ) → length (wordsIn n s) ≡ n
-unfolding wordsIn
-words-length zero s = refl
-words-length (suc n) s = ap suc (words-length n (drop 4 s))
 
 module _ {C : Type 0} (y : C) (f : ℕ → C) where
   nth-front : (n : ℕ) (s : List ℕ) (i : ℕ) → i < n → ofNth i (wordsIn n s) y f ≡ f (u32At s (4 * i))
@@ -40,12 +35,7 @@ module _ {C : Type 0} (y : C) (f : ℕ → C) where
   words-none (suc n) s (suc i) h = words-none n (drop 4 s) i (omega arith)
 
 -- in a part of k bytes from the front
-pub u32-take : (s : List ℕ) (k p : ℕ) → p + 4 ≤ k → u32At (take k s) p ≡ u32At s p
-unfolding u32At
-u32-take s k p h =
-    rw (getD-take k s p 0 (omega arith), getD-take k s (p + 1) 0 (omega arith), getD-take k s (p + 2) 0 (omega arith), getD-take k s (p + 3) 0 (omega arith))
-
-pub words-take : (n : ℕ) (s : List ℕ) (k p : ℕ) → p + 4 * n ≤ k → wordsIn n (drop p (take k s)) ≡ wordsIn n (drop p s)
+words-take : (n : ℕ) (s : List ℕ) (k p : ℕ) → p + 4 * n ≤ k → wordsIn n (drop p (take k s)) ≡ wordsIn n (drop p s)
 unfolding wordsIn
 words-take zero s k p h = refl
 words-take (suc n) s k p h =
@@ -54,6 +44,10 @@ words-take (suc n) s k p h =
     let rest : wordsIn n (drop 4 (drop p (take k s))) ≡ wordsIn n (drop 4 (drop p s))
     = ap (wordsIn n) (drop-drop 4 p (take k s)) ∙ words-take n s k (p + 4) (omega arith) ∙ ap (wordsIn n) (sym (drop-drop 4 p s)) in
     λ i. first i ∷ rest i
+
+-- n words at p of the part at start are those of the whole
+pub words-part : (s : List ℕ) (start len p n : ℕ) → p + 4 * n ≤ len → wordsIn n (drop (start + p) s) ≡ wordsIn n (drop p (take len (drop start s)))
+words-part s start len p n h = ap (wordsIn n) (sym (drop-drop p start s)) ∙ sym (words-take n (drop start s) len p h)
 
 -- ---- the tests of `word_in`
 
@@ -68,10 +62,13 @@ module _ (s : List ℕ) (words count i : ℕ) where
     word-past h = simp tests
 
     module _ (h₁ : words + 4 * count ≤ length s) where
-      pub word-none : count ≤ i → nothing ≡ wordIn s words count i
+      -- of words that lie in the area
+      pub word-of : wordIn s words count i ≡ ofNth i (wordsIn count (drop words s)) nothing gave
       unfolding wordIn
-      word-none h = words-none nothing gave count (drop words s) i h ∙ simp tests
+      word-of = simp tests
+
+      pub word-none : count ≤ i → nothing ≡ wordIn s words count i
+      word-none h = words-none nothing gave count (drop words s) i h ∙ sym word-of
 
       pub word-at : i < count → (w : ℕ) → w ≡ u32At s (words + 4 * i) → gave w ≡ wordIn s words count i
-      unfolding wordIn
-      word-at h w e = ap gave e ∙ words-nth nothing gave count s words i h ∙ simp tests
+      word-at h w e = ap gave e ∙ words-nth nothing gave count s words i h ∙ sym word-of

@@ -1,5 +1,6 @@
 // The records of a body with their places, and all records of a listing in a list: what every table is read by is in specs/. The one call reads
-// a word of a record that answers its words by place and number, as the modules of imports do (crate: `CrossScopeImportModule::get`).
+// a word of a record that answers its words by place and number, as the modules of imports (crate: `CrossScopeImportModule::get`) and the inlinees
+// with their extra files do.
 ghost use mathlib.Core.Path.{_≡_};
 ghost use Rattle.rows.specs.Words.{wordIn};
 ghost use Rattle.rows.specs.Told.{toldWord};

@@ -1,5 +1,5 @@
 // The sheet of document 01, run: each of its lines with the answer of the library, written as text. A refusal is `refused`, its number and what it
-// carries. What is written is compared with the file stdout.
+// carries; each of the numbers 1 to 19 comes at least once. What is written is compared with the file stdout.
 use area::Stepped;
 use area::SubStep;
 use area::SubWalk;
@@ -41,7 +41,7 @@ fn end() {
 
 fn refused(why: Refusal) {
     say(b"refused ");
-    number(printed::number(why));
+    number(refusal::number(why));
     match why {
         Refusal::UnknownKind(kind) => number(kind as u64),
         Refusal::UnknownChecksumKind(kind) => number(kind as u64),
@@ -515,6 +515,13 @@ fn writer_lines() {
     count(&buf);
 }
 
+// Number 11: an area above 65,536 bytes has no text but this. (One above 16,777,216 bytes does not fit a program's stack.)
+fn long_lines() {
+    say(b"65537 bytes, as text: ");
+    let area = [0u8; 65537];
+    dump::print(&area);
+}
+
 fn main() {
     area_lines();
     flag_lines();
@@ -526,4 +533,5 @@ fn main() {
     string_lines();
     module_lines();
     writer_lines();
+    long_lines();
 }

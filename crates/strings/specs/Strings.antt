@@ -2,13 +2,13 @@
 -- hash table), and document 01, "Strings and module sizes": 11, header whole 1, signature 13, room for 24 + names size 1, hash version 14.
 -- Definitions only; a reader must believe them.
 use Prim.Native.Nat.{ℕ, _+_}
-use mathlib.Core.Path.{_≡_}
 use mathlib.Core.List.{List, [], _∷_}
 use mathlib.Core.Bool.{cond, _||_}
 use lib.ListN.{length, take, drop}
 use lib.Dec.{ltb, eqb}
-use denote.Ref.{RefT, ptr, now}
+use denote.Ref.{RefT}
 use Rattle.word.specs.Word.{u32At}
+use Rattle.word.specs.Part.{HandsBack}
 use Rattle.refusal.specs.Told.{Told, told, longest}
 use Rattle.refusal.specs.declared.Refusal.the-variants as why
 
@@ -66,7 +66,7 @@ ifTable (refused t) x = refused t
 abbrev pub nameAt : List ℕ → ℕ → Outcome
 nameAt s offset = ifTable (namesOf s) (nameIn s offset)
 
--- what is handed back of a stream: the part itself, by its pointer (block and offset) and its bytes. A refusal hands back the empty part at the start
+-- what is handed back of a stream. A refusal hands back the empty part at the start
 abbrev pub startOf : Outcome → ℕ
 startOf (part start len) = start
 startOf (refused t) = 0
@@ -75,6 +75,5 @@ abbrev pub lenOf : Outcome → ℕ
 lenOf (part start len) = len
 lenOf (refused t) = 0
 
-abbrev pub HandsBack : RefT (List ℕ) → Outcome → RefT (List ℕ) → Type 0
-HandsBack s o r =
-    (ptr r .0 ≡ ptr s .0) × (ptr r .1 ≡ ptr s .1 + startOf o) × (now r ≡ take (lenOf o) (drop (startOf o) (now s)))
+abbrev pub HandsName : RefT (List ℕ) → Outcome → RefT (List ℕ) → Type 0
+HandsName s o r = HandsBack s (startOf o) (lenOf o) r

@@ -7,14 +7,15 @@ use native.Mathlib.Omega.{arith}
 use native.Mathlib.Nat.{add-assoc}
 use native.Mathlib.Numerals.{add-one}
 use lib.ListN.{length, take, drop, getD, length-drop, drop-of-length-le}
-use lib.Seq.{length-take-le, drop-cons, getD-drop, getD-take, drop-drop, drop-at, take-add, take-take}
+use lib.Seq.{length-take-le, drop-cons, getD-drop, getD-take}
 use lib.Dec.{ltb, eqb}
 use denote.Ref.{RefT, ptr, now}
 use borrow.Author.Tests.{eqb-true, eqb-false, ltb-true, ltb-false, lt-ltb, ne-eqb, eq-eqb}
+use Rattle.word.specs.PartLaws.{part-bytes}
 use Rattle.walk.specs.Cases.{by-cases, tests}
 use Rattle.refusal.specs.Told.{Told, told, longest}
 use Rattle.refusal.specs.declared.Refusal.the-variants as why
-use Rattle.strings.specs.Strings.{signature, version, size, Outcome, part, refused, namesOf, untilZero, names, namesFrom, nameIn, ifTable, nameAt, startOf, lenOf, HandsBack}
+use Rattle.strings.specs.Strings.{signature, version, size, Outcome, part, refused, namesOf, untilZero, names, namesFrom, nameIn, ifTable, nameAt, startOf, lenOf, HandsName}
 
 -- ---- the tests of `string_table`
 
@@ -160,15 +161,6 @@ until-free (b ∷ l) i h e = by (eqb b 0) refl i h e (until-free l)
 
 -- ---- where a name lies, and what it is
 
-take-drop-take : (n k m : ℕ) (x : List ℕ) → n + k ≤ m → m ≤ length x → take n (drop k (take m x)) ≡ take n (drop k x)
-take-drop-take n k m x h l =
-    let j = m - k in
-    let e : m ≡ k + j = omega arith in
-    ap (λ (i : ℕ). take n (drop k (take i x))) e
-    ∙ ap (λ (y : List ℕ). take n (drop k y)) (take-add k j x)
-    ∙ ap (take n) (drop-at (take k x) (take j (drop k x)) k (length-take-le k x (omega arith)))
-    ∙ take-take n j (drop k x) (omega arith)
-
 -- a name stands at its offset in the names, and its zero too; its bytes are those before the first zero
 abbrev pub Named : List ℕ → ℕ → Outcome → Type 0
 Named s offset (part start len) =
@@ -191,7 +183,7 @@ name-stands s offset h =
       refl,
       omega arith,
       h,
-      ap (take n) (sym (drop-drop offset 12 s)) ∙ sym (take-drop-take n offset (size s) x (omega arith) m) ∙ until-take (namesFrom s offset),
+      part-bytes s 12 (size s) offset n (omega arith) ∙ until-take (namesFrom s offset),
       ap (λ (k : ℕ). getD s k 0) (add-assoc 12 offset n) ∙ sym (getD-drop 12 s (offset + n) 0) ∙ sym (getD-take (size s) x (offset + n) 0 (omega arith))
           ∙ sym (getD-drop offset (names s) n 0) ∙ until-zero (namesFrom s offset),
     ))
@@ -208,22 +200,8 @@ name-is s offset = by (namesOf s) (names-stand s)
 pub name-part : (s : List ℕ) (offset start len : ℕ) → part start len ≡ nameAt s offset → Named s offset (part start len)
 name-part s offset start len e = subst⁻¹ (Named s offset) e (name-is s offset)
 
--- ---- the part that `name_bytes` hands back: it points to block b, offset q, and has the bytes y; the stream points to a and p and has x
-
-module _ (a b p q : ℕ) (x y : List ℕ) (o : Outcome) (block : b ≡ a) where
-  abbrev Behind : Type 0
-  Behind = (b ≡ a) × (q ≡ p + startOf o) × (y ≡ take (lenOf o) (drop (startOf o) x))
-
-  pub hands-part : (start len k : ℕ) → part start len ≡ o → k ≡ len → q ≡ p + start → y ≡ take k (drop start x) → Behind
-  hands-part start len k e ek place bytes =
-      (block, place ∙ ap (λ (i : ℕ). p + i) (ap startOf e), bytes ∙ (λ i. take ((ek ∙ ap lenOf e) i) (drop (ap startOf e i) x)))
-
-  pub hands-none : (t : Told) → refused t ≡ o → q ≡ p → y ≡ [] → Behind
-  hands-none t e place bytes =
-      (block, place ∙ omega (arith, ap startOf e), bytes ∙ (λ i. take (ap lenOf e i) (drop (ap startOf e i) x)))
-
 -- the two calls agree: what is handed back stands where the name is told to stand, is as long, and is the bytes before the first zero
-pub agree : (s r : RefT (List ℕ)) (offset start len : ℕ) → part start len ≡ nameAt (now s) offset → HandsBack s (nameAt (now s) offset) r
+pub agree : (s r : RefT (List ℕ)) (offset start len : ℕ) → part start len ≡ nameAt (now s) offset → HandsName s (nameAt (now s) offset) r
     → (ptr r .1 ≡ ptr s .1 + start) × (length (now r) ≡ len) × (now r ≡ untilZero (namesFrom (now s) offset))
 agree s r offset start len e h =
     let w = name-part (now s) offset start len e in

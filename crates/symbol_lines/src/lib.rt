@@ -19,6 +19,8 @@ use refusal::Refusal;
 use turns::Held;
 use turns::LineWalk;
 use turns::Rest;
+use whole_list::begin_at;
+use whole_list::tested_list;
 
 // The walk over the symbol's subsection; where there is none it is at its end.
 pub enum SymbolLines {
@@ -73,15 +75,16 @@ fn walk_of(best: Best) -> LineWalk
     }
 }
 
-// Through the first n slots.
+// Through the first n slots. The list is tested once, so that each body is looked for where it is.
 fn find_slot(area: &[u8], slots: &[u32], n: usize, section: u16, offset: u32) -> SymbolLines
     ensures { λ r. ⌜ toldSymbol r ≡ walkTo (slotIn section offset (named (bodyAt ruled (now (area .entry))) n (now (slots .entry)))) ⌝ }
 {
+    let whole = tested_list(area, slots, 0);
     let mut best = Best::None;
     let mut scan: usize = 0;
     let mut i: usize = 0;
     while i < n {
-        match slot_body(area, slots, i, scan) {
+        match slot_body(area, slots, i, begin_at(slots, whole, i, scan)) {
             Named::Body { start, len } => {
                 let end = start + len;
                 let head = header_of(&area[start..end]);

@@ -2,11 +2,9 @@
 use Prim.Native.Nat.{ℕ, _+_, _≤_, _<_}
 use mathlib.Core.Path.{_≡_, refl, sym, ap, _∙_, subst⁻¹}
 use mathlib.Core.List.{List}
-use mathlib.Core.Bool.{Bool, true, false, cond}
-use native.Mathlib.Omega.{arith}
 use lib.ListN.{length, take, drop}
 use lib.Dec.{ltb}
-use borrow.Author.Tests.{ltb-true, ltb-false, le-ltb}
+use borrow.Author.Tests.{ltb-false}
 use mathlib.Core.Logic.{_⊎_, ⊎-elim}
 use Rattle.walk.specs.Cases.{tests, by-cases, le-or-gt}
 use Rattle.walk.specs.Listing.{Listing, more, ends, fails, mapped, onMove, moved, Answer, gives, none, refuses, Reply, gave, nothing, refused, calls, replies}

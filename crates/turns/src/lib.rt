@@ -225,7 +225,7 @@ fn inside_turn(area: &[u8], p: Place, t: Rest) -> Turn
 }
 
 // Before the first block, at `first`, of a subsection that ends at `end`.
-pub fn place_at(head: LineHeader, first: usize, end: usize) -> Place
+fn place_at(head: LineHeader, first: usize, end: usize) -> Place
     ensures { λ r. ⌜ r ≡ placeAt head first end ⌝ }
 {
     Place {

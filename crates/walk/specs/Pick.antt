@@ -1,7 +1,7 @@
 -- The first and the last record of a listing that pass a test, those that pass it, and a map on all. The first needs only what stands before
 -- it; the last needs the whole.
 -- Definitions only; a reader must believe them.
-use mathlib.Core.Bool.{Bool, true, false, cond}
+use mathlib.Core.Bool.{Bool, cond}
 use Rattle.walk.specs.Listing.{Listing, more, ends, fails, Reply, gave, nothing, refused}
 
 -- x, or y where x is nothing

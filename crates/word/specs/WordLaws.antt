@@ -1,12 +1,12 @@
 -- Laws of words: their bounds, what a put word reads back as, what stays, and that the bytes of a read word are those that were read.
-use Prim.Native.Nat.{ℕ, zero, suc, _+_, _*_, _/_, _%_, _≤_, _<_}
+use Prim.Native.Nat.{ℕ, _+_, _*_, _/_, _%_, _≤_, _<_}
 use mathlib.Core.Path.{_≡_, refl, sym, ap, _∙_}
 use mathlib.Core.List.{List, [], _∷_, _++_, append-assoc}
 use native.Mathlib.Omega.{arith}
 use native.Mathlib.Nat.{add-assoc, add-zero}
 use native.Mathlib.Numerals.{add-one, add-two, add-three}
 use lib.ListN.{length, take, drop, set, getD, length-append, length-take, length-drop, List·getD-append}
-use lib.Seq.{getD-drop, take-add, take-at, drop-at, length-take-le, sets-eq, getD-append-add, getD-take, drop-append-add}
+use lib.Seq.{getD-drop, take-add, drop-at, length-take-le, sets-eq, getD-append-add, getD-take}
 use borrow.Author.Tests.{le-leb, lt-leb}
 use Rattle.word.specs.Word.{u16At, u32At, le16, le32, put, store}
 
@@ -37,6 +37,15 @@ u16-drop s p i = simp (getD-drop, add-assoc)
 pub u32-drop : (s : List ℕ) (p i : ℕ) → u32At (drop p s) i ≡ u32At s (p + i)
 unfolding u32At
 u32-drop s p i = simp (getD-drop, add-assoc)
+
+pub u16-take : (s : List ℕ) (k p : ℕ) → p + 2 ≤ k → u16At (take k s) p ≡ u16At s p
+unfolding u16At
+u16-take s k p h = rw (getD-take k s p 0 (omega arith), getD-take k s (p + 1) 0 (omega arith))
+
+pub u32-take : (s : List ℕ) (k p : ℕ) → p + 4 ≤ k → u32At (take k s) p ≡ u32At s p
+unfolding u32At
+u32-take s k p h =
+    rw (getD-take k s p 0 (omega arith), getD-take k s (p + 1) 0 (omega arith), getD-take k s (p + 2) 0 (omega arith), getD-take k s (p + 3) 0 (omega arith))
 
 -- ---- the bytes of a number
 

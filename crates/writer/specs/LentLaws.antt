@@ -4,11 +4,11 @@ use Prim.Native.Nat.{ℕ, _+_, _-_, _*_, _/_, _%_, _≤_, _<_}
 use mathlib.Core.Path.{_≡_, refl, sym, ap, _∙_}
 use mathlib.Core.List.{List, [], _∷_, _++_, append-assoc, append-nil}
 use native.Mathlib.Omega.{arith}
-use native.Mathlib.Nat.{le-of-eq}
 use native.Mathlib.Numerals.{add-one}
 use lib.ListN.{length, take, drop, getD, length-append, length-drop, drop-of-length-le}
-use lib.Seq.{take-all, take-length, length-take-le, drop-drop, take-at, drop-append-add, take-suc}
+use lib.Seq.{take-length, length-take-le, drop-drop, take-at, drop-append-add, take-suc}
 use borrow.Rule.Slice.PartMut.{putMid}
+use Rattle.word.specs.PartLaws.{lent, lent-is}
 use Rattle.word.specs.Word.{le16, le32, put, store}
 use Rattle.word.specs.WordLaws.{put-length, store-put, le16-length, le32-length}
 use Rattle.body.specs.Words.{wordBytes}
@@ -22,7 +22,7 @@ use Rattle.body.specs.Checksums.{up4, zeros, checksumBytes}
 use Rattle.body.specs.ChecksumsLaws.{padding}
 use Rattle.plain.specs.Plain.{sizeOf}
 use Rattle.plain.specs.RecordLaws.{padding-two}
-use Rattle.writer.specs.Calls.{grown}
+use Rattle.calls.specs.Calls.{grown}
 
 -- b with the bytes bs at its start: what every writer of a body does to the part that it is lent
 abbrev pub over : List ℕ → List ℕ → List ℕ
@@ -56,12 +56,6 @@ module _ (xs b f y : List ℕ) (n : ℕ) (e : length xs ≡ n) (ef : f ≡ over 
   over-u16 v h ey = stored (le16 v) (omega (arith, le16-length v)) ey
 
 -- ---- a part lent from w to the end, `&mut b[w..]`
-
-abbrev pub lent : ℕ → List ℕ → List ℕ
-lent w b = take (length b - w) (drop w b)
-
-lent-is : (w : ℕ) (b : List ℕ) → lent w b ≡ drop w b
-lent-is w b = take-all (length b - w) (drop w b) (le-of-eq (length-drop w b))
 
 pub lent-room : (w n : ℕ) (b : List ℕ) → w + n ≤ length b → n ≤ length (lent w b)
 lent-room w n b h = rw lent-is (simp length-drop (omega arith))

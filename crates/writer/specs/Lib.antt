@@ -1,4 +1,2 @@
-pub mod Calls
 pub mod Told
 pub mod LentLaws
-pub mod CallLaws

@@ -5,15 +5,8 @@ use Rattle.walk.specs.Listing.{Reply, gave, nothing, refused}
 use Rattle.refusal.specs.Told.{Told, told}
 use Rattle.refusal.specs.Untold.{untold, untold-told}
 use Rattle.refusal.specs.declared.Refusal.the-variants as why
-use Rattle.writer.specs.Calls.{Act, goes, stops}
-use Rattle.writer.specs.declared.Step.{Step}
-use Rattle.writer.specs.declared.Step.the-variants as step
 use Rattle.writer.specs.declared.Wrote.{Wrote}
 use Rattle.writer.specs.declared.Wrote.the-variants as wrote
-
-abbrev pub toldAct : Step → Act
-toldAct (step.Go h m n) = goes h m n
-toldAct (step.Stop r) = stops (told r)
 
 abbrev pub toldWrote : Wrote → Reply ℕ Told
 toldWrote (wrote.To n) = gave n

@@ -1,11 +1,11 @@
 -- `find::first_of` meets its contract. The invariant: the answer from p on is the answer from the start. The measure is what is left of the area.
 -- Assumes nothing.
-use Prim.Native.Nat.{_-_, _≤_}
+use Prim.Native.Nat.{_-_}
 use mathlib.Core.Path.{_≡_, refl, sym, ap, _∙_}
 use native.Mathlib.Omega.{arith}
 use borrow.Author.Needs.{needs}
+use borrow.Author.Tests.{eq-eqb, ne-eqb}
 use lib.ListN.{length}
-use Rattle.walk.specs.Listing.{Reply}
 use Rattle.walk.specs.Pick.{firstBy, mapReply}
 use Rattle.area.specs.Kind.{ruled}
 use Rattle.area.specs.Told.{toldStep}
@@ -26,7 +26,7 @@ returns : tie.Need-returns Inv-loop μ-loop
 returns c =
     let m = c .before .before in
     let l = m .before .before .before in
-    first-hit _ _ _ _ _ _ (ap toldStep (sym (m .kind .given .1)) ∙ m .before .before .sub-at .ensures) (c .if1 .taken) ∙ l .loop .inv
+    first-hit _ _ _ _ _ _ (ap toldStep (sym (m .kind .given .1)) ∙ m .before .before .sub-at .ensures) (eq-eqb _ _ (c .if1 .taken)) ∙ l .loop .inv
 
 loop-less : tie.Need-loop-less Inv-loop μ-loop
 loop-less c =
@@ -37,7 +37,7 @@ loop-again : tie.Need-loop-again Inv-loop μ-loop
 loop-again c =
     let m = c .before .before in
     let l = m .before .before .before in
-    first-miss _ _ _ _ _ _ (ap toldStep (sym (m .kind .given .1)) ∙ m .before .before .sub-at .ensures) (c .if1 .left) ∙ l .loop .inv
+    first-miss _ _ _ _ _ _ (ap toldStep (sym (m .kind .given .1)) ∙ m .before .before .sub-at .ensures) (ne-eqb _ _ (c .if1 .left)) ∙ l .loop .inv
 
 returns-2 : tie.Need-returns-2 Inv-loop μ-loop
 returns-2 c =

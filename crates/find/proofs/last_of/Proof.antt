@@ -1,14 +1,13 @@
 -- `find::last_of` meets its contract. The invariant: the last from p on, or else the best so far, is the last of the area. The measure is
 -- what is left of the area.
 -- Assumes nothing.
-use Prim.Native.Nat.{_-_, _≤_}
-use mathlib.Core.Path.{_≡_, refl, sym, ap, _∙_}
+use Prim.Native.Nat.{_-_}
+use mathlib.Core.Path.{_≡_, sym, ap, _∙_}
 use native.Mathlib.Omega.{arith}
 use borrow.Author.Needs.{needs}
 use lib.ListN.{length}
 use Rattle.area.specs.Kind.{ruled}
 use Rattle.area.specs.Told.{toldStep}
-use Rattle.area.specs.Subs.{subsFrom}
 use Rattle.area.specs.SubsLaws.{sub-next}
 use Rattle.find.specs.Find.{lastSub}
 use Rattle.find.specs.Told.{toldFound}

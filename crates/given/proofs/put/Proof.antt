@@ -2,12 +2,12 @@
 -- of words that are left.
 -- Assumes nothing.
 use borrow.Author.Needs.{needs}
-use Prim.Native.Nat.{_+_, _-_, _≤_}
-use mathlib.Core.Path.{_≡_, ap, _∙_}
+use Prim.Native.Nat.{_-_, _≤_}
+use mathlib.Core.Path.{_≡_}
 use native.Mathlib.Omega.{arith}
 use lib.ListN.{length, length-set}
 use lib.Seq.{paste, paste-zero}
-use Rattle.given.specs.GivenLaws.{gives-put, gives-short, gives-copied, copied-turn}
+use Rattle.given.specs.GivenLaws.{gives-short, gives-copied, copied-turn}
 use Rattle.given.proofs.put.Statement.{statement}
 use Rattle.given.proofs.put.Tie as tie
 

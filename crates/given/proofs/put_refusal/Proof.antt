@@ -1,14 +1,16 @@
 -- `given::put_refusal` meets its contract: the pair is the refusal's words.
 -- Assumes nothing.
 use borrow.Author.Needs.{needs}
-use mathlib.Core.Path.{sym}
+use mathlib.Core.List.{[], _∷_}
 use Rattle.given.specs.Given.{given}
 use Rattle.given.specs.GivenLaws.{gives-as}
 use Rattle.given.proofs.put_refusal.Statement.{statement}
 use Rattle.given.proofs.put_refusal.Tie as tie
 
 returns : tie.Need-returns
-returns c = gives-as (given 2 (c .before .before .before .before .before .before .before .args .state)) (sym (c .before .before .before .before .before .refusal-pair .ensures)) (c .before .before .put .ensures)
+returns c =
+    let n = c .before .before .before .before .before .numbers .ensures in
+    gives-as (given 2 (c .before .before .before .before .before .before .before .args .state)) (λ i. n .0 i ∷ n .1 i ∷ []) (c .before .before .put .ensures)
 
 pub put-refusal-spec : {M : Type 1} → statement M
 put-refusal-spec =

@@ -7,7 +7,7 @@ use mathlib.Core.Path.{refl, sym, ap, _∙_}
 use Rattle.turns.specs.declared.Held.{Held}
 use Rattle.word.specs.Word.{put}
 use Rattle.line_words.specs.LineWords.{recordWords, heldWords}
-use Rattle.line_words.specs.LineWordsLaws.{gives-is, two-pieces}
+use Rattle.line_words.specs.LineWordsLaws.{gives-is, record-is, two-pieces}
 use Rattle.line_words.proofs.put_held.Statement.{statement}
 use Rattle.line_words.proofs.put_held.Tie as tie
 
@@ -23,7 +23,7 @@ returns-2 c =
     let g = h .before .before .before .before in
     let o = g .before .before .before .args .out .now in
     let q = gives-is 1 4 (1 ∷ []) (h .put2 .ensures) (omega arith) in
-    two-pieces o _ _ 4 5 (1 ∷ []) (recordWords (g .h .given .0 .0)) q (c .before .before .put-record .ensures) refl (omega arith)
+    two-pieces o _ _ 4 5 (1 ∷ []) (recordWords (g .h .given .0 .0)) q (record-is _ _ 5 (g .h .given .0 .0) (c .before .before .put-record .ensures) (omega arith)) refl (omega arith)
     ∙ ap (λ (x : Held). put o 4 (heldWords x)) (sym (g .h .given .1))
 
 pub put-held-spec : {M : Type 1} → statement M

@@ -4,7 +4,7 @@ use borrow.Author.Needs.{needs}
 use native.Mathlib.Omega.{arith}
 use Rattle.given.specs.GivenLaws.{gives-short}
 use Rattle.line_words.specs.LineWords.{recordWords, lineWalkWords, lineWords}
-use Rattle.line_words.specs.LineWordsLaws.{two-pieces, gives-pieces, walk-length, line-length}
+use Rattle.line_words.specs.LineWordsLaws.{record-is, two-pieces, gives-pieces, walk-length, line-length}
 use Rattle.line_words.proofs.put_line.Statement.{statement}
 use Rattle.line_words.proofs.put_line.Tie as tie
 
@@ -17,7 +17,7 @@ returns-2 : tie.Need-returns-2
 returns-2 c =
     let h = c .before .before .before .before .before .before in
     let a = h .before .before .before .before .args in
-    let q = two-pieces (a .out .now) _ _ 0 27 (lineWalkWords (a .w)) (recordWords (a .r)) (h .put-walk .ensures) (c .before .before .put-record .ensures) (omega (arith, walk-length (a .w))) (omega (arith, walk-length (a .w))) in
+    let q = two-pieces (a .out .now) _ _ 0 27 (lineWalkWords (a .w)) (recordWords (a .r)) (h .put-walk .ensures) (record-is _ _ 27 (a .r) (c .before .before .put-record .ensures) (omega arith)) (omega (arith, walk-length (a .w))) (omega (arith, walk-length (a .w))) in
     gives-pieces (a .out .now) _ (lineWords (a .r) (a .w)) q (omega (arith, line-length (a .r) (a .w)))
 
 pub put-line-spec : {M : Type 1} → statement M

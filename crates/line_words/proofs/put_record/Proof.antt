@@ -1,10 +1,9 @@
--- `line_words::put_record` meets its contract: one put that fits, of the words of the record's parts.
+-- `line_words::put_record` meets its contract: one put of the words of the record's parts.
 -- Assumes nothing.
 use borrow.Author.Needs.{needs}
-use native.Mathlib.Omega.{arith}
 use mathlib.Core.Path.{sym, ap, _∙_}
-use Rattle.word.specs.Word.{put}
-use Rattle.line_words.specs.LineWordsLaws.{gives-is, record-words}
+use Rattle.word.specs.Word.{store}
+use Rattle.line_words.specs.LineWordsLaws.{record-words}
 use Rattle.line_words.proofs.put_record.Statement.{statement}
 use Rattle.line_words.proofs.put_record.Tie as tie
 
@@ -12,8 +11,8 @@ returns : tie.Need-returns
 returns c =
     let k = c .before .before .before .before .before .before .before .before .before .before in
     let a = k .before .before .before .before .before .args in
-    gives-is 1 (a .at) _ (c .before .before .put .ensures) (omega arith)
-    ∙ ap (put (a .out .now) (a .at)) (sym (record-words (a .r) (k .before .before .before .length-words .ensures) (k .before .before .column-words .ensures) (k .before .column-words2 .ensures) (k .kind-word .ensures)))
+    c .before .before .put .ensures .words
+    ∙ ap (store (a .out .now) (a .at)) (sym (record-words (a .r) (k .before .before .before .length-words .ensures) (k .before .before .column-words .ensures) (k .before .column-words2 .ensures) (k .kind-word .ensures)))
 
 pub put-record-spec : {M : Type 1} → statement M
 put-record-spec =

@@ -9,8 +9,9 @@ use lib.ListN.{length}
 use Rattle.area.specs.Kind.{ruled}
 use Rattle.area.specs.Told.{toldStep}
 use Rattle.area.specs.SubsLaws.{sub-next}
+use Rattle.find.specs.FindLaws.{first-end, first-refused}
 use Rattle.lines.specs.Slots.{bodyFrom}
-use Rattle.lines.specs.SlotsLaws.{seek-hit, seek-other, seek-miss, seek-end, seek-refused}
+use Rattle.lines.specs.SlotsLaws.{seek-hit, seek-other, seek-miss}
 use Rattle.lines.proofs.seek.Statement.{statement}
 use Rattle.lines.proofs.seek.Tie as tie
 
@@ -53,12 +54,12 @@ loop-again-2 c =
 returns-2 : tie.Need-returns-2 Inv-loop μ-loop
 returns-2 c =
     let h = c .before .before in
-    seek-end _ _ _ _ (ap toldStep (sym (c .enum-told .given .1)) ∙ h .sub-at .ensures) ∙ h .before .loop .inv
+    first-end _ _ _ _ (ap toldStep (sym (c .enum-told .given .1)) ∙ h .sub-at .ensures) ∙ h .before .loop .inv
 
 returns-3 : tie.Need-returns-3 Inv-loop μ-loop
 returns-3 c =
     let h = c .before .before .before in
-    seek-refused _ _ _ _ _ (ap toldStep (sym (c .before .why .given .1)) ∙ h .sub-at .ensures) ∙ h .before .loop .inv
+    first-refused _ _ _ _ _ (ap toldStep (sym (c .before .why .given .1)) ∙ h .sub-at .ensures) ∙ h .before .loop .inv
 
 pub seek-spec : {M : Type 1} → statement M
 seek-spec =

@@ -1,7 +1,8 @@
 -- `modi_lines::module_checksum_bytes` meets its contract: what is handed back is a part of the area, and the area is a part of the stream.
 -- Assumes nothing.
 use borrow.Author.Needs.{needs}
-use Rattle.modi.specs.Modi.{moduleSpan, heldSpan}
+use Rattle.find.specs.Find.{heldSpan}
+use Rattle.modi.specs.Modi.{moduleSpan}
 use Rattle.modi_lines.specs.LinesLaws.{hands-on}
 use Rattle.modi_lines.proofs.module_checksum_bytes.Statement.{statement}
 use Rattle.modi_lines.proofs.module_checksum_bytes.Tie as tie

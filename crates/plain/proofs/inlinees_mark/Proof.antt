@@ -1,7 +1,6 @@
 -- `plain::inlinees_mark` meets its contract: a short body, another signature, and else what the entries say.
 -- Assumes nothing.
 use borrow.Author.Needs.{needs}
-use native.Mathlib.Omega.{arith}
 use Rattle.plain.specs.PlainLaws.{inlinees-short, inlinees-odd, inlinees-long}
 use Rattle.plain.proofs.inlinees_mark.Statement.{statement}
 use Rattle.plain.proofs.inlinees_mark.Tie as tie
@@ -9,7 +8,7 @@ use Rattle.plain.proofs.inlinees_mark.Tie as tie
 returns-3 : tie.Need-returns-3
 returns-3 c =
     let u = c .before .before .before .before in
-    inlinees-long _ (u .before .if1 .left) _ (u .u32-at .ensures) (c .before .before .before .if2 .left) _ _ (c .before .inlinees-whole .ensures) (c .mark-if .ensures)
+    inlinees-long _ (u .before .if1 .left) _ (u .u32-at .ensures) (c .before .before .before .if2 .left) _ _ (c .before .whole .ensures) (c .mark-if .ensures)
 
 pub inlinees-mark-spec : {M : Type 1} → statement M
 inlinees-mark-spec =

@@ -31,8 +31,8 @@ mark-of-spec =
     (λ c κs. search needs)
     returns
     (λ c. mark-lines _ _ _ (omega arith) (c .lines-mark .ensures))
-    (λ c. mark-checksums _ _ _ (omega arith) _ (c .before .checksums-whole .ensures) (c .mark-if .ensures))
+    (λ c. mark-checksums _ _ _ (omega arith) _ (c .before .whole .ensures) (c .mark-if .ensures))
     (λ c. mark-inlinees _ _ _ (omega arith) (c .inlinees-mark .ensures))
-    (λ c. mark-modules _ _ _ (omega arith) _ (c .before .modules-whole .ensures) (c .mark-if2 .ensures))
+    (λ c. mark-modules _ _ _ (omega arith) _ (c .before .whole2 .ensures) (c .mark-if2 .ensures))
     (λ c. mark-pairs _ _ _ (omega arith) (c .floor-of .ensures))
     returns-7)

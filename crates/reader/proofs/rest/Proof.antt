@@ -1,7 +1,7 @@
 -- `reader::rest` meets its contract: a walk of its MIR, by hand. The slice and the number of a `Stepped` are put together as a `Reader`.
 -- Assumes nothing.
 use mathlib.Core.Path.{_≡_, refl}
-use Prim.Native.Nat.{ℕ, _<_, _^_}
+use Prim.Native.Nat.{_<_, _^_}
 use mathlib.Core.List.{[], _∷_}
 use lib.ListN.{length}
 use lib.Dec.{T as Holds}
@@ -33,12 +33,11 @@ use denote.Struct.Rest.{all-own, ownAt, rest, own-open, own-out, own-shut}
 use denote.Struct.Values.{Values}
 use denote.Enum.Laws as EL
 use denote.Slice.{sliceVal}
-use denote.Triple.Entry.{Vals, onEntry}
+use denote.Triple.Entry.{onEntry}
 use denote.Triple.Spec.{Meets, tripleOf}
 use denote.Triple.Table.{entered}
 use denote.Triple.Walked.{says, Stays, stay-none, walkOf, goes-none, Walks, ends-at, walked, walk-meets}
 use denote.Exit.{yes}
-use Rattle.area.specs.declared.SubStep.{SubStep}
 use Rattle.area.proofs.SubStep as S
 use Rattle.area.proofs.SubStep.Laws as S′
 use Rattle.reader.specs.declared.Reader.{Reader}

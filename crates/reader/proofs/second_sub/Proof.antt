@@ -37,11 +37,9 @@ use denote.Triple.Table.{entered, cited}
 use denote.Triple.Walked.{says, Stays, stay-none-slice, walkOf, goes-none-slice, Walks, ends-at, walked, walk-meets}
 use denote.Exit.{yes}
 use denote.Triple.Clauses.{ensured, lasts}
-use Rattle.area.specs.Subs.{Sub, stepAt}
-use Rattle.refusal.specs.Told.{Told}
+use Rattle.area.specs.Subs.{stepAt}
 use Rattle.area.specs.Kind.{ruled}
 use Rattle.area.specs.Told.{toldStep}
-use Rattle.walk.specs.Listing.{Answer}
 use Rattle.area.specs.Subs.{after}
 use Rattle.reader.specs.Second.{second}
 use Rattle.reader.specs.declared.Reader.{Reader}

@@ -11,6 +11,7 @@ use Rattle.area.specs.Kind.{ruled}
 use Rattle.lines.specs.Slots.{bodyAt, named}
 use Rattle.lines.specs.SlotsLaws.{Scans, scans-start, slot-inside, slot-scans}
 use Rattle.lines.specs.Told.{toldNamed}
+use Rattle.whole_list.specs.BeginLaws.{begin-scans}
 use Rattle.symbol_lines.specs.Symbol.{slotIn, walkTo}
 use Rattle.symbol_lines.specs.Told.{toldBest, walk-best}
 use Rattle.symbol_lines.specs.SymbolLaws.{slotFrom, bestOf, best-start, turn-hit, turn-on, turn-refused, turn-end}
@@ -18,11 +19,11 @@ use Rattle.symbol_lines.proofs.find_slot.Statement.{statement}
 use Rattle.symbol_lines.proofs.find_slot.Tie as tie
 
 abbrev Inv-loop : tie.InvT-loop
-Inv-loop area slots n section offset best₀ scan₀ i₀ best scan i =
+Inv-loop area slots n section offset whole best₀ scan₀ i₀ best scan i =
     (bestOf section offset (slotFrom ruled area slots n i) (toldBest best) ≡ slotIn section offset (named (bodyAt ruled area) n slots)) × Scans ruled area scan
 
 abbrev μ-loop : tie.MeasureT-loop
-μ-loop area slots n section offset best₀ scan₀ i₀ best scan i = n - i
+μ-loop area slots n section offset whole best₀ scan₀ i₀ best scan i = n - i
 
 add-end : tie.Need-add-end Inv-loop μ-loop
 add-end c =
@@ -37,29 +38,32 @@ part-header-of-end c =
 returns : tie.Need-returns Inv-loop μ-loop
 returns c =
     let m = c .before .before .before .before .before .before in
-    let l = m .before .before .before .before .loop in
+    let l = m .before .before .before .before .before .loop in
+    let g = begin-scans _ _ _ _ _ _ _ _ (m .before .before .before .before .before .before .tested-list .ensures) (l .inv .1) (m .before .before .before .begin-at .ensures) in
     let e = ap toldNamed (sym (m .start .given .1)) ∙ m .before .before .slot-body .ensures in
     ap gave (c .walk-of .ensures)
-    ∙ ap walkTo (turn-hit _ _ _ _ _ _ _ _ (l .inv .1) (omega arith) _ _ _ _ e (add-sub-cancel-left _ _) (c .before .before .before .header-of .ensures)
+    ∙ ap walkTo (turn-hit _ _ _ _ _ _ _ _ g (omega arith) _ _ _ _ e (add-sub-cancel-left _ _) (c .before .before .before .header-of .ensures)
     (sym (c .before .before .is-at .ensures) ∙ c .before .if1 .taken) ∙ l .inv .0)
 
 loop-again : tie.Need-loop-again Inv-loop μ-loop
 loop-again c =
     let m = c .before .before .before .before .before .before in
-    let l = m .before .before .before .before .loop in
+    let l = m .before .before .before .before .before .loop in
+    let g = begin-scans _ _ _ _ _ _ _ _ (m .before .before .before .before .before .before .tested-list .ensures) (l .inv .1) (m .before .before .before .begin-at .ensures) in
     let e = ap toldNamed (sym (m .start .given .1)) ∙ m .before .before .slot-body .ensures in (
       ap (bestOf _ _ _) (c .better-slot .ensures)
-          ∙ turn-on _ _ _ _ _ _ _ _ (l .inv .1) (omega arith) _ _ _ _ e (add-sub-cancel-left _ _) (c .before .before .before .header-of .ensures)
+          ∙ turn-on _ _ _ _ _ _ _ _ g (omega arith) _ _ _ _ e (add-sub-cancel-left _ _) (c .before .before .before .header-of .ensures)
           (sym (c .before .before .is-at .ensures) ∙ c .before .if1 .left) ∙ l .inv .0,
-      slot-scans _ _ _ _ _ (l .inv .1) _ e,
+      slot-scans _ _ _ _ _ g _ e,
     )
 
 returns-2 : tie.Need-returns-2 Inv-loop μ-loop
 returns-2 c =
     let m = c .before in
-    let l = m .before .before .before .before .loop in
+    let l = m .before .before .before .before .before .loop in
+    let g = begin-scans _ _ _ _ _ _ _ _ (m .before .before .before .before .before .before .tested-list .ensures) (l .inv .1) (m .before .before .before .begin-at .ensures) in
     let e = ap toldNamed (sym (m .why .given .1)) ∙ m .before .before .slot-body .ensures in
-    ap walkTo (turn-refused _ _ _ _ _ _ _ _ (l .inv .1) (omega arith) _ _ e ∙ l .inv .0)
+    ap walkTo (turn-refused _ _ _ _ _ _ _ _ g (omega arith) _ _ e ∙ l .inv .0)
 
 returns-3 : tie.Need-returns-3 Inv-loop μ-loop
 returns-3 c =
@@ -72,7 +76,9 @@ find-slot-spec =
     (tie.spec
     Inv-loop
     μ-loop
+    (λ c κs. search needs)
     (λ c. (best-start _ _ _ _ _ _, scans-start _ _))
+    (λ c κs. search needs)
     (λ c κs. search needs)
     (λ c. search needs)
     add-end

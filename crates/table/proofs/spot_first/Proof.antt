@@ -1,8 +1,6 @@
 -- `table::spot_first` meets its contract: a new walk is where the first body of the kind starts, another is where its state says.
 -- Assumes nothing.
 use borrow.Author.Needs.{needs}
-use mathlib.Core.Path.{sym, ap, _∙_}
-use Rattle.table.specs.Table.{spotNew}
 use Rattle.table.specs.TableLaws.{spot-new-is, spot-in-is}
 use Rattle.table.proofs.spot_first.Statement.{statement}
 use Rattle.table.proofs.spot_first.Tie as tie

@@ -2,14 +2,15 @@
 -- changes.
 -- Assumes nothing.
 use borrow.Author.Needs.{needs}
-use mathlib.Core.Path.{_≡_, sym, ap, _∙_}
+use mathlib.Core.Path.{sym, ap, _∙_}
 use native.Mathlib.Omega.{arith}
 use Prim.Native.Nat.{_+_, _*_}
 use lib.ListN.{length}
 use Rattle.body.specs.LinesLaws.{block-length}
-use Rattle.writer.specs.Calls.{bytesFor, blockRule, act, patch, callBlock}
-use Rattle.writer.specs.Told.{toldAct, toldWrote}
-use Rattle.writer.specs.CallLaws.{block-act, Grows, grow-goes, kept-go, kept-stop}
+use Rattle.calls.specs.Calls.{bytesFor, blockRule, act, patch, callBlock}
+use Rattle.calls.specs.Told.{toldAct}
+use Rattle.writer.specs.Told.{toldWrote}
+use Rattle.calls.specs.CallLaws.{block-act, Grows, grow-goes, kept-go, kept-stop}
 use Rattle.writer.specs.LentLaws.{lent-room, lent-grown}
 use Rattle.writer.proofs.add_block.Statement.{statement}
 use Rattle.writer.proofs.add_block.Tie as tie

@@ -2,15 +2,16 @@
 -- changes.
 -- Assumes nothing.
 use borrow.Author.Needs.{needs}
-use mathlib.Core.Path.{_≡_, sym, ap, _∙_}
+use mathlib.Core.Path.{sym, ap, _∙_}
 use native.Mathlib.Omega.{arith}
 use Prim.Native.Nat.{_+_}
 use lib.ListN.{length}
 use Rattle.body.specs.Checksums.{up4}
 use Rattle.body.specs.ChecksumsLaws.{checksum-length}
-use Rattle.writer.specs.Calls.{bytesFor, checksumRule, act, patch, callChecksum}
-use Rattle.writer.specs.Told.{toldAct, toldWrote}
-use Rattle.writer.specs.CallLaws.{checksum-act, Grows, grow-goes, kept-go, kept-stop, fits-size, fits-up}
+use Rattle.calls.specs.Calls.{bytesFor, checksumRule, act, patch, callChecksum}
+use Rattle.calls.specs.Told.{toldAct}
+use Rattle.writer.specs.Told.{toldWrote}
+use Rattle.calls.specs.CallLaws.{checksum-act, Grows, grow-goes, kept-go, kept-stop, fits-size, fits-up}
 use Rattle.writer.specs.LentLaws.{lent-room, lent-grown}
 use Rattle.writer.proofs.add_checksum.Statement.{statement}
 use Rattle.writer.proofs.add_checksum.Tie as tie

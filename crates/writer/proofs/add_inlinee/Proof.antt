@@ -2,15 +2,16 @@
 -- changes.
 -- Assumes nothing.
 use borrow.Author.Needs.{needs}
-use mathlib.Core.Path.{_≡_, sym, ap, _∙_}
+use mathlib.Core.Path.{sym, ap, _∙_}
 use native.Mathlib.Omega.{arith}
 use Prim.Native.Nat.{_+_}
 use lib.ListN.{length}
 use Rattle.body.specs.Inlinees.{extended}
 use Rattle.body.specs.InlineesLaws.{extraLength, inlinee-length}
-use Rattle.writer.specs.Calls.{bytesFor, extraRule, act, patch, callInlinee}
-use Rattle.writer.specs.Told.{toldAct, toldWrote}
-use Rattle.writer.specs.CallLaws.{inlinee-act, Grows, grow-goes, kept-go, kept-stop, extra-small}
+use Rattle.calls.specs.Calls.{bytesFor, extraRule, act, patch, callInlinee}
+use Rattle.calls.specs.Told.{toldAct}
+use Rattle.writer.specs.Told.{toldWrote}
+use Rattle.calls.specs.CallLaws.{inlinee-act, Grows, grow-goes, kept-go, kept-stop, extra-small}
 use Rattle.writer.specs.LentLaws.{lent-room, lent-grown}
 use Rattle.writer.proofs.add_inlinee.Statement.{statement}
 use Rattle.writer.proofs.add_inlinee.Tie as tie

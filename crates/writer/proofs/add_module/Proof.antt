@@ -2,15 +2,16 @@
 -- changes.
 -- Assumes nothing.
 use borrow.Author.Needs.{needs}
-use mathlib.Core.Path.{_≡_, sym, ap, _∙_}
+use mathlib.Core.Path.{sym, ap, _∙_}
 use native.Mathlib.Omega.{arith}
 use Prim.Native.Nat.{_+_, _*_}
 use mathlib.Core.Bool.{true}
 use lib.ListN.{length}
 use Rattle.body.specs.ImportsLaws.{module-length}
-use Rattle.writer.specs.Calls.{bytesFor, act, patch, callModule}
-use Rattle.writer.specs.Told.{toldAct, toldWrote}
-use Rattle.writer.specs.CallLaws.{module-act, Grows, grow-goes, kept-go, kept-stop}
+use Rattle.calls.specs.Calls.{bytesFor, act, patch, callModule}
+use Rattle.calls.specs.Told.{toldAct}
+use Rattle.writer.specs.Told.{toldWrote}
+use Rattle.calls.specs.CallLaws.{module-act, Grows, grow-goes, kept-go, kept-stop}
 use Rattle.writer.specs.LentLaws.{lent-room, lent-grown}
 use Rattle.writer.proofs.add_module.Statement.{statement}
 use Rattle.writer.proofs.add_module.Tie as tie

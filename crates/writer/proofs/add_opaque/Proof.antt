@@ -3,13 +3,12 @@
 use borrow.Author.Needs.{needs}
 use mathlib.Core.Bool.{Bool}
 use mathlib.Core.Path.{ap, _∙_}
-use Prim.Native.Nat.{ℕ, _+_}
-use mathlib.Core.List.{List, _++_}
+use Prim.Native.Nat.{_+_}
+use mathlib.Core.List.{_++_}
 use lib.ListN.{length}
 use Rattle.word.specs.Word.{put}
 use Rattle.word.specs.WordLaws.{header}
-use Rattle.writer.specs.Calls.{wrote, kept}
-use Rattle.writer.specs.CallLaws.{openAct}
+use Rattle.calls.specs.Calls.{wrote, kept, openAct}
 use Rattle.writer.proofs.add_opaque.Statement.{statement}
 use Rattle.writer.proofs.add_opaque.Tie as tie
 

@@ -2,13 +2,14 @@
 -- changes.
 -- Assumes nothing.
 use borrow.Author.Needs.{needs}
-use mathlib.Core.Path.{_≡_, sym, ap, _∙_}
+use mathlib.Core.Path.{sym, ap, _∙_}
 use native.Mathlib.Omega.{arith}
 use lib.Dec.{leb}
 use Rattle.word.specs.WordLaws.{header-length}
-use Rattle.writer.specs.Calls.{bytesFor, act, patch, callPair}
-use Rattle.writer.specs.Told.{toldAct, toldWrote}
-use Rattle.writer.specs.CallLaws.{pair-act, Grows, grow-goes, kept-go, kept-stop}
+use Rattle.calls.specs.Calls.{bytesFor, act, patch, callPair}
+use Rattle.calls.specs.Told.{toldAct}
+use Rattle.writer.specs.Told.{toldWrote}
+use Rattle.calls.specs.CallLaws.{pair-act, Grows, grow-goes, kept-go, kept-stop}
 use Rattle.writer.specs.LentLaws.{lent-room, lent-grown}
 use Rattle.writer.proofs.add_pair.Statement.{statement}
 use Rattle.writer.proofs.add_pair.Tie as tie

@@ -2,7 +2,7 @@
 -- Assumes nothing.
 use lib.Dec.{leb}
 use borrow.Author.Needs.{needs}
-use Rattle.writer.specs.CallLaws.{opened}
+use Rattle.calls.specs.CallLaws.{opened}
 use Rattle.writer.specs.LentLaws.{signature-made}
 use Rattle.writer.proofs.open_inlinees.Statement.{statement}
 use Rattle.writer.proofs.open_inlinees.Tie as tie

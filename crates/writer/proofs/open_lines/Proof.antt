@@ -2,7 +2,7 @@
 -- Assumes nothing.
 use mathlib.Core.Bool.{true}
 use borrow.Author.Needs.{needs}
-use Rattle.writer.specs.CallLaws.{opened}
+use Rattle.calls.specs.CallLaws.{opened}
 use Rattle.writer.specs.LentLaws.{head-made}
 use Rattle.writer.proofs.open_lines.Statement.{statement}
 use Rattle.writer.proofs.open_lines.Tie as tie

@@ -8,9 +8,9 @@ use native.Mathlib.Omega.{arith}
 use lib.ListN.{length}
 use Rattle.word.specs.Word.{put}
 use Rattle.word.specs.WordLaws.{header}
-use Rattle.writer.specs.Calls.{place}
-use Rattle.writer.specs.Told.{toldAct}
-use Rattle.writer.specs.CallLaws.{openAct, Goes, open-goes, kept-go, kept-stop}
+use Rattle.calls.specs.Calls.{place, openAct}
+use Rattle.calls.specs.Told.{toldAct}
+use Rattle.calls.specs.CallLaws.{Goes, open-goes, kept-go, kept-stop}
 use Rattle.writer.specs.LentLaws.{lent-room, lent-put}
 use Rattle.writer.proofs.open_with.Statement.{statement}
 use Rattle.writer.proofs.open_with.Tie as tie

@@ -1,0 +1,28 @@
+-- A walk whose next search begins where a list says that was tested as a whole. No answer depends on it: that the turns are the same is `led-turn` of
+-- LedLaws.
+-- Definitions only; no public contract cites them.
+use Prim.Native.Nat.{ℕ}
+use mathlib.Core.List.{List}
+use mathlib.Core.Bool.{cond}
+use lib.Dec.{eqb}
+use Rattle.turns.specs.declared.Rest.{Rest}
+use Rattle.turns.specs.declared.LineWalk.{LineWalk}
+use Rattle.turns.specs.declared.LineWalk.the-variants.{New, Between, Inside}
+use Rattle.whole_list.specs.Begin.{beginAt}
+
+abbrev pub scanOf : LineWalk → ℕ
+scanOf New = 0
+scanOf (Between t) = t .scan
+scanOf (Inside p t) = t .scan
+
+abbrev pub withScan : Rest → ℕ → Rest
+withScan t p = record { slot = t .slot; left = t .left; scan = p; held = t .held }
+
+-- v being the slots, of which the first n are tested
+unfoldable pub ledRest : List ℕ → ℕ → Rest → Rest
+ledRest v n t = cond (eqb (t .left) 0) t (withScan t (beginAt v n (t .slot) (t .scan)))
+
+abbrev pub ledWalk : List ℕ → ℕ → LineWalk → LineWalk
+ledWalk v n New = New
+ledWalk v n (Between t) = Between (ledRest v n t)
+ledWalk v n (Inside p t) = Inside p t

@@ -1,0 +1,184 @@
+-- A walk that is led by a tested list turns as any other, and its turns keep the place at which a search may begin.
+use Prim.Native.Nat.{ℕ, _+_, _<_, _≤_}
+use mathlib.Core.Path.{_≡_, refl, sym, ap, _∙_, subst, subst⁻¹}
+use mathlib.Core.List.{List}
+use mathlib.Core.Bool.{Bool, true, false, cond}
+use mathlib.Core.Logic.{⊎-elim}
+use native.Mathlib.Omega.{arith}
+use lib.ListN.{length, take}
+use lib.Dec.{ltb, eqb}
+use Rattle.walk.specs.Cases.{tests, by-cases, le-or-gt}
+use Rattle.walk.specs.Listing.{item, pass, over, fail, Answer, gives, none, refuses, Reply, gave, nothing, refused}
+use Rattle.walk.specs.ListingLaws.{To}
+use Rattle.walk.specs.PickLaws.{Gives}
+use Rattle.refusal.specs.Told.{Told, told, longest}
+use Rattle.refusal.specs.declared.Refusal.the-variants as why
+use Rattle.area.specs.Kind.{Sort}
+use Rattle.body.specs.Lines.{columned}
+use Rattle.find.specs.Find.{Span}
+use Rattle.line_record.specs.Record.{maxOffset}
+use Rattle.line_record.specs.declared.LineRecord.{LineRecord}
+use Rattle.lines.specs.Lines.{countLines}
+use Rattle.lines.specs.Blocks.{LineBlock, blockAt}
+use Rattle.lines.specs.Slots.{slotAt}
+use Rattle.lines.specs.SlotsLaws.{Scans, scans-start, slot-same, slot-scanned}
+use Rattle.lines.specs.declared.LineHeader.{LineHeader}
+use Rattle.turns.specs.declared.Held.{Held}
+use Rattle.turns.specs.declared.Held.the-variants.{Nothing, One}
+use Rattle.turns.specs.declared.Rest.{Rest}
+use Rattle.turns.specs.declared.Place.{Place}
+use Rattle.turns.specs.declared.LineWalk.{LineWalk}
+use Rattle.turns.specs.declared.LineWalk.the-variants.{New, Between, Inside}
+use Rattle.turns.specs.Turn.{LineMove, entryAt, withHeld, pastLine, holdIn, lineOf, endIn, blockOf, insideTurn, enterAt, namedOf, finishIn, betweenTurn, openOf, turnIn, turnOf}
+use Rattle.whole_list.specs.Begin.{tested, beginAt}
+use Rattle.whole_list.specs.BeginLaws.{begin-past, begin-scans, tested-right}
+use Rattle.many_lines.specs.Led.{scanOf, withScan, ledRest, ledWalk}
+
+-- n is what a test of the list answered, at some place; and if it is not 0 the walk's place is one at which a search may begin
+pub record Led (rule : ℕ → Sort) (s v : List ℕ) (n : ℕ) (w : LineWalk) : Type 0 where
+  pub place : ℕ
+  pub whole : n ≡ tested rule s v place
+  pub right : 0 < n → Scans rule s (scanOf w)
+
+module _ (rule : ℕ → Sort) (s v : List ℕ) (n : ℕ) where
+  -- ---- the turns are the same
+
+  named-same : (t : Rest) (p : ℕ) (x : Reply Span Told) → namedOf s (withScan t p) x ≡ namedOf s t x
+  unfolding enterAt
+  named-same t p (gave a) = refl
+  named-same t p nothing = refl
+  named-same t p (refused e) = refl
+
+  begin-same : (t : Rest) → Led rule s v n (Between t) → slotAt rule s v (t .slot) (beginAt v n (t .slot) (t .scan)) ≡ slotAt rule s v (t .slot) (t .scan)
+  begin-same t h = ⊎-elim
+      (λ (z : n ≤ 0). ap (slotAt rule s v (t .slot)) (sym (begin-past v n (t .slot) (t .scan) (omega arith))))
+      (λ (z : 0 < n).
+      slot-same rule s v (t .slot) (beginAt v n (t .slot) (t .scan)) (t .scan) (begin-scans rule s v (h .place) n (t .slot) (t .scan) (beginAt v n (t .slot) (t .scan)) (h .whole) (h .right z) refl) (h .right z))
+      (le-or-gt n 0)
+
+  between-same : (t : Rest) → Led rule s v n (Between t) → betweenTurn rule s v (ledRest v n t) ≡ betweenTurn rule s v t
+  unfolding betweenTurn ledRest
+  between-same t h = both (eqb (t .left) 0) refl
+    where
+      both : (c : Bool) → eqb (t .left) 0 ≡ c
+          → betweenTurn rule s v (cond (eqb (t .left) 0) t (withScan t (beginAt v n (t .slot) (t .scan)))) ≡ betweenTurn rule s v t
+      both true e = ap (λ k. betweenTurn rule s v (cond k t (withScan t (beginAt v n (t .slot) (t .scan))))) e
+      both false e =
+          ap (λ k. betweenTurn rule s v (cond k t (withScan t (beginAt v n (t .slot) (t .scan))))) e
+          ∙ ap (λ k. cond k (finishIn (t .held) (withScan t (beginAt v n (t .slot) (t .scan)))) (namedOf s (withScan t (beginAt v n (t .slot) (t .scan))) (slotAt rule s v (t .slot) (beginAt v n (t .slot) (t .scan))))) e
+          ∙ named-same t (beginAt v n (t .slot) (t .scan)) (slotAt rule s v (t .slot) (beginAt v n (t .slot) (t .scan)))
+          ∙ ap (namedOf s t) (begin-same t h)
+          ∙ ap (λ k. cond k (finishIn (t .held) t) (namedOf s t (slotAt rule s v (t .slot) (t .scan)))) (sym e)
+
+  in-same : (w : LineWalk) → Led rule s v n w → turnIn rule s v (ledWalk v n w) ≡ turnIn rule s v w
+  in-same New h = refl
+  in-same (Between t) h = between-same t h
+  in-same (Inside p t) h = refl
+
+  led-turn : (w : LineWalk) → Led rule s v n w → turnOf rule s v (ledWalk v n w) ≡ turnOf rule s v w
+  unfolding turnOf
+  led-turn w h = ap (λ x. cond (ltb longest (length s)) (fail (told why.TooLong)) x) (in-same w h)
+
+  -- the same as code has it: u is the walk that is led, and x what its turn tells
+  pub led-turn-is : (w u : LineWalk) (x : LineMove) → Led rule s v n w → u ≡ ledWalk v n w → x ≡ turnOf rule s v u → x ≡ turnOf rule s v w
+  led-turn-is w u x h e q = q ∙ ap (turnOf rule s v) e ∙ led-turn w h
+
+-- ---- each way out of the code's tests
+
+module _ (v : List ℕ) (n : ℕ) where
+  module _ (t : Rest) where
+    pub rest-last : t .left ≡ 0 → t ≡ ledRest v n t
+    unfolding ledRest
+    rest-last h = simp tests
+
+    pub rest-more : (t .left ≡ 0 → ⊥) → (p : ℕ) → p ≡ beginAt v n (t .slot) (t .scan) → withScan t p ≡ ledRest v n t
+    unfolding ledRest
+    rest-more h p e = ap (withScan t) e ∙ sym (simp tests)
+
+  pub led-between : (w : LineWalk) (t u : Rest) → w ≡ Between t → u ≡ ledRest v n t → Between u ≡ ledWalk v n w
+  led-between w t u e q = ap Between q ∙ ap (ledWalk v n) (sym e)
+
+  pub led-inside : (w : LineWalk) (p : Place) (t : Rest) → w ≡ Inside p t → Inside p t ≡ ledWalk v n w
+  led-inside w p t e = ap (ledWalk v n) (sym e)
+
+-- ---- the turns keep the place
+
+module _ (rule : ℕ → Sort) (s v : List ℕ) where
+  abbrev Right : LineWalk → Type 0
+  Right w = Scans rule s (scanOf w)
+
+  abbrev Kept : LineMove → Type 0
+  Kept u = To u Right
+
+  open-right : (k : Reply ℕ Told) → To (openOf k) Right
+  open-right (gave n) = scans-start rule s
+  open-right nothing = tt
+  open-right (refused t) = tt
+
+  finish-right : (t : Rest) (o : Held) → Scans rule s (t .scan) → To (finishIn o t) Right
+  finish-right t Nothing g = tt
+  finish-right t (One r) g = g
+
+  enter-right : (t : Rest) (a n : ℕ) → Scans rule s (a + n) → To (enterAt s t a n) Right
+  unfolding enterAt
+  enter-right t a n g = by-cases Kept (ltb n 12) (λ e. tt) (λ e. g)
+
+  named-right : (t : Rest) (x : Reply Span Told) → Gives (λ a. Scans rule s (a .start + a .len)) x → To (namedOf s t x) Right
+  named-right t (gave a) g = enter-right t (a .start) (a .len) g
+  named-right t nothing g = tt
+  named-right t (refused e) g = tt
+
+  between-right : (t : Rest) → Scans rule s (t .scan) → To (betweenTurn rule s v t) Right
+  unfolding betweenTurn
+  between-right t g =
+      by-cases Kept (eqb (t .left) 0) (λ e. finish-right t (t .held) g)
+      (λ e. named-right t (slotAt rule s v (t .slot) (t .scan)) (slot-scanned rule s v (t .slot) (t .scan) g))
+
+  end-right : (h : LineHeader) (t : Rest) (o : Held) → Scans rule s (t .scan) → To (endIn o h t) Right
+  unfolding endIn
+  end-right h t Nothing g = g
+  end-right h t (One r) g = by-cases Kept (ltb maxOffset (h .offset + h .code)) (λ e. tt) (λ e. g)
+
+  block-right : (p : Place) (t : Rest) (k : Answer ℕ LineBlock Told) → Scans rule s (t .scan) → To (blockOf p t k) Right
+  block-right p t (gives k x) g = g
+  block-right p t none g = end-right (p .head) t (t .held) g
+  block-right p t (refuses e) g = tt
+
+  hold-right : (p : Place) (t : Rest) (r : LineRecord) (o : Held) → Scans rule s (t .scan) → To (holdIn o r (Inside p (withHeld t (One r)))) Right
+  hold-right p t r Nothing g = g
+  hold-right p t r (One o) g = g
+
+  line-right : (p : Place) (t : Rest) (e : Reply LineRecord Told) → Scans rule s (t .scan) → To (lineOf p t e) Right
+  line-right p t (gave r) g = hold-right (pastLine p) t r (t .held) g
+  line-right p t nothing g = g
+  line-right p t (refused e) g = tt
+
+  inside-right : (p : Place) (t : Rest) → Scans rule s (t .scan) → To (insideTurn s p t) Right
+  unfolding insideTurn
+  inside-right p t g =
+      by-cases Kept (ltb (length s) (p .end)) (λ f. tt)
+      (λ f. by-cases Kept (eqb (p .lines) 0)
+      (λ e. block-right p t (blockAt (columned (p .head .flags)) (take (p .end) s) (p .next)) g) (λ e. line-right p t (entryAt (take (p .end) s) p) g))
+
+  turn-right : (w : LineWalk) → Right w → To (turnIn rule s v w) Right
+  turn-right New g = open-right (countLines rule s)
+  turn-right (Between t) g = between-right t g
+  turn-right (Inside p t) g = inside-right p t g
+
+  keeps : (w : LineWalk) → Right w → To (turnOf rule s v w) Right
+  unfolding turnOf
+  keeps w g = by-cases Kept (ltb longest (length s)) (λ e. tt) (λ e. turn-right w g)
+
+  module _ (n : ℕ) (w : LineWalk) (h : Led rule s v n w) where
+    led-to : (u : LineMove) → (0 < n → To u Right) → To u (Led rule s v n)
+    led-to (item r t) f = record { place = h .place; whole = h .whole; right = f }
+    led-to (pass t) f = record { place = h .place; whole = h .whole; right = f }
+    led-to over f = tt
+    led-to (fail e) f = tt
+
+    pub led-kept : (u : LineMove) → u ≡ turnOf rule s v w → To u (Led rule s v n)
+    led-kept u e = led-to u (λ z. subst⁻¹ Kept e (keeps w (h .right z)))
+
+  -- what was tested at the walk's own place leads it
+  pub led-start : (w : LineWalk) (n p : ℕ) → n ≡ tested rule s v p → p ≡ scanOf w → Led rule s v n w
+  led-start w n p e q = record { place = p; whole = e; right = λ z. subst (Scans rule s) q (tested-right rule s v p (omega (arith, e))) }

@@ -1,0 +1,5 @@
+pub mod Lines
+pub mod Told
+pub mod Led
+pub mod LedLaws
+pub mod FillLaws

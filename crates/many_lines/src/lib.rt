@@ -1,0 +1,150 @@
+// Many records of the line walk at once, in words (crate: `LineProgram::lines`, a whole `LineIterator` in coarse calls): as many as the lent words have
+// room for, and the walk behind the last.
+//
+// The records before an end or a refusal are given first, and the next call, from the walk answered, tells it.
+ghost use mathlib.Core.Path.{_≡_};
+ghost use Prim.Native.Nat.{_≤_};
+ghost use lib.ListN.{length};
+ghost use Rattle.area.specs.Kind.{ruled};
+ghost use Rattle.records.specs.Told.{toldLine};
+ghost use Rattle.turns.specs.Turn.{turnOf};
+ghost use Rattle.turns.specs.Told.{toldTurn};
+ghost use Rattle.many_lines.specs.Led.{scanOf, ledRest, ledWalk};
+ghost use Rattle.many_lines.specs.LedLaws.{Led};
+ghost use Rattle.many_lines.specs.Lines.{noRoom, linesOf, counted, filled};
+ghost use Rattle.many_lines.specs.Told.{toldLines};
+use line_words::put_record;
+use records::LineStep;
+use records::next_line;
+use refusal::Refusal;
+use turns::LineWalk;
+use turns::Rest;
+use turns::Turn;
+use turns::take_turn;
+use whole_list::begin_at;
+use whole_list::tested_list;
+
+// The words of a record.
+pub const RECORD: usize = 12;
+
+pub enum LinesStep {
+    Lines { count: usize, next: LineWalk },
+    None,
+    Refused(Refusal),
+}
+
+// What there is to answer where no record fits.
+fn no_room(step: LineStep) -> LinesStep
+    ensures { λ r. ⌜ toldLines r ≡ counted (noRoom (toldLine step)) ⌝ }
+{
+    match step {
+        LineStep::Line(_, _) => LinesStep::Refused(Refusal::NoRoom),
+        LineStep::None => LinesStep::None,
+        LineStep::Refused(why) => LinesStep::Refused(why),
+    }
+}
+
+// How far the area has been searched.
+fn scan_of(walk: LineWalk) -> usize
+    ensures { λ r. ⌜ r ≡ scanOf walk ⌝ }
+{
+    match walk {
+        LineWalk::New => 0,
+        LineWalk::Between(t) => t.scan,
+        LineWalk::Inside(_, t) => t.scan,
+    }
+}
+
+// Before another subsection the search for its body begins where a list says that was tested as a whole.
+fn led_rest(slots: &[u32], whole: usize, t: Rest) -> Rest
+    ensures { λ r. ⌜ r ≡ ledRest (now (slots .entry)) whole t ⌝ }
+{
+    if t.left == 0 {
+        return t;
+    }
+    let scan = begin_at(slots, whole, t.slot, t.scan);
+    let held = t.held;
+    Rest {
+        slot: t.slot,
+        left: t.left,
+        scan,
+        held,
+    }
+}
+
+fn led(slots: &[u32], whole: usize, walk: LineWalk) -> LineWalk
+    ensures { λ r. ⌜ r ≡ ledWalk (now (slots .entry)) whole walk ⌝ }
+{
+    match walk {
+        LineWalk::New => LineWalk::New,
+        LineWalk::Between(t) => LineWalk::Between(led_rest(slots, whole, t)),
+        LineWalk::Inside(p, t) => LineWalk::Inside(p, t),
+    }
+}
+
+// A turn, over a list of which the first `whole` slots are tested: the same as any other turn, found sooner.
+fn led_turn(area: &[u8], slots: &[u32], whole: usize, walk: LineWalk) -> Turn
+    requires { ⌜ Led ruled (now area) (now slots) whole walk ⌝ }
+    ensures { λ r. ⌜ toldTurn r ≡ turnOf ruled (now (area .entry)) (now (slots .entry)) walk ⌝ }
+{
+    take_turn(area, slots, led(slots, whole, walk))
+}
+
+// Turn after turn; `last` is the walk behind the last record.
+fn fill(area: &[u8], slots: &[u32], walk: LineWalk, out: &mut [u64]) -> LinesStep
+    requires { ⌜ 12 ≤ length (now out) ⌝ }
+    ensures { λ r. ⌜ toldLines r ≡ counted (linesOf ruled (now (area .entry)) (now (slots .entry)) (length (now (out .entry))) walk) ⌝ }
+    ensures { λ _. ⌜ now (out .exit) ≡ filled (now (out .entry)) (linesOf ruled (now (area .entry)) (now (slots .entry)) (length (now (out .entry))) walk) ⌝ }
+{
+    let whole = tested_list(area, slots, scan_of(walk));
+    let room = out.len() / RECORD;
+    let mut n: usize = 0;
+    let mut last = walk;
+    let mut w = walk;
+    while n < room {
+        match led_turn(area, slots, whole, w) {
+            Turn::Line(r, t) => {
+                put_record(out, RECORD * n, r);
+                n += 1;
+                last = t;
+                w = t;
+            }
+            Turn::Pass(t) => {
+                w = t;
+            }
+            Turn::Over => {
+                if n == 0 {
+                    return LinesStep::None;
+                }
+                return LinesStep::Lines {
+                    count: n,
+                    next: last,
+                };
+            }
+            Turn::Refused(why) => {
+                if n == 0 {
+                    return LinesStep::Refused(why);
+                }
+                return LinesStep::Lines {
+                    count: n,
+                    next: last,
+                };
+            }
+        }
+    }
+    LinesStep::Lines {
+        count: n,
+        next: last,
+    }
+}
+
+// The records from a walk on, as many as `out` has room for, 12 words each.
+pub fn next_lines(area: &[u8], slots: &[u32], walk: LineWalk, out: &mut [u64]) -> LinesStep
+    ensures { λ r. ⌜ toldLines r ≡ counted (linesOf ruled (now (area .entry)) (now (slots .entry)) (length (now (out .entry))) walk) ⌝ }
+    ensures { λ _. ⌜ now (out .exit) ≡ filled (now (out .entry)) (linesOf ruled (now (area .entry)) (now (slots .entry)) (length (now (out .entry))) walk) ⌝ }
+{
+    if out.len() < RECORD {
+        return no_room(next_line(area, slots, walk));
+    }
+    fill(area, slots, walk, out)
+}

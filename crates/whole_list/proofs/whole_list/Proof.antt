@@ -1,0 +1,53 @@
+-- `whole_list::whole_list` meets its contract: each way out is a case of `wholeList`.
+-- Assumes nothing.
+use borrow.Author.Needs.{needs}
+use mathlib.Core.Path.{sym, ap, _∙_}
+use mathlib.Core.Bool.{true, false}
+use borrow.Author.Tests.{not-true, not-false}
+use Rattle.lines.specs.Told.{toldCounted}
+use Rattle.whole_list.specs.StepLaws.{whole-refused, whole-short, whole-elsewhere, whole-is}
+use Rattle.whole_list.proofs.whole_list.Statement.{statement}
+use Rattle.whole_list.proofs.whole_list.Tie as tie
+
+returns : tie.Need-returns
+returns c =
+    let m = c .before .before in
+    whole-short _ _ _ _ _ (ap toldCounted (sym (m .n .given .1)) ∙ m .before .before .count-lines .ensures) (c .if1 .taken)
+
+returns-2 : tie.Need-returns-2
+returns-2 c =
+    let m = c .before .before .before .before in
+    whole-elsewhere _ _ _ _ _ (ap toldCounted (sym (m .n .given .1)) ∙ m .before .before .count-lines .ensures) (c .before .before .if1 .left)
+    (sym (not-true _ (c .if2 .taken)) ∙ c .before .comes-to .ensures)
+
+returns-3 : tie.Need-returns-3
+returns-3 c =
+    let f = c .before .before in
+    let m = f .before .before .before .before in
+    whole-is _ _ _ _ _ (ap toldCounted (sym (m .n .given .1)) ∙ m .before .before .count-lines .ensures) (f .before .before .if1 .left)
+    (sym (not-false _ (f .if2 .left)) ∙ f .before .comes-to .ensures) false (sym (not-true _ (c .if3 .taken)) ∙ c .before .all-found .ensures)
+
+returns-4 : tie.Need-returns-4
+returns-4 c =
+    let f = c .before .before in
+    let m = f .before .before .before .before in
+    whole-is _ _ _ _ _ (ap toldCounted (sym (m .n .given .1)) ∙ m .before .before .count-lines .ensures) (f .before .before .if1 .left)
+    (sym (not-false _ (f .if2 .left)) ∙ f .before .comes-to .ensures) true (sym (not-false _ (c .if3 .left)) ∙ c .before .all-found .ensures)
+
+returns-5 : tie.Need-returns-5
+returns-5 c = whole-refused _ _ _ _ _ (ap toldCounted (sym (c .enum-told .given .1)) ∙ c .before .before .count-lines .ensures)
+
+pub whole-list-spec : {M : Type 1} → statement M
+whole-list-spec =
+    tie.close
+    (tie.spec
+    (λ c κs. search needs)
+    (λ c. search needs)
+    returns
+    (λ c κs. search needs)
+    returns-2
+    (λ c κs. search needs)
+    returns-3
+    (λ c. search needs)
+    returns-4
+    returns-5)

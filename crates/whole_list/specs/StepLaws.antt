@@ -1,0 +1,152 @@
+-- The tests of a whole list as code makes them: one law for each way of the halving, of the two loops over the area, and of the call.
+use Prim.Native.Nat.{ℕ, zero, suc, _+_, _-_, _<_, _≤_}
+use mathlib.Core.Path.{_≡_, refl, sym, ap, _∙_}
+use mathlib.Core.List.{List, [], _∷_}
+use mathlib.Core.Bool.{Bool, true, false, cond}
+use native.Mathlib.Omega.{arith}
+use lib.ListN.{length, getD}
+use lib.Dec.{ltb, leb, eqb}
+use borrow.Author.Tests.{leb-false, ne-eqb}
+use Rattle.walk.specs.Cases.{tests}
+use Rattle.walk.specs.Listing.{Listing, more, ends, fails, gave, refused, gives, none, refuses}
+use Rattle.refusal.specs.Told.{Told}
+use Rattle.area.specs.Kind.{Sort}
+use Rattle.area.specs.Subs.{Sub, subsFrom, stepAt}
+use Rattle.area.specs.SubsLaws.{sub-next, sub-end, sub-refused}
+use Rattle.lines.specs.Lines.{countLines}
+use Rattle.sort.specs.Rank.{rank}
+use Rattle.order.specs.Order.{startsFrom}
+use Rattle.whole_list.specs.WholeList.{middle, lookAt, halvedIn, halved, slotBehind, allFound, comesBy, comesTo, wholeIn, wholeList}
+
+-- ---- the halving
+
+module _ (w : ℕ → ℕ) (v : ℕ) (xs : List ℕ) where
+  -- both halves are shorter
+  look-same : (f g : ℕ → ℕ → ℕ) (a e : ℕ) → ((b c : ℕ) → c - b < e - a → f b c ≡ g b c) → lookAt w v xs f a e ≡ lookAt w v xs g a e
+  unfolding lookAt
+  look-same f g a e h = by (leb e a) refl
+    where
+      m : ℕ
+      m = middle a e
+
+      by : (t : Bool) → leb e a ≡ t
+          → cond t 0 (cond (eqb (getD xs m 0) v) (m + 1) (cond (ltb (w (getD xs m 0)) (w v)) (f (m + 1) e) (f a m)))
+          ≡ cond t 0 (cond (eqb (getD xs m 0) v) (m + 1) (cond (ltb (w (getD xs m 0)) (w v)) (g (m + 1) e) (g a m)))
+      by true q = refl
+      by false q =
+          let l = leb-false e a q in
+          let back = h (m + 1) e (omega arith) in
+          let front = h a m (omega arith) in
+          λ i. cond (eqb (getD xs m 0) v) (m + 1) (cond (ltb (w (getD xs m 0)) (w v)) (back i) (front i))
+
+  settled : (k m a e : ℕ) → e - a < k → e - a < m → halvedIn w v xs k a e ≡ halvedIn w v xs m a e
+  unfolding halvedIn
+  settled zero m a e h l = absurd (omega arith)
+  settled (suc k) zero a e h l = absurd (omega arith)
+  settled (suc k) (suc m) a e h l = look-same (halvedIn w v xs k) (halvedIn w v xs m) a e (λ b c f. settled k m b c (omega arith) (omega arith))
+
+  -- a look, and then the halving of what is left
+  look : (a e : ℕ) → lookAt w v xs (halved w v xs) a e ≡ halved w v xs a e
+  unfolding halved halvedIn
+  look a e = look-same (halved w v xs) (halvedIn w v xs (e - a)) a e (λ b c f. settled (suc (c - b)) (e - a) b c (omega arith) f)
+
+  module _ (a e : ℕ) where
+    pub halved-none : e ≤ a → 0 ≡ halved w v xs a e
+    unfolding lookAt
+    halved-none h = sym (simp tests) ∙ look a e
+
+    module _ (h₁ : a < e) where
+      pub halved-here : getD xs (middle a e) 0 ≡ v → middle a e + 1 ≡ halved w v xs a e
+      unfolding lookAt
+      halved-here h = sym (simp tests) ∙ look a e
+
+      module _ (h₂ : getD xs (middle a e) 0 ≡ v → ⊥) where
+        pub halved-back : ltb (w (getD xs (middle a e) 0)) (w v) ≡ true → halved w v xs (middle a e + 1) e ≡ halved w v xs a e
+        unfolding lookAt
+        halved-back h = sym (simp (tests, h)) ∙ look a e
+
+        pub halved-front : ltb (w (getD xs (middle a e) 0)) (w v) ≡ false → halved w v xs a (middle a e) ≡ halved w v xs a e
+        unfolding lookAt
+        halved-front h = sym (simp (tests, h)) ∙ look a e
+
+  -- ---- the slot that is looked at first
+
+  module _ (n i : ℕ) where
+    pub behind-far : n ≤ i → halved w v xs 0 n ≡ slotBehind w v xs n i
+    unfolding slotBehind
+    behind-far h = sym (simp tests)
+
+    module _ (h₁ : i < n) where
+      pub behind-next : getD xs i 0 ≡ v → i + 1 ≡ slotBehind w v xs n i
+      unfolding slotBehind
+      behind-next h = sym (simp tests)
+
+      pub behind-other : (getD xs i 0 ≡ v → ⊥) → halved w v xs 0 n ≡ slotBehind w v xs n i
+      unfolding slotBehind
+      behind-other h = sym (simp tests)
+
+-- ---- the loop of `all_found`: vs are still to be found, and i is the slot to look at first
+
+module _ (w : ℕ → ℕ) (xs : List ℕ) (n i : ℕ) (vs : List ℕ) where
+  pub all-end : [] ≡ vs → true ≡ allFound w xs n i vs
+  unfolding allFound
+  all-end e = ap (allFound w xs n i) e
+
+  module _ (v : ℕ) (us : List ℕ) (e : v ∷ us ≡ vs) (j : ℕ) (f : j ≡ slotBehind w v xs n i) where
+    all-step : cond (eqb j 0) false (allFound w xs n j us) ≡ allFound w xs n i vs
+    unfolding allFound
+    all-step = ap (λ k. cond (eqb k 0) false (allFound w xs n k us)) f ∙ ap (allFound w xs n i) e
+
+    pub all-on : (j ≡ 0 → ⊥) → allFound w xs n j us ≡ allFound w xs n i vs
+    all-on h = sym (simp tests) ∙ all-step
+
+    pub all-missed : j ≡ 0 → false ≡ allFound w xs n i vs
+    all-missed h = sym (simp tests) ∙ all-step
+
+-- ---- the loop of `comes_to`, on an answer of `sub_at`
+
+pub comes-stop : (q p : ℕ) (l : Listing Sub Told) → q ≤ p → eqb p q ≡ comesBy q p l
+unfolding comesBy
+comes-stop q p (more b l) h = sym (simp tests)
+comes-stop q p ends h = refl
+comes-stop q p (fails t) h = refl
+
+module _ (rule : ℕ → Sort) (s : List ℕ) (p q : ℕ) (h : p < q) where
+  pub comes-on : (b : Sub) (x : ℕ) → gives b x ≡ stepAt rule s p → comesBy q x (subsFrom rule s x) ≡ comesBy q p (subsFrom rule s p)
+  unfolding comesBy
+  comes-on b x g =
+      let n = sub-next rule s p b x g in
+      ap (λ k. comesBy q k (subsFrom rule s x)) (sym (n .end)) ∙ sym (simp tests) ∙ ap (comesBy q p) (n .is)
+
+  not-here : (p ≡ q → ⊥)
+  not-here e = omega arith
+
+  pub comes-end : none ≡ stepAt rule s p → false ≡ comesBy q p (subsFrom rule s p)
+  unfolding comesBy
+  comes-end g = sym (ne-eqb p q not-here) ∙ ap (comesBy q p) (sub-end rule s p g)
+
+  pub comes-refused : (t : Told) → refuses t ≡ stepAt rule s p → false ≡ comesBy q p (subsFrom rule s p)
+  unfolding comesBy
+  comes-refused t g = sym (ne-eqb p q not-here) ∙ ap (comesBy q p) (sub-refused rule s p t g)
+
+-- ---- each way out of `whole_list`
+
+module _ (rule : ℕ → Sort) (s v : List ℕ) (p : ℕ) where
+  pub whole-refused : (t : Told) → refused t ≡ countLines rule s → 0 ≡ wholeList rule s v p
+  unfolding wholeList wholeIn
+  whole-refused t e = ap (wholeIn rule s v p) e
+
+  module _ (n : ℕ) (e : gave n ≡ countLines rule s) where
+    pub whole-short : length v < n → 0 ≡ wholeList rule s v p
+    unfolding wholeList wholeIn
+    whole-short h = sym (simp tests) ∙ ap (wholeIn rule s v p) e
+
+    module _ (h₁ : n ≤ length v) where
+      pub whole-elsewhere : false ≡ comesTo rule s p → 0 ≡ wholeList rule s v p
+      unfolding wholeList wholeIn
+      whole-elsewhere h = let f = sym h in sym (simp (tests, f)) ∙ ap (wholeIn rule s v p) e
+
+      module _ (h₂ : true ≡ comesTo rule s p) where
+        pub whole-is : (t : Bool) → t ≡ allFound (rank s) v n 0 (startsFrom rule s 0) → cond t n 0 ≡ wholeList rule s v p
+        unfolding wholeList wholeIn
+        whole-is t h = let f = sym h₂ in ap (λ (x : Bool). cond x n 0) h ∙ sym (simp (tests, f)) ∙ ap (wholeIn rule s v p) e

@@ -1,0 +1,135 @@
+-- What a whole list gives its callers: each of the n slots says where the search for its body may begin, the place that was given is one too, and the
+-- slots suffice.
+use Prim.Native.Nat.{ℕ, zero, suc, _+_, _-_, _<_, _≤_}
+use mathlib.Core.Path.{_≡_, refl, sym, _∙_, subst}
+use mathlib.Core.Logic.{⊎-elim}
+use mathlib.Core.List.{List, [], _∷_}
+use mathlib.Core.Bool.{Bool, true}
+use native.Mathlib.Omega.{arith}
+use lib.ListN.{length, getD, take}
+use lib.Seq.{length-take-le, getD-take}
+use lib.Dec.{ltb, leb, eqb}
+use borrow.Author.Tests.{ltb-true, ltb-false, leb-false, eqb-true, eqb-false}
+use Rattle.walk.specs.Cases.{by-cases, le-or-gt}
+use Rattle.walk.specs.Listing.{Reply, gave, nothing, refused}
+use Rattle.refusal.specs.Told.{Told}
+use Rattle.area.specs.Kind.{Sort}
+use Rattle.area.specs.Subs.{subsFrom}
+use Rattle.area.specs.SubsLaws.{subs-chained}
+use Rattle.lines.specs.Lines.{countLines}
+use Rattle.lines.specs.LinesLaws.{counted-short}
+use Rattle.lines.specs.Slots.{slotAt}
+use Rattle.lines.specs.SlotsLaws.{Scans, slot-same}
+use Rattle.sort.specs.SortLaws.{Each}
+use Rattle.sort.specs.Rank.{rank}
+use Rattle.sort.specs.RankLaws.{After, Ascends}
+use Rattle.order.specs.Order.{startsFrom}
+use Rattle.order.specs.OrderLaws.{counted-starts}
+use Rattle.order.specs.BuiltLaws.{ascends}
+use Rattle.whole_list.specs.WholeList.{middle, lookAt, halvedIn, halved, slotBehind, allFound, comesTo, wholeIn, wholeList}
+use Rattle.whole_list.specs.MemberLaws.{In, in-at, each-in, Apart, nothing-else}
+use Rattle.whole_list.specs.PlacesLaws.{First, Begins, begins, comes-finds}
+
+-- ---- what is found stands among the n slots
+
+module _ (w : ℕ → ℕ) (xs : List ℕ) (n : ℕ) (room : n ≤ length xs) where
+  slot-in : (v i : ℕ) → i < n → eqb (getD xs i 0) v ≡ true → In v (take n xs)
+  slot-in v i h e =
+      let l : length (take n xs) ≡ n = length-take-le n xs room in
+      subst (λ x. In x (take n xs)) (getD-take n xs i 0 h ∙ eqb-true (getD xs i 0) v e) (in-at (take n xs) i (omega arith))
+
+  halved-in : (v k a e : ℕ) → e ≤ n → 0 < halvedIn w v xs k a e → In v (take n xs)
+  unfolding halvedIn lookAt
+  halved-in v zero a e h = λ q. absurd (omega arith)
+  halved-in v (suc k) a e h =
+      let m = middle a e in
+      by-cases (λ (r : ℕ). 0 < r → In v (take n xs)) (leb e a) (λ f q. absurd (omega arith))
+      (λ f. let l : a < e = leb-false e a f in
+      by-cases (λ (r : ℕ). 0 < r → In v (take n xs)) (eqb (getD xs m 0) v) (λ g q. slot-in v m (omega arith) g)
+      (λ g. by-cases (λ (r : ℕ). 0 < r → In v (take n xs)) (ltb (w (getD xs m 0)) (w v))
+      (λ d. halved-in v k (m + 1) e h)
+      (λ d. halved-in v k a m (omega arith))))
+
+  behind-in : (v i : ℕ) → 0 < slotBehind w v xs n i → In v (take n xs)
+  unfolding slotBehind halved
+  behind-in v i =
+      let far = halved-in v (suc (n - 0)) 0 n (omega arith) in
+      by-cases (λ (r : ℕ). 0 < r → In v (take n xs)) (ltb i n)
+      (λ f. by-cases (λ (r : ℕ). 0 < r → In v (take n xs)) (eqb (getD xs i 0) v) (λ g q. slot-in v i (ltb-true i n f) g) (λ g. far))
+      (λ f. far)
+
+  all-in : (i : ℕ) (vs : List ℕ) → allFound w xs n i vs ≡ true → Each (λ v. In v (take n xs)) vs
+  unfolding allFound
+  all-in i [] = λ q. tt
+  all-in i (v ∷ vs) =
+      by-cases (λ (t : Bool). t ≡ true → Each (λ x. In x (take n xs)) (v ∷ vs)) (eqb (slotBehind w v xs n i) 0)
+      (λ e q. let z : _≡_ {A = ℕ} 0 1 = cc in absurd (omega arith))
+      (λ e q. (behind-in v i (omega (arith, eqb-false (slotBehind w v xs n i) 0 e)), all-in (slotBehind w v xs n i) vs q))
+
+-- ---- the starts of line bodies are told apart
+
+apart-of : (xs : List ℕ) → Ascends xs → Apart xs
+apart-of [] a = tt
+apart-of (x ∷ xs) a = (others xs (a .1), apart-of xs (a .2))
+  where
+    others : (ys : List ℕ) → After x ys → Each (λ y. x ≡ y → ⊥) ys
+    others [] f = tt
+    others (y ∷ ys) f = (λ e. omega arith, others ys (f .2))
+
+-- ---- an answer above 0: what was tested
+
+module _ (rule : ℕ → Sort) (s v : List ℕ) (p : ℕ) where
+  record Passed (n : ℕ) : Type 0 where
+    counted : gave n ≡ countLines rule s
+    room : n ≤ length v
+    place : comesTo rule s p ≡ true
+    all : allFound (rank s) v n 0 (startsFrom rule s 0) ≡ true
+
+  passed-in : (m : ℕ) (x : Reply ℕ Told) → x ≡ countLines rule s → m < wholeIn rule s v p x → Passed (wholeIn rule s v p x)
+  unfolding wholeIn
+  passed-in m (gave n) e =
+      by-cases (λ (k : ℕ). m < k → Passed k) (ltb (length v) n) (λ a h. absurd (omega arith))
+      (λ a. by-cases (λ (k : ℕ). m < k → Passed k) (comesTo rule s p)
+      (λ b. by-cases (λ (k : ℕ). m < k → Passed k) (allFound (rank s) v n 0 (startsFrom rule s 0))
+      (λ c h. record { counted = e; room = ltb-false (length v) n a; place = b; all = c })
+      (λ c h. absurd (omega arith)))
+      (λ b h. absurd (omega arith)))
+  passed-in m nothing e = λ h. absurd (omega arith)
+  passed-in m (refused t) e = λ h. absurd (omega arith)
+
+  passed : (m : ℕ) → m < wholeList rule s v p → Passed (wholeList rule s v p)
+  unfolding wholeList
+  passed m h = passed-in m (countLines rule s) refl h
+
+  pub whole-room : wholeList rule s v p ≤ length v
+  whole-room =
+      ⊎-elim (λ (h : wholeList rule s v p ≤ 0). omega arith) (λ (h : 0 < wholeList rule s v p). passed 0 h .room)
+      (le-or-gt (wholeList rule s v p) 0)
+
+  pub scan-right : 0 < wholeList rule s v p → Scans rule s p
+  scan-right h = comes-finds rule s (subsFrom rule s 0) 0 p refl (passed 0 h .place) .1
+
+  -- THE THEOREM: by counting, each of the slots names a line body
+  slot-begins : (i : ℕ) → i < wholeList rule s v p → Begins rule s (subsFrom rule s 0) 0 (getD v i 0)
+  slot-begins i h =
+      let n = wholeList rule s v p in
+      let w = passed i h in
+      let starts = startsFrom rule s 0 in
+      let room : length (take n v) ≡ n = length-take-le n v (w .room) in
+      let there : In (getD (take n v) i 0) (take n v) = in-at (take n v) i (omega arith) in
+      let apart = apart-of starts (ascends rule s (counted-short rule s n (w .counted)) (subsFrom rule s 0) 0 (subs-chained rule s 0)) in
+      let named = nothing-else starts (take n v) apart
+      (all-in (rank s) v n (w .room) 0 starts (w .all)) (counted-starts rule s n (w .counted) ∙ sym room) (getD (take n v) i 0) there in
+      each-in (Begins rule s (subsFrom rule s 0) 0) starts (begins rule s (subsFrom rule s 0) 0 refl) (getD v i 0)
+      (subst (λ x. In x starts) (getD-take n v i 0 h) named)
+
+  pub hint-right : (i : ℕ) → i < wholeList rule s v p → (8 ≤ getD v i 0) × Scans rule s (getD v i 0 - 8)
+  hint-right i h = let b = slot-begins i h in (omega arith, b .1)
+
+  -- and the search for it ends at its first look
+  pub first-look : (i : ℕ) → i < wholeList rule s v p → First rule s (getD v i 0)
+  first-look i h = slot-begins i h .2
+
+  -- from any place at which it may begin, it finds the same
+  pub slot-hint : (i q : ℕ) → i < wholeList rule s v p → Scans rule s q → slotAt rule s v i (getD v i 0 - 8) ≡ slotAt rule s v i q
+  slot-hint i q h g = slot-same rule s v i (getD v i 0 - 8) q (hint-right i h .1) g

@@ -1,0 +1,180 @@
+// Whole lists: each of the area's n line bodies has a slot among the first n. By counting, each of these slots then names a line body, whose header
+// stands 8 bytes before it, so that the search for it ends at its first look. A call that goes over many slots may test the list once.
+//
+// No answer of the library depends on the test: a list that fails it, as one that is not in order may, is walked as before.
+ghost use mathlib.Core.Path.{_≡_};
+ghost use Prim.Native.Nat.{_≤_};
+ghost use lib.ListN.{length};
+ghost use Rattle.area.specs.Kind.{ruled};
+ghost use Rattle.order.specs.Order.{startsFrom};
+ghost use Rattle.sort.specs.Rank.{rank};
+ghost use Rattle.whole_list.specs.WholeList.{halved, slotBehind, allFound, comesTo, wholeList};
+ghost use Rattle.whole_list.specs.Begin.{goesBack, backs, tested, beginAt};
+use area::SubStep;
+use area::sub_at;
+use lines::Counted;
+use lines::count_lines;
+use sort::less;
+
+// The place behind the slot that holds `start`, among those from `from` to `to`, or 0. Each look at the middle leaves a shorter span. In a list that
+// is not in order a slot may be missed.
+fn halved(area: &[u8], slots: &[u32], from: usize, to: usize, start: u32) -> usize
+    requires { ⌜ to ≤ length (now slots) ⌝ }
+    ensures { λ r. ⌜ r ≡ halved (rank (now (area .entry))) start (now (slots .entry)) from to ⌝ }
+{
+    if to <= from {
+        return 0;
+    }
+    let mid = from + (to - from) / 2;
+    let at = slots[mid];
+    if at == start {
+        return mid + 1;
+    }
+    if less(area, at, start) {
+        return halved(area, slots, mid + 1, to, start);
+    }
+    halved(area, slots, from, mid, start)
+}
+
+// The same among the first n slots. That at `next` is looked at first: bodies that follow each other in the area often do so in the list.
+fn slot_behind(area: &[u8], slots: &[u32], n: usize, next: usize, start: u32) -> usize
+    requires { ⌜ n ≤ length (now slots) ⌝ }
+    ensures { λ r. ⌜ r ≡ slotBehind (rank (now (area .entry))) start (now (slots .entry)) n next ⌝ }
+{
+    if next < n {
+        if slots[next] == start {
+            return next + 1;
+        }
+    }
+    halved(area, slots, 0, n, start)
+}
+
+// Is the start of each line body found in the first n slots?
+fn all_found(area: &[u8], slots: &[u32], n: usize) -> bool
+    requires { ⌜ n ≤ length (now slots) ⌝ }
+    ensures { λ r. ⌜ r ≡ allFound (rank (now (area .entry))) (now (slots .entry)) n 0 (startsFrom ruled (now (area .entry)) 0) ⌝ }
+{
+    let mut behind: usize = 0;
+    let mut p: usize = 0;
+    loop {
+        match sub_at(area, p) {
+            SubStep::Sub {
+                kind,
+                start,
+                len: _,
+                next,
+            } => {
+                if kind == 0xf2 {
+                    behind = slot_behind(area, slots, n, behind, start as u32);
+                    if behind == 0 {
+                        return false;
+                    }
+                }
+                p = next;
+            }
+            SubStep::None => {
+                return true;
+            }
+            SubStep::Refused(_) => {
+                return true;
+            }
+        }
+    }
+}
+
+// Is it a place that a walk over the subsections comes to?
+fn comes_to(area: &[u8], place: usize) -> bool
+    ensures { λ r. ⌜ r ≡ comesTo ruled (now (area .entry)) place ⌝ }
+{
+    let mut p: usize = 0;
+    while p < place {
+        match sub_at(area, p) {
+            SubStep::Sub {
+                kind: _,
+                start: _,
+                len: _,
+                next,
+            } => {
+                p = next;
+            }
+            SubStep::None => {
+                return false;
+            }
+            SubStep::Refused(_) => {
+                return false;
+            }
+        }
+    }
+    p == place
+}
+
+// The number of the area's line bodies if the list is whole and a search may begin at `scan`, else 0.
+pub fn whole_list(area: &[u8], slots: &[u32], scan: usize) -> usize
+    ensures { λ r. ⌜ r ≡ wholeList ruled (now (area .entry)) (now (slots .entry)) scan ⌝ }
+{
+    match count_lines(area) {
+        Counted::Lines(n) => {
+            if slots.len() < n {
+                return 0;
+            }
+            if !comes_to(area, scan) {
+                return 0;
+            }
+            if !all_found(area, slots, n) {
+                return 0;
+            }
+            n
+        }
+        Counted::Refused(_) => 0,
+    }
+}
+
+// 1 where y lies before x.
+fn back(x: u32, y: u32) -> usize
+    ensures { λ r. ⌜ r ≡ goesBack x y ⌝ }
+{
+    if y < x {
+        return 1;
+    }
+    0
+}
+
+// How often a slot lies before the one in front of it.
+fn backs_of(slots: &[u32]) -> usize
+    ensures { λ r. ⌜ r ≡ backs (now (slots .entry)) ⌝ }
+{
+    let mut n: usize = 0;
+    let mut i: usize = 1;
+    while i < slots.len() {
+        n += back(slots[i - 1], slots[i]);
+        i += 1;
+    }
+    n
+}
+
+// As `whole_list` where the test is worth it. A list that hardly goes back in the area is found in few passes over it, and is not tested: 0.
+pub fn tested_list(area: &[u8], slots: &[u32], scan: usize) -> usize
+    ensures { λ r. ⌜ r ≡ tested ruled (now (area .entry)) (now (slots .entry)) scan ⌝ }
+{
+    if backs_of(slots) < 16 {
+        return 0;
+    }
+    whole_list(area, slots, scan)
+}
+
+// Where the search for the body that a slot names may begin: of the first `whole` slots at the body's own header, else at `scan`.
+pub fn begin_at(slots: &[u32], whole: usize, slot: usize, scan: usize) -> usize
+    ensures { λ r. ⌜ r ≡ beginAt (now (slots .entry)) whole slot scan ⌝ }
+{
+    if whole <= slot {
+        return scan;
+    }
+    if slots.len() <= slot {
+        return scan;
+    }
+    let body = slots[slot] as usize;
+    if body < 8 {
+        return scan;
+    }
+    body - 8
+}

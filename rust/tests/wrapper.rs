@@ -1,0 +1,256 @@
+//! The wrapper: what it says of the example, of the sheet's area, and that no bytes make it panic.
+
+use c13::*;
+
+const AREA: &[u8] = include_bytes!("../../examples/table.c13");
+const NAMES: &[u8] = include_bytes!("../../examples/table.names");
+
+fn place(section: u16, offset: u32) -> PdbInternalSectionOffset {
+    PdbInternalSectionOffset { section, offset }
+}
+
+fn bytes_of(words: &[u32]) -> Vec<u8> {
+    words.iter().flat_map(|w| w.to_le_bytes()).collect()
+}
+
+/// A subsection of words.
+fn subsection(kind: u32, body: &[u32]) -> Vec<u8> {
+    [bytes_of(&[kind, 4 * body.len() as u32]), bytes_of(body)].concat()
+}
+
+#[test]
+fn the_example_is_read() {
+    let area = Area::new(AREA);
+    let kinds: Vec<(u32, usize)> = area.subsections().map(|s| s.map(|s| (s.kind, s.data.len()))).collect::<Result<_, _>>().expect("subsections");
+    assert_eq!(kinds, [(0xf2, 72), (0xf2, 80), (0xf2, 32), (0xf4, 24)]);
+    let program = area.line_program().expect("program");
+    let lines: Vec<LineInfo> = program.lines().collect::<Result<_, _>>().expect("lines");
+    assert_eq!(lines.len(), 14);
+    let at: Vec<(u32, Option<u32>, u32)> = lines.iter().map(|l| (l.offset.offset, l.length, l.line_start)).collect();
+    assert_eq!(at[..3], [(0, Some(12), 11), (12, Some(14), 12), (26, Some(12), 13)]);
+    assert_eq!(at[13], (0xd0, Some(25), 17));
+    assert!(lines.iter().all(|l| l.kind == LineInfoKind::Expression && l.column_start.is_none() && l.line_end == l.line_start));
+}
+
+#[test]
+fn the_auditor_is_answered() {
+    let program = Area::new(AREA).line_program().expect("program");
+    let line = program.line_at(place(1, 0x88)).expect("a line").expect("there");
+    assert_eq!((line.offset.offset, line.line_start), (0x86, 6));
+    let file = program.get_file_info(line.file_index).expect("file");
+    assert_eq!((file.checksum.kind(), file.checksum.bytes().len()), ("md5", 16));
+    assert_eq!(StringTable::parse(NAMES).expect("table").get(file.name).expect("name"), b"c:\\probe\\table.c");
+    // a gap, another section, behind the end
+    for nowhere in [place(1, 0x62), place(2, 0x88), place(1, 0xe9)] {
+        assert_eq!(program.line_at(nowhere), Ok(None));
+    }
+}
+
+#[test]
+fn a_symbol_has_the_lines_of_its_subsection() {
+    let program = Area::new(AREA).line_program().expect("program");
+    let starts = |p| program.lines_for_symbol(p).map(|l| l.map(|l| l.line_start)).collect::<Result<Vec<_>, _>>().expect("lines");
+    assert_eq!(starts(place(1, 0)), [11, 12, 13, 14, 15, 16]);
+    assert_eq!(starts(place(1, 0x71)), [4, 5, 6, 7, 8, 9, 10]);
+    assert!(starts(place(0, 0)).is_empty());
+}
+
+#[test]
+fn files_are_listed_and_found() {
+    let program = Area::new(AREA).line_program().expect("program");
+    let files: Vec<_> = program.files().collect::<Result<Vec<_>, _>>().expect("files");
+    assert_eq!(files.len(), 1);
+    assert_eq!(program.get_file_info(files[0].0).expect("file"), files[0].1);
+    assert_eq!(program.get_file_info(FileIndex(24)).map(|_| ()), Err(Refusal::NoFile(24)));
+    assert_eq!(program.get_file_info(FileIndex(25)).map(|_| ()), Err(Refusal::Cut));
+}
+
+#[test]
+fn no_checksum_is_no_md5() {
+    let area = subsection(0xf4, &[5, 16, 1, 2, 3, 4, 0]);
+    let program = Area::new(&area).line_program().expect("program");
+    let (_, file) = program.files().next().expect("one").expect("file");
+    assert_eq!((file.name, file.checksum.kind()), (StringRef(5), "none"));
+    assert_ne!(file.checksum, file.checksum);
+}
+
+#[test]
+fn tables_are_read() {
+    let imports = subsection(0xf7, &[5, 2, 0x1003, 0x1004, 9, 1, 0x1007]);
+    let imports = Area::new(&imports).imports();
+    let modules: Vec<(u32, Vec<u32>)> =
+        imports.modules().map(|m| m.map(|m| (m.name.0 .0, m.imports.collect()))).collect::<Result<_, _>>().expect("modules");
+    assert_eq!(modules, [(5, vec![0x1003, 0x1004]), (9, vec![0x1007])]);
+    assert_eq!(imports.resolve_import(0x8000_0001), Ok(CrossModuleRef(ModuleRef(StringRef(5)), 0x1004)));
+    assert_eq!(imports.resolve_import(0x8020_0000), Err(Refusal::CrossModuleRefNotFound(0x8020_0000)));
+    assert_eq!(imports.resolve_import(1), Err(Refusal::NotACrossModuleRef(1)));
+
+    let exports = subsection(0xf8, &[1, 0x1001, 2, 0x1002, 0x8000_0003, 0x1003]);
+    let exports = Area::new(&exports).exports().expect("exports");
+    assert_eq!(exports.len(), 3);
+    assert_eq!(exports.exports().last(), Some(Ok(CrossModuleExport::Id(0x8000_0003, 0x1003))));
+    assert_eq!((exports.resolve_import(2), exports.resolve_import(3)), (Ok(Some(0x1002)), Ok(None)));
+
+    let inlinees = subsection(0xf6, &[1, 0x1000, 24, 7, 2, 48, 72]);
+    let inlinee = Area::new(&inlinees).inlinees().next().expect("one").expect("inlinee");
+    assert_eq!((inlinee.index, inlinee.file_index, inlinee.line), (0x1000, FileIndex(24), 7));
+    assert_eq!((inlinee.extra_files.len(), inlinee.extra_files.collect::<Vec<_>>()), (2, vec![48, 72]));
+}
+
+#[test]
+fn refusals_have_number_and_text() {
+    let refused = Area::new(&[1, 2, 3]).line_program().expect_err("cut");
+    assert_eq!((refused, refused.number(), refused.carries()), (Refusal::Cut, 1, None));
+    let unknown = Area::new(&bytes_of(&[0xf0, 0])).subsections().next().expect("one").expect_err("unknown kind");
+    assert_eq!(unknown.to_string(), "refused 2: unknown subsection kind (0xf0)");
+    assert_eq!(StringTable::parse(&[0; 64]).map(|_| ()), Err(Refusal::NoStringTable));
+    let long = vec![0; 16_777_217];
+    assert_eq!(Area::new(&long).line_program().map(|_| ()), Err(Refusal::TooLong));
+}
+
+#[test]
+fn a_module_is_its_parts() {
+    let stream = [bytes_of(&[4]), AREA.to_vec()].concat();
+    let module = ModuleInfo { stream: &stream, symbols_size: 4, lines_size: 0, c13_lines_size: AREA.len() as u32 };
+    assert_eq!(module.symbols(), Ok(()));
+    assert_eq!(module.line_program().expect("program").lines().count(), 14);
+    assert_eq!(module.exports().expect("exports").len(), 0);
+    let old = ModuleInfo { lines_size: 1, ..module };
+    assert_eq!(old.line_program().map(|_| ()), Err(Refusal::OldFormat));
+    assert_eq!(old.inlinees().expect("none").count(), 0);
+    let long = ModuleInfo { c13_lines_size: AREA.len() as u32 + 1, ..module };
+    assert_eq!(long.lines_area().map(|_| ()), Err(Refusal::ModuleSizes));
+}
+
+/// Numbers by chance, the same each time.
+struct Chance(u64);
+
+impl Chance {
+    fn next(&mut self) -> u64 {
+        self.0 = self.0.wrapping_mul(6_364_136_223_846_793_005).wrapping_add(1_442_695_040_888_963_407);
+        self.0 >> 33
+    }
+    fn below(&mut self, n: u64) -> u64 {
+        self.next() % n
+    }
+    /// A word that a rule is likely to look at.
+    fn word(&mut self) -> u32 {
+        match self.below(6) {
+            0 => self.below(4) as u32,
+            1 => 4 * self.below(16) as u32,
+            2 => 0xf1 + self.below(14) as u32,
+            3 => u32::MAX - self.below(3) as u32,
+            4 => 0x8000_0000 | self.below(32) as u32,
+            _ => self.next() as u32,
+        }
+    }
+    /// A few subsections, most of them whole, of words by chance.
+    fn area(&mut self) -> Vec<u8> {
+        let mut area = vec![];
+        for _ in 0..self.below(6) {
+            let kind = [0xf2, 0xf2, 0xf4, 0xf6, 0xf7, 0xf8, 0x8000_0000, 0xf0 + self.below(16) as u32][self.below(8) as usize];
+            let mut body: Vec<u32> = (0..self.below(12)).map(|_| self.word()).collect();
+            if kind == 0xf2 && body.len() > 6 && self.below(4) != 0 {
+                // a block that may fit
+                let (words, lines) = (body.len() as u32 - 3, (body.len() as u32 - 6) / 3);
+                body.splice(3..6, [0, lines, 4 * words]);
+            }
+            area.extend(subsection(kind, &body));
+        }
+        let spoilt = self.below(3) == 0 && !area.is_empty();
+        if spoilt {
+            let at = self.below(area.len() as u64) as usize;
+            area[at] = self.next() as u8;
+            area.truncate(area.len() - self.below(2) as usize);
+        }
+        area
+    }
+}
+
+/// Takes everything that an iterator gives; it must end, and stay ended.
+fn all<T>(mut from: impl Iterator<Item = Result<T, Refusal>>, limit: usize) -> (Vec<T>, Option<Refusal>) {
+    let mut taken = vec![];
+    let refused = loop {
+        match from.next() {
+            Some(Ok(x)) => taken.push(x),
+            Some(Err(why)) => break Some(why),
+            None => break None,
+        }
+        assert!(taken.len() <= limit, "more records than bytes");
+    };
+    assert!(from.next().is_none(), "it goes on behind its end");
+    (taken, refused)
+}
+
+/// Asks everything of an area.
+fn ask(bytes: &[u8], chance: &mut Chance) -> usize {
+    let (area, limit) = (Area::new(bytes), bytes.len());
+    let mut answers = all(area.subsections(), limit).0.len();
+    match area.line_program() {
+        Ok(program) => {
+            let (lines, refused) = all(program.lines(), limit);
+            answers += lines.len();
+            assert!(refused != Some(Refusal::WrongSlot), "a list as it was made has no wrong slot");
+            for line in &lines {
+                let _ = program.get_file_info(line.file_index);
+                answers += all(program.lines_for_symbol(line.offset), limit).0.len();
+                let _ = program.line_at(line.offset);
+            }
+            for (index, file) in all(program.files(), limit).0 {
+                let again = program.get_file_info(index).expect("a file of the walk");
+                assert_eq!((again.name, again.checksum.kind(), again.checksum.bytes()), (file.name, file.checksum.kind(), file.checksum.bytes()));
+                answers += 1;
+            }
+            let _ =
+                (program.get_file_info(FileIndex(chance.word())), all(program.lines_for_symbol(place(chance.word() as u16, chance.word())), limit));
+        }
+        Err(why) => assert!((1..=19).contains(&why.number()), "{why}"),
+    }
+    for inlinee in all(area.inlinees(), limit).0 {
+        let number = inlinee.extra_files.len();
+        assert_eq!(inlinee.extra_files.count(), number);
+        answers += 1;
+    }
+    let imports = area.imports();
+    let (modules, refused) = all(imports.modules(), limit);
+    for (m, module) in modules.iter().enumerate().take(2048) {
+        for (i, word) in module.imports.clone().enumerate().take(0x10_0000) {
+            let index = 0x8000_0000 | (m as u32) << 20 | i as u32;
+            assert_eq!(imports.resolve_import(index), refused.map_or(Ok(CrossModuleRef(module.name, word)), Err));
+            answers += 1;
+        }
+    }
+    let _ = imports.resolve_import(chance.word());
+    if let Ok(exports) = area.exports() {
+        let (all, refused) = all(exports.exports(), limit);
+        assert_eq!((all.len(), refused), (exports.len(), None));
+        answers += all.len();
+        for CrossModuleExport::Type(local, global) | CrossModuleExport::Id(local, global) in all {
+            let found = exports.resolve_import(local);
+            assert!(found == Ok(Some(global)) || found == Err(Refusal::UnsortedExports), "{found:?}");
+        }
+        let _ = exports.resolve_import(chance.word());
+    }
+    answers
+}
+
+#[test]
+fn no_bytes_make_it_panic() {
+    let mut chance = Chance(1);
+    let mut answers = 0;
+    for _ in 0..20_000 {
+        let area = chance.area();
+        answers += ask(&area, &mut chance);
+        let raw: Vec<u8> = (0..chance.below(40)).map(|_| chance.next() as u8).collect();
+        answers += ask(&raw, &mut chance);
+        let module = ModuleInfo { stream: &area, symbols_size: chance.word(), lines_size: chance.below(2) as u32, c13_lines_size: chance.word() };
+        let _ = (module.symbols(), module.line_program(), module.inlinees(), module.imports(), module.exports());
+        let mut names = bytes_of(&[0xeffe_effe, chance.below(4) as u32, chance.below(40) as u32]);
+        names.extend((0..chance.below(60)).map(|_| chance.below(3) as u8));
+        if let Ok(table) = StringTable::parse(&names) {
+            answers += (0..50).filter(|i| table.get(StringRef(*i)).is_ok()).count();
+            let _ = table.get(StringRef(chance.word()));
+        }
+    }
+    assert!(answers > 100_000, "{answers} answers: the inputs say too little");
+}

@@ -1,0 +1,326 @@
+/* library.c: every function of include/c13.h, called from C on examples and on hostile inputs. What it prints is held against library.stdout.
+ *
+ *   library AREA NAMES    the files examples/table.c13 and examples/table.names
+ *
+ * The lent bytes and words stand at the end of a page behind which nothing may be read or written, so that a step past them ends the program. */
+#define _DEFAULT_SOURCE
+#include "c13.h"
+#include <stdio.h>
+#include <stdlib.h>
+#include <string.h>
+#include <sys/mman.h>
+
+enum { ROOM = 1 << 20, WORDS = 64 };
+
+/* ---- memory that ends where a page ends */
+
+static uint8_t *page_end(void) {
+    uint8_t *p = mmap(NULL, ROOM + 4096, PROT_READ | PROT_WRITE, MAP_PRIVATE | MAP_ANONYMOUS, -1, 0);
+    if (p == MAP_FAILED || mprotect(p + ROOM, 4096, PROT_NONE)) exit(3);
+    return p + ROOM;
+}
+
+static uint8_t *bytes_end;  /* where lent bytes end */
+static uint64_t *words_end; /* where lent words end */
+static uint32_t *slots_end; /* where lent slots end */
+
+/* Copies bytes to where they end with their page. */
+static const uint8_t *lent(const void *bytes, size_t n) { return n ? memcpy(bytes_end - n, bytes, n) : bytes_end; }
+
+/* ---- the functions on an area or a stream, as one type */
+
+static uint32_t slots[16];
+static size_t slots_used;
+static uint32_t number;             /* the number that a function takes beside the bytes */
+static uint32_t sizes[] = {4, 0, 8}; /* the sizes of a module */
+
+typedef uint32_t call(const uint8_t *, size_t, uint64_t *, size_t);
+
+static uint32_t order_list(const uint8_t *a, size_t n, uint64_t *o, size_t m) { return c13_order_list(a, n, slots_end - 16, 16, o, m); }
+static uint32_t next_line(const uint8_t *a, size_t n, uint64_t *o, size_t m) { return c13_next_line(a, n, slots, slots_used, o, m); }
+static uint32_t symbol(const uint8_t *a, size_t n, uint64_t *o, size_t m) { return c13_lines_for_symbol(a, n, slots, slots_used, 1, number, o, m); }
+static uint32_t file_at(const uint8_t *a, size_t n, uint64_t *o, size_t m) { return c13_file_at(a, n, number, o, m); }
+static uint32_t resolve_import(const uint8_t *a, size_t n, uint64_t *o, size_t m) { return c13_resolve_import(a, n, number, o, m); }
+static uint32_t resolve_export(const uint8_t *a, size_t n, uint64_t *o, size_t m) { return c13_resolve_export(a, n, number, o, m); }
+static uint32_t word_at(const uint8_t *a, size_t n, uint64_t *o, size_t m) { return c13_word(a, n, 8, 2, number, o, m); }
+static uint32_t name(const uint8_t *a, size_t n, uint64_t *o, size_t m) { return c13_name(a, n, number, o, m); }
+static uint32_t module_symbols(const uint8_t *a, size_t n, uint64_t *o, size_t m) { return c13_module_symbols(a, n, sizes[0], sizes[1], sizes[2], o, m); }
+static uint32_t lines_part(const uint8_t *a, size_t n, uint64_t *o, size_t m) { return c13_lines_part(a, n, sizes[0], sizes[1], sizes[2], o, m); }
+static uint32_t tables_part(const uint8_t *a, size_t n, uint64_t *o, size_t m) { return c13_tables_part(a, n, sizes[0], sizes[1], sizes[2], o, m); }
+
+/* The name, the words of its state, the words of an answer with it, and what the function reads. */
+enum reads { AN_AREA, NAMES, A_MODULE };
+static const struct function {
+    const char *name;
+    call *f;
+    size_t state, words;
+    enum reads reads;
+} functions[] = {
+    {"c13_next_sub", c13_next_sub, C13_SUB_STATE, 4, AN_AREA},
+    {"c13_order_list", order_list, 0, 1, AN_AREA},
+    {"c13_next_line", next_line, C13_LINE_STATE, C13_LINE_STATE + C13_RECORD, AN_AREA},
+    {"c13_lines_for_symbol", symbol, 0, C13_LINE_STATE, AN_AREA},
+    {"c13_next_file", c13_next_file, C13_TABLE_STATE, 9, AN_AREA},
+    {"c13_file_at", file_at, 0, 4, AN_AREA},
+    {"c13_next_inlinee", c13_next_inlinee, C13_TABLE_STATE, 9, AN_AREA},
+    {"c13_next_import", c13_next_import, C13_TABLE_STATE, 7, AN_AREA},
+    {"c13_word", word_at, 0, 1, AN_AREA},
+    {"c13_resolve_import", resolve_import, 0, 2, AN_AREA},
+    {"c13_next_export", c13_next_export, C13_TABLE_STATE, 7, AN_AREA},
+    {"c13_export_count", c13_export_count, 0, 1, AN_AREA},
+    {"c13_resolve_export", resolve_export, 0, 1, AN_AREA},
+    {"c13_string_table", c13_string_table, 0, 2, NAMES},
+    {"c13_name", name, 0, 2, NAMES},
+    {"c13_module_symbols", module_symbols, 0, 0, A_MODULE},
+    {"c13_lines_part", lines_part, 0, 2, A_MODULE},
+    {"c13_tables_part", tables_part, 0, 2, A_MODULE},
+};
+enum { FUNCTIONS = sizeof functions / sizeof *functions };
+
+/* ---- examples */
+
+static void show(const struct function *f, uint32_t status, const uint64_t *out) {
+    size_t from = f->state, to = status == C13_GIVEN ? f->words : status == C13_REFUSED ? f->state + 2 : f->state;
+    if (f->f == symbol && status == C13_GIVEN) to = 4; /* of the state the first words: the lines themselves are shown, too */
+    printf("%s: %s", f->name, status == C13_GIVEN ? "given" : status == C13_NONE ? "none" : status == C13_REFUSED ? "refused" : "too short");
+    for (; from < to; from++) printf(" %llu", (unsigned long long)out[from]);
+    printf("\n");
+}
+
+/* One answer, or all answers of a walk and, behind its end, the last one again. */
+static void ask(const char *named, const uint8_t *bytes, size_t n) {
+    for (const struct function *f = functions; f < functions + FUNCTIONS; f++)
+        if (!strcmp(f->name, named)) {
+            uint64_t out[WORDS] = {0};
+            uint32_t status;
+            do show(f, status = f->f(bytes, n, out, WORDS), out);
+            while (f->state && status == C13_GIVEN);
+            if (f->state) show(f, f->f(bytes, n, out, WORDS), out);
+            if (f->f == symbol && status == C13_GIVEN)
+                while ((status = next_line(bytes, n, out, WORDS)) == C13_GIVEN)
+                    printf("  line %llu\n", (unsigned long long)out[C13_LINE_STATE + C13_START_LINE]);
+            return;
+        }
+    exit(3);
+}
+
+static size_t words_to(uint8_t *to, const uint32_t *words, size_t n) {
+    for (size_t i = 0; i < 4 * n; i++) to[i] = (uint8_t)(words[i / 4] >> 8 * (i % 4));
+    return 4 * n;
+}
+
+/* An area with every table: files, lines with a column, inlinees with extra files, imports, exports. */
+static const uint32_t every[] = {
+    0xf4, 24, 1, 0x01000110, 0x05040302, 0x09080706, 0x0d0c0b0a, 0x00000f0e,
+    0xf2, 48, 0x1000, 0x00010001, 0x20, 0, 2, 36, 0, 0x8000000a, 8, 0x8000000c, 0x00020001, 0x00040003,
+    0xf6, 28, 1, 0x1000, 0, 7, 2, 24, 48,
+    0xf7, 16, 5, 2, 0x1003, 0x1004,
+    0xf8, 16, 7, 0x1007, 0x80000008, 0x1008,
+};
+static uint8_t every_bytes[sizeof every];
+
+static void use_list(const uint8_t *area, size_t n) {
+    uint64_t out[2];
+    slots_used = c13_order_list(area, n, slots, 16, out, 2) == C13_GIVEN ? out[0] : 0;
+}
+
+static void examples(const uint8_t *area, size_t n, const uint8_t *names, size_t k) {
+    printf("-- the example\n");
+    use_list(area, n);
+    ask("c13_next_sub", area, n);
+    ask("c13_order_list", area, n);
+    for (size_t i = 0; i < slots_used; i++) printf("  slot %u\n", slots[i]);
+    ask("c13_next_line", area, n);
+    number = 0x71, ask("c13_lines_for_symbol", area, n);
+    ask("c13_next_file", area, n);
+    ask("c13_string_table", names, k);
+    number = 2, ask("c13_name", names, k);
+    printf("  %.*s\n", 16, names + 14);
+    number = 1000, ask("c13_name", names, k);
+
+    printf("-- every table\n");
+    n = words_to(every_bytes, every, sizeof every / 4), area = every_bytes;
+    use_list(area, n);
+    for (size_t f = 0; f < 13; f++)
+        if (functions[f].state) ask(functions[f].name, area, n);
+    for (number = 0; number <= 25; number += number == 24 ? 1 : 24) ask("c13_file_at", area, n);
+    for (number = 0; number < 3; number++) ask("c13_word", area, n);
+    static const uint32_t references[] = {0x80000001, 0x80000002, 0x80100000, 1};
+    for (size_t i = 0; i < 4; i++) number = references[i], ask("c13_resolve_import", area, n);
+    ask("c13_export_count", area, n);
+    for (number = 6; number < 8; number++) ask("c13_resolve_export", area, n);
+    number = 0x80000008, ask("c13_resolve_export", area, n);
+
+    printf("-- a module\n");
+    static const uint8_t stream[16] = {4};
+    for (sizes[1] = 0; sizes[1] < 2; sizes[1]++) {
+        ask("c13_module_symbols", stream, sizeof stream);
+        ask("c13_lines_part", stream, sizeof stream);
+        ask("c13_tables_part", stream, sizeof stream);
+    }
+    sizes[1] = 0, ask("c13_lines_part", stream, 11);
+}
+
+/* ---- hostile inputs */
+
+static void nothing_lent(void) {
+    printf("-- nothing lent\n");
+    slots_used = 0;
+    for (const struct function *f = functions; f < functions + FUNCTIONS; f++) printf("%s: %u\n", f->name, f->f(NULL, 0, NULL, 0));
+    uint64_t out[2] = {0};
+    printf("c13_order_list, no slots: %u", c13_order_list(every_bytes, sizeof every, NULL, 0, out, 2));
+    printf(" %llu\n", (unsigned long long)out[0]);
+    printf("c13_next_line, no slots: %u\n", c13_next_line(every_bytes, sizeof every, NULL, 0, NULL, 0));
+}
+
+static uint64_t sum; /* over all answers, so that the stored text pins them */
+static void sum_up(uint64_t x) { sum = (sum << 5 ^ sum >> 59 ^ x) * 0x9e3779b97f4a7c15; }
+
+static void fail(const struct function *f, const char *why) {
+    printf("%s: %s\n", f->name, why);
+    exit(1);
+}
+
+/* A call with m words lent that hold `state`: what must hold of every answer. */
+static uint32_t try(const struct function *f, const uint8_t *bytes, size_t n, const uint64_t *state, size_t m) {
+    static uint8_t before[4096];
+    uint64_t *out = words_end - m, first[WORDS];
+    uint32_t status, again;
+    if (n <= sizeof before) memcpy(before, bytes, n);
+    memcpy(out, state, 8 * m);
+    again = f->f(bytes, n, out, m);
+    memcpy(first, out, 8 * m);
+    memcpy(out, state, 8 * m);
+    status = f->f(bytes, n, out, m);
+    if (status != again || memcmp(first, out, 8 * m)) fail(f, "another answer to the same");
+    if (n <= sizeof before && memcmp(before, bytes, n)) fail(f, "lent bytes changed");
+    size_t from = status == C13_REFUSED ? f->state : 0, to = status == C13_GIVEN ? f->words : status == C13_REFUSED ? f->state + 2 : 0;
+    if (status > C13_TOO_SHORT || to > m) fail(f, "no such status");
+    for (size_t i = 0; i < m; i++)
+        if ((i < from || i >= to) && out[i] != state[i]) fail(f, "a word that is no part of the answer changed");
+    if (status == C13_REFUSED && (out[from] < 1 || out[from] > 19)) fail(f, "no such refusal");
+    sum_up(status);
+    for (size_t i = from; i < to; i++) sum_up(out[i]);
+    return status;
+}
+
+/* Whole bytes of each sort: an area, names, a module. */
+static struct { const uint8_t *bytes; size_t n; } whole[3];
+
+/* Each function with 0 to WORDS words for its answer: too few are told, and change nothing. */
+static void few_words(void) {
+    printf("-- few words\n");
+    static const uint64_t zeros[WORDS];
+    use_list(every_bytes, sizeof every);
+    for (const struct function *f = functions; f < functions + FUNCTIONS; f++) {
+        size_t n = whole[f->reads].n, few = 0;
+        const uint8_t *bytes = lent(whole[f->reads].bytes, n);
+        number = f->f == resolve_import ? 0x80000000 : f->f == resolve_export ? 7 : 0;
+        for (size_t m = 0; m <= WORDS; m++) few += try(f, bytes, n, zeros, m) == C13_TOO_SHORT;
+        printf("%s: too short below %zu\n", f->name, few);
+    }
+}
+
+/* Numbers by chance, the same each time. */
+static uint64_t chance(void) {
+    static uint64_t x = 1;
+    x = x * 6364136223846793005u + 1442695040888963407u;
+    return x >> 33;
+}
+static uint64_t number_by_chance(void) {
+    switch (chance() % 5) {
+    case 0: return chance() % 4;
+    case 1: return chance() % 300;
+    case 2: return UINT64_MAX - chance() % 3;
+    case 3: return UINT32_MAX - chance() % 3;
+    default: return chance() << 33 ^ chance();
+    }
+}
+
+/* Puts bytes of a sort to where they end with their page: whole, cut, spoilt, or all by chance. Says how many. */
+static size_t spoilt(enum reads sort) {
+    static uint8_t bytes[1024];
+    size_t n = whole[sort].n;
+    memcpy(bytes, whole[sort].bytes, n);
+    switch (chance() % 4) {
+    case 0: n = chance() % (n + 1); break;
+    case 1: bytes[chance() % n] = (uint8_t)(chance() % 2 ? chance() : chance() % 4); break;
+    case 2:
+        n = chance() % 64;
+        for (size_t i = 0; i < n; i++) bytes[i] = (uint8_t)chance();
+    }
+    lent(bytes, n);
+    return n;
+}
+
+static void list_by_chance(const uint8_t *area, size_t n) {
+    use_list(area, n);
+    if (chance() % 2) slots_used = chance() % 16;
+    if (chance() % 2)
+        for (size_t i = 0; i < slots_used; i++) slots[i] = (uint32_t)number_by_chance();
+}
+
+/* Bytes cut, spoilt and by chance, with states, slots and numbers by chance. */
+static void by_chance(void) {
+    printf("-- by chance\n");
+    static uint64_t told[FUNCTIONS][4], numbers[20];
+    for (int round = 0; round < 40000; round++) {
+        uint64_t state[WORDS];
+        int forged = chance() % 4;
+        for (size_t i = 0; i < WORDS; i++) state[i] = forged ? number_by_chance() : 0;
+        if (forged == 1) state[0] = chance() % 3, state[1] = chance() % 4, state[2] = chance() % 4;
+        number = (uint32_t)(chance() % 4 ? chance() % 2 << 31 | chance() % 40 : number_by_chance());
+        for (size_t i = 0; i < 3; i++) sizes[i] = (uint32_t)(chance() % 4 ? 4 * (chance() % 3) : number_by_chance());
+        const struct function *f = functions + round % FUNCTIONS;
+        size_t n = spoilt(f->reads), m = chance() % 8 ? WORDS : chance() % WORDS;
+        list_by_chance(bytes_end - n, n);
+        uint32_t status = try(f, bytes_end - n, n, state, m);
+        told[f - functions][status]++;
+        if (status == C13_REFUSED) numbers[(words_end - m)[f->state]]++;
+    }
+    for (size_t f = 0; f < FUNCTIONS; f++)
+        printf("%s: none %llu, given %llu, refused %llu, too short %llu\n", functions[f].name, (unsigned long long)told[f][0],
+               (unsigned long long)told[f][1], (unsigned long long)told[f][2], (unsigned long long)told[f][3]);
+    for (int i = 1; i < 20; i++)
+        if (numbers[i]) printf("refusal %d: %llu\n", i, (unsigned long long)numbers[i]);
+    printf("sum %016llx\n", (unsigned long long)sum);
+}
+
+static void too_long(void) {
+    printf("-- one byte too many\n");
+    size_t n = 16777217;
+    uint8_t *area = calloc(n, 1);
+    uint64_t out[WORDS];
+    for (const struct function *f = functions; f < functions + FUNCTIONS; f++) {
+        memset(out, 0, sizeof out);
+        uint32_t status = f->f(area, n, out, WORDS);
+        printf("%s: %u %llu\n", f->name, status, (unsigned long long)out[f->state]);
+    }
+    free(area);
+}
+
+static size_t read_file(const char *path, uint8_t *to) {
+    FILE *f = fopen(path, "rb");
+    if (!f) exit(3);
+    size_t n = fread(to, 1, 4096, f);
+    fclose(f);
+    return n;
+}
+
+int main(int argc, char **argv) {
+    static uint8_t area[4096], names[4096];
+    if (argc != 3) return 2;
+    size_t n = read_file(argv[1], area), k = read_file(argv[2], names);
+    bytes_end = page_end(), words_end = (uint64_t *)page_end(), slots_end = (uint32_t *)page_end();
+    static uint8_t module[4 + sizeof every] = {4};
+    examples(area, n, names, k);
+    memcpy(module + 4, every_bytes, sizeof every);
+    whole[AN_AREA].bytes = every_bytes, whole[AN_AREA].n = sizeof every;
+    whole[NAMES].bytes = names, whole[NAMES].n = k;
+    whole[A_MODULE].bytes = module, whole[A_MODULE].n = sizeof module;
+    nothing_lent();
+    few_words();
+    by_chance();
+    too_long();
+    return 0;
+}
