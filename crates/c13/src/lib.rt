@@ -8,9 +8,10 @@
 ghost use mathlib.Core.Path.{_≡_};
 ghost use lib.ListN.{length};
 ghost use Rattle.reading.specs.Reading.{openChecksums, openInlinees, openImports, openExports, opaque};
-ghost use Rattle.writer.specs.Calls.{callLines, callBlock, callChecksum, callInlinee, callModule, callPair};
+ghost use Rattle.calls.specs.Calls.{callLines, callBlock, callChecksum, callInlinee, callModule, callPair};
 ghost use Rattle.given.specs.Given.{Gives};
 ghost use Rattle.export.specs.Calls.{subGiven, fileGiven, infoGiven, wordGiven, inlineeGiven, moduleGiven, refGiven, exportGiven, countGiven, globalGiven, namesGiven, nameGiven, symbolsGiven, linesPartGiven, tablesPartGiven};
+ghost use Rattle.export_many.specs.Lines.{linesGiven, recordsLeft};
 ghost use Rattle.export_lines.specs.Calls.{orderGiven, slotsLeft, lineGiven, symbolGiven};
 ghost use Rattle.export_write.specs.Calls.{wroteGiven, bufferLeft, plainGiven};
 
@@ -156,6 +157,14 @@ pub extern "C" fn c13_next_line(area: &[u8], slots: &[u32], out: &mut [u64]) -> 
     ensures { λ r. ⌜ Gives (now (out .entry)) (lineGiven (now (area .entry)) (now (slots .entry)) (now (out .entry))) r (now (out .exit)) ⌝ }
 {
     export_lines::next_line(area, slots, out)
+}
+
+#[no_mangle]
+pub extern "C" fn c13_lines(area: &[u8], slots: &[u32], records: &mut [u64], out: &mut [u64]) -> u32
+    ensures { λ r. ⌜ Gives (now (out .entry)) (linesGiven (now (area .entry)) (now (slots .entry)) (length (now (records .entry))) (now (out .entry))) r (now (out .exit)) ⌝ }
+    ensures { λ _. ⌜ now (records .exit) ≡ recordsLeft (now (area .entry)) (now (slots .entry)) (now (records .entry)) (now (out .entry)) ⌝ }
+{
+    export_many::lines(area, slots, records, out)
 }
 
 #[no_mangle]

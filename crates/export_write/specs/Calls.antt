@@ -6,7 +6,7 @@ use mathlib.Core.List.{List, [], _∷_}
 use mathlib.Core.Option.{Option, none, some}
 use Rattle.reading.specs.Reading.{Item}
 use Rattle.plain.specs.Plain.{Last, plainOf}
-use Rattle.writer.specs.Calls.{answered, after}
+use Rattle.calls.specs.Calls.{answered, after}
 use Rattle.given.specs.Given.{Given, given, noneGiven, one, replyGiven, ifRoom, shortGiven}
 
 -- the place behind what is written then

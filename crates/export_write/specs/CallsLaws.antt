@@ -6,7 +6,7 @@ use lib.ListN.{length}
 use Rattle.walk.specs.Listing.{Reply}
 use Rattle.refusal.specs.Told.{Told}
 use Rattle.reading.specs.Reading.{Item}
-use Rattle.writer.specs.Calls.{Act, goes, stops, act, patch, wrote, kept, answered, after}
+use Rattle.calls.specs.Calls.{Act, goes, stops, act, patch, wrote, kept, answered, after}
 use Rattle.given.specs.Given.{Gives, one, replyGiven}
 use Rattle.given.specs.GivenLaws.{gives-as, room-changes, room-keeps, Still, room-careful}
 use Rattle.export_write.specs.Calls.{wroteGiven, bufferLeft}

@@ -3,7 +3,7 @@
 // its C name.
 ghost use mathlib.Core.Path.{_≡_};
 ghost use Rattle.reading.specs.Reading.{openChecksums, openInlinees, openImports, openExports, opaque};
-ghost use Rattle.writer.specs.Calls.{callLines, callBlock, callChecksum, callInlinee, callModule, callPair};
+ghost use Rattle.calls.specs.Calls.{callLines, callBlock, callChecksum, callInlinee, callModule, callPair};
 ghost use Rattle.writer.specs.Told.{toldWrote};
 ghost use Rattle.given.specs.Given.{Gives, one, replyGiven};
 ghost use Rattle.export_write.specs.Calls.{wroteGiven, bufferLeft, plainGiven};
