@@ -1,4 +1,4 @@
-//! ours < CASES: answers cases through the static library of the crate `export`, in the oracle's form (oracle/README.md).
+//! ours < CASES: answers cases through the static library of the crate `c13`, in the oracle's form (oracle/README.md).
 
 use std::collections::HashMap;
 use std::fmt::Write as _;

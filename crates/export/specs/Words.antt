@@ -15,10 +15,6 @@ use Rattle.given.specs.Given.{Given, given, refusalGiven}
 abbrev pub subWords : Sub → ℕ → List ℕ
 subWords b next = next ∷ b .kind ∷ b .start ∷ b .len ∷ []
 
--- a number
-abbrev pub one : ℕ → List ℕ
-one n = n ∷ []
-
 -- nothing but that there is an answer
 abbrev pub yes : Unit {0} → List ℕ
 yes u = []

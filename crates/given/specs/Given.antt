@@ -45,8 +45,20 @@ stepGiven k f (gives b s) = given 1 0 (f b s)
 stepGiven k f none = noneGiven
 stepGiven k f (refuses t) = refusalGiven k t
 
+-- a number
+abbrev pub one : ℕ → List ℕ
+one n = n ∷ []
+
 -- one answer: f has its words
 abbrev pub replyGiven : {B : Type 0} → (B → List ℕ) → Reply B Told → Given
 replyGiven f (gave b) = given 1 0 (f b)
 replyGiven f nothing = noneGiven
 replyGiven f (refused t) = refusalGiven 0 t
+
+-- A call that changes other lent memory too asks for k words first, so that its answer fits. With fewer it changes nothing at all: a is what it
+-- gives or leaves with k words, b without them, and its status is 3.
+abbrev pub ifRoom : {A : Type 0} → ℕ → List ℕ → A → A → A
+ifRoom k o a b = cond (leb k (length o)) a b
+
+abbrev pub shortGiven : Given
+shortGiven = given 3 0 []

@@ -7,14 +7,16 @@ use native.Mathlib.Nat.{le-antisymm}
 use native.Mathlib.Numerals.{add-one}
 use lib.ListN.{length, take, drop, set, getD}
 use lib.Seq.{paste, paste-suc, take-length}
+use mathlib.Core.Bool.{Bool, true, false, cond}
 use lib.Dec.{leb}
 use borrow.Author.Tests.{le-leb, lt-leb, leb-true}
 use Rattle.walk.specs.Cases.{by-cases}
 use Rattle.word.specs.Word.{put, store}
 use Rattle.word.specs.WordLaws.{put-before, put-behind}
-use Rattle.refusal.specs.Told.{told}
+use Rattle.walk.specs.Listing.{Reply, gave, nothing, refused}
+use Rattle.refusal.specs.Told.{Told, told}
 use Rattle.refusal.specs.declared.Refusal.{Refusal}
-use Rattle.given.specs.Given.{Given, given, Gives, statusIn, noneGiven, refusalWords}
+use Rattle.given.specs.Given.{Given, given, Gives, statusIn, noneGiven, refusalWords, one, replyGiven, ifRoom, shortGiven}
 
 module _ (o : List ℕ) (g : Given) where
   -- words that fit are put
@@ -75,3 +77,32 @@ module _ (o : List ℕ) (at : ℕ) (s : List ℕ) (t : List ℕ) (i : ℕ) (e : 
 -- the words of a refusal that is known
 pub refusal-is : {r s : Refusal} → r ≡ s → refusalWords (told r) ≡ refusalWords (told s)
 refusal-is e = ap (λ x. refusalWords (told x)) e
+
+-- ---- a call that changes other lent memory m too, which it leaves as n
+
+module _ {M : Type 0} (k : ℕ) (o : List ℕ) (g : Given) (m n : M) where
+  -- with room it does what it does
+  pub room-changes : {r : ℕ} {left : List ℕ} {x : M} → k ≤ length o → Gives o g r left → x ≡ n → Gives o (ifRoom k o g shortGiven) r left × (x ≡ ifRoom k o n m)
+  room-changes h q e = rw (le-leb k (length o) h) (q, e)
+
+  -- without, nothing
+  pub room-keeps : length o < k → Gives o (ifRoom k o g shortGiven) 3 o × (m ≡ ifRoom k o n m)
+  room-keeps h = rw (lt-leb k (length o) h) (gives-nothing 3 o, refl)
+
+-- what it leaves of m where it has no answer: m
+abbrev pub Still : {M : Type 0} → Reply ℕ Told → M → M → Type 0
+Still (gave k) m n = Unit {0}
+Still nothing m n = n ≡ m
+Still (refused t) m n = n ≡ m
+
+-- THE LAW: with any status but 1 such a call changes nothing
+pub room-careful : {M : Type 0} (o : List ℕ) (x : Reply ℕ Told) (m n : M) {r : ℕ} {left : List ℕ}
+    → Still x m n → Gives o (ifRoom 2 o (replyGiven one x) shortGiven) r left → (r ≡ 1 → ⊥) → ifRoom 2 o n m ≡ m
+unfolding statusIn
+room-careful {M} o x m n {r} h g z = go (leb 2 (length o)) refl x h (g .status)
+  where
+    go : (t : Bool) → leb 2 (length o) ≡ t → (y : Reply ℕ Told) → Still y m n → r ≡ statusIn o (cond t (replyGiven one y) shortGiven) → cond t n m ≡ m
+    go true e (gave k) q s = absurd (z (s ∙ rw (le-leb 1 (length o) (omega (arith, leb-true 2 (length o) e)))))
+    go true e nothing q s = q
+    go true e (refused t) q s = q
+    go false e y q s = refl

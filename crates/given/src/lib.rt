@@ -18,6 +18,9 @@ pub const REFUSED: u32 = 2;
 
 pub const TOO_SHORT: u32 = 3;
 
+// The words that a refusal takes. A call that changes other lent memory too asks for as many before it does anything.
+pub const LEAST: usize = 2;
+
 // Puts the words of an answer, and answers its status.
 pub fn put(out: &mut [u64], at: usize, words: &[u64], status: u32) -> u32
     ensures { λ r. ⌜ Gives (now (out .entry)) (given status at (now (words .entry))) r (now (out .exit)) ⌝ }

@@ -1,0 +1,25 @@
+-- What each call on lines gives. s is the area, v the slots, and o the lent words, whose first 27 are a walk's state. The order list changes the slots
+-- only with two words to answer into.
+-- Definitions only; a reader must believe them.
+use Prim.Native.Nat.{ℕ}
+use mathlib.Core.List.{List}
+use Rattle.area.specs.Kind.{ruled}
+use Rattle.order.specs.Order.{ordered, slotsAfter}
+use Rattle.records.specs.Next.{nextOf}
+use Rattle.symbol_lines.specs.Symbol.{symbolWalk}
+use Rattle.given.specs.Given.{Given, one, stepGiven, replyGiven, ifRoom, shortGiven}
+use Rattle.line_words.specs.LineWords.{lineWalkIn, lineWalkWords, lineWords}
+
+-- with n slots
+abbrev pub orderGiven : List ℕ → ℕ → List ℕ → Given
+orderGiven s n o = ifRoom 2 o (replyGiven one (ordered ruled s n)) shortGiven
+
+-- the slots after it
+abbrev pub slotsLeft : List ℕ → List ℕ → List ℕ → List ℕ
+slotsLeft s v o = ifRoom 2 o (slotsAfter ruled s v) v
+
+abbrev pub lineGiven : List ℕ → List ℕ → List ℕ → Given
+lineGiven s v o = stepGiven 27 lineWords (nextOf ruled s v (lineWalkIn o))
+
+abbrev pub symbolGiven : List ℕ → List ℕ → ℕ → ℕ → Given
+symbolGiven s v section offset = replyGiven lineWalkWords (symbolWalk ruled s v section offset)

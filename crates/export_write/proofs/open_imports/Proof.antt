@@ -1,0 +1,18 @@
+-- `export_write::open_imports` meets its contract: without two words nothing; else what `writer::open_imports` tells, and the buffer as that leaves it.
+-- Assumes nothing.
+use borrow.Author.Needs.{needs}
+use native.Mathlib.Omega.{arith}
+use Rattle.export_write.specs.CallsLaws.{writer-keeps, writer-goes}
+use Rattle.export_write.proofs.open_imports.Statement.{statement}
+use Rattle.export_write.proofs.open_imports.Tie as tie
+
+pub open-imports-spec : {M : Type 1} → statement M
+open-imports-spec =
+    tie.close
+    (tie.spec
+    (λ c. writer-keeps _ _ _ _ (omega arith))
+    (λ c κs. search needs)
+    (λ c κs. search needs)
+    (λ c. search needs)
+    (λ c. search needs)
+    (λ c. writer-goes _ _ _ _ (omega arith) (c .before .before .before .before .before .open-imports .ensures) (c .before .before .put-wrote .ensures)))

@@ -1,0 +1,31 @@
+-- `export_write::plain` meets its contract: the words of what `is_plain` tells.
+-- Assumes nothing.
+use borrow.Author.Needs.{needs}
+use mathlib.Core.Path.{sym, ap, _∙_}
+use Rattle.plain.specs.Told.{toldPlain}
+use Rattle.given.specs.GivenLaws.{gives-as, gives-none}
+use Rattle.export_write.specs.Calls.{lastGiven}
+use Rattle.export_write.proofs.plain.Statement.{statement}
+use Rattle.export_write.proofs.plain.Tie as tie
+
+returns : tie.Need-returns
+returns c =
+    let h = c .before .before .before .before .before .before in
+    gives-as lastGiven (ap toldPlain (sym (h .header .given .1)) ∙ h .before .before .is-plain .ensures) (c .before .before .put .ensures)
+
+returns-2 : tie.Need-returns-2
+returns-2 c = gives-as lastGiven (ap toldPlain (sym (c .enum-told .given .1)) ∙ c .before .before .is-plain .ensures) (gives-none _)
+
+pub plain-spec : {M : Type 1} → statement M
+plain-spec =
+    tie.close
+    (tie.spec
+    (λ c κs. search needs)
+    (λ c. search needs)
+    (λ c. search needs)
+    (λ c. search needs)
+    (λ c κs. search needs)
+    (λ c. search needs)
+    (λ c. search needs)
+    returns
+    returns-2)

@@ -1,0 +1,25 @@
+-- What each writer call gives, and the buffer after it. The call is an item of the full reading, b the buffer, w the place behind what is written, and o
+-- the lent words. A call changes the buffer only with two words to answer into.
+-- Definitions only; a reader must believe them.
+use Prim.Native.Nat.{ℕ}
+use mathlib.Core.List.{List, [], _∷_}
+use mathlib.Core.Option.{Option, none, some}
+use Rattle.reading.specs.Reading.{Item}
+use Rattle.plain.specs.Plain.{Last, plainOf}
+use Rattle.writer.specs.Calls.{answered, after}
+use Rattle.given.specs.Given.{Given, given, noneGiven, one, replyGiven, ifRoom, shortGiven}
+
+-- the place behind what is written then
+unfoldable pub wroteGiven : Item → List ℕ → ℕ → List ℕ → Given
+wroteGiven it b w o = ifRoom 2 o (replyGiven one (answered it b w)) shortGiven
+
+unfoldable pub bufferLeft : Item → List ℕ → ℕ → List ℕ → List ℕ
+bufferLeft it b w o = ifRoom 2 o (after it b w) b
+
+-- what is last in a plain area: its header's place, its kind and its mark, all 0 where there is none; an area that is not plain has no words
+abbrev pub lastGiven : Option Last → Given
+lastGiven (some l) = given 1 0 (l .header ∷ l .kind ∷ l .mark ∷ [])
+lastGiven none = noneGiven
+
+abbrev pub plainGiven : List ℕ → Given
+plainGiven s = lastGiven (plainOf s)
