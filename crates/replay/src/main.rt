@@ -58,7 +58,7 @@ use word::u8_at;
 use word::u16_at;
 use word::u32_at;
 
-// The calls, numbered as their names are in `name`: subsections, order list, files, lines, inlinees, imports, imports of which only the refusal is
+// The calls, numbered as their terms are in `term`: subsections, order list, files, lines, inlinees, imports, imports of which only the refusal is
 // shown, exports, the number of exports, whether a module's symbols can be read, whether it has an order list, whether a string table can be read;
 // the file at an index, the lines of a symbol, a reference, an export, the name at an offset.
 const SUB: u8 = 0;
@@ -93,7 +93,7 @@ const RESOLVE: u8 = 14;
 
 const LOOKUP: u8 = 15;
 
-// Other names in the text; those of the kinds of checksums are in the order of their numbers.
+// Other terms of the text. Those of the kinds of checksums are in the order of their numbers, from NONE on.
 const NONE: u8 = 17;
 
 const TYPE: u8 = 21;
@@ -109,6 +109,10 @@ const YES: u8 = 25;
 const END: u8 = 26;
 
 const ERROR: u8 = 27;
+
+const CASE: u8 = 28;
+
+const READ: u8 = 29;
 
 struct Call {
     number: u8,
@@ -126,17 +130,13 @@ fn put(b: u8) {
     say(&[b]);
 }
 
-fn decimal(n: u64) {
-    io::print_decimal(STDOUT_FILENO, n);
-}
-
 fn hex(n: u64) {
     io::print_hex(STDOUT_FILENO, n, 1);
 }
 
 fn spaced(n: u64) {
     put(b' ');
-    decimal(n);
+    io::print_decimal(STDOUT_FILENO, n);
 }
 
 fn spaced_hex(n: u64) {
@@ -160,27 +160,22 @@ fn part(all: &[u8], start: usize, len: usize) -> &[u8] {
     &all[start..start + len]
 }
 
-// A name of a list of names, each of which has its length in front and takes eight bytes.
-fn name_in(names: &[u8], number: u8) {
+// A term: each has its length in front and takes eight bytes.
+fn term(number: u8) {
+    let terms: &[u8] =
+        b"\x03sub....\x05order..\x04file...\x04line...\x07inlinee\x06import.\x06import.\x06export.\x07exports\x07symbols\x07program\x05table..\x04info...\x03sym....\x07resolve\x06lookup.\x04name...\x04none...\x03md5....\x04sha1...\x06sha256.\x04type...\x02id.....\x02ex.....\x02st.....\x03yes....\x03end....\x05error..\x04case...\x04read...";
     let at = 8 * (number as usize);
-    say(part(names, at + 1, u8_at(names, at) as usize));
+    say(part(terms, at + 1, u8_at(terms, at) as usize));
 }
 
-fn name(number: u8) {
-    name_in(
-        b"\x03sub....\x05order..\x04file...\x04line...\x07inlinee\x06import.\x06import.\x06export.\x07exports\x07symbols\x07program\x05table..\x04info...\x03sym....\x07resolve\x06lookup.\x04name...\x04none...\x03md5....\x04sha1...\x06sha256.\x04type...\x02id.....\x02ex.....\x02st.....\x03yes....\x03end....\x05error..",
-        number,
-    );
-}
-
-fn spaced_name(number: u8) {
+fn spaced_term(number: u8) {
     put(b' ');
-    name(number);
+    term(number);
 }
 
 // The last line of a walk.
 fn over() {
-    spaced_name(END);
+    spaced_term(END);
     put(b'\n');
 }
 
@@ -211,7 +206,7 @@ fn bytes_text(bytes: &[u8]) {
 fn refused(why: Refusal) {
     let mut words = [0u64; 2];
     put_refusal(&mut words, 0, why);
-    spaced_name(ERROR);
+    spaced_term(ERROR);
     spaced(state_word(&words, 0));
     spaced_hex(state_word(&words, 1));
 }
@@ -232,8 +227,8 @@ fn column(c: Column) {
 
 fn line_kind(k: LineKind) {
     match k {
-        LineKind::Statement => spaced_name(STATEMENT),
-        LineKind::Expression => spaced_name(EXPRESSION),
+        LineKind::Statement => spaced_term(STATEMENT),
+        LineKind::Expression => spaced_term(EXPRESSION),
     }
 }
 
@@ -254,14 +249,14 @@ fn record(r: LineRecord) {
 }
 
 fn checksum(stream: &[u8], sizes: ModuleSizes, kind: ChecksumKind, start: usize, len: usize) {
-    spaced_name(wrapping_add_u8(NONE, kind_number(kind)));
+    spaced_term(wrapping_add_u8(NONE, kind_number(kind)));
     bytes_text(module_checksum_bytes(stream, sizes, start, len));
 }
 
 // What is asked, at the head of a line.
 fn head(call: Call) {
     let number = call.number;
-    name(number);
+    term(number);
     match number {
         0..=11 => {}
         SYM => place(call.section, call.word),
@@ -279,7 +274,7 @@ enum Next {
     Refused(Refusal),
 }
 
-fn file_step(stream: &[u8], sizes: ModuleSizes, call: Call, walk: TableWalk) -> Next {
+fn file_step(stream: &[u8], sizes: ModuleSizes, number: u8, walk: TableWalk) -> Next {
     match module_next_file(stream, sizes, walk) {
         FileStep::File {
             index,
@@ -289,7 +284,7 @@ fn file_step(stream: &[u8], sizes: ModuleSizes, call: Call, walk: TableWalk) -> 
             len,
             next,
         } => {
-            head(call);
+            term(number);
             spaced(index as u64);
             spaced(name as u64);
             checksum(stream, sizes, kind, start, len);
@@ -307,7 +302,7 @@ fn word_text(answer: WordAnswer, in_hex: bool) {
             if in_hex {
                 hex(w as u64);
             } else {
-                decimal(w as u64);
+                io::print_decimal(STDOUT_FILENO, w as u64);
             }
         }
         WordAnswer::None => dash(),
@@ -333,7 +328,7 @@ fn words(stream: &[u8], sizes: ModuleSizes, at: usize, count: usize, in_hex: boo
     put(b'\n');
 }
 
-fn inlinee_step(stream: &[u8], sizes: ModuleSizes, call: Call, walk: TableWalk) -> Next {
+fn inlinee_step(stream: &[u8], sizes: ModuleSizes, number: u8, walk: TableWalk) -> Next {
     match module_next_inlinee(stream, sizes, walk) {
         InlineeStep::Inlinee {
             inlinee,
@@ -343,7 +338,7 @@ fn inlinee_step(stream: &[u8], sizes: ModuleSizes, call: Call, walk: TableWalk) 
             count,
             next,
         } => {
-            head(call);
+            term(number);
             spaced(inlinee as u64);
             spaced(file as u64);
             spaced(line as u64);
@@ -355,7 +350,7 @@ fn inlinee_step(stream: &[u8], sizes: ModuleSizes, call: Call, walk: TableWalk) 
     }
 }
 
-fn import_step(stream: &[u8], sizes: ModuleSizes, call: Call, walk: TableWalk) -> Next {
+fn import_step(stream: &[u8], sizes: ModuleSizes, number: u8, walk: TableWalk) -> Next {
     match module_next_import(stream, sizes, walk) {
         ImportStep::Module {
             name,
@@ -363,8 +358,8 @@ fn import_step(stream: &[u8], sizes: ModuleSizes, call: Call, walk: TableWalk) -
             count,
             next,
         } => {
-            if call.number == IMPORT {
-                head(call);
+            if number == IMPORT {
+                term(number);
                 spaced(name as u64);
                 words(stream, sizes, at, count, true);
             }
@@ -375,7 +370,8 @@ fn import_step(stream: &[u8], sizes: ModuleSizes, call: Call, walk: TableWalk) -
     }
 }
 
-fn pair(local: u32, global: u32) {
+fn export_line(kind: u8, local: u32, global: u32) {
+    spaced_term(kind);
     spaced_hex(local as u64);
     spaced_hex(global as u64);
     put(b'\n');
@@ -383,21 +379,15 @@ fn pair(local: u32, global: u32) {
 
 fn export_text(export: CrossModuleExport) {
     match export {
-        CrossModuleExport::Type { local, global } => {
-            spaced_name(TYPE);
-            pair(local, global);
-        }
-        CrossModuleExport::Id { local, global } => {
-            spaced_name(ID);
-            pair(local, global);
-        }
+        CrossModuleExport::Type { local, global } => export_line(TYPE, local, global),
+        CrossModuleExport::Id { local, global } => export_line(ID, local, global),
     }
 }
 
-fn export_step(stream: &[u8], sizes: ModuleSizes, call: Call, walk: TableWalk) -> Next {
+fn export_step(stream: &[u8], sizes: ModuleSizes, number: u8, walk: TableWalk) -> Next {
     match module_next_export(stream, sizes, walk) {
         ExportStep::Export { export, next } => {
-            head(call);
+            term(number);
             export_text(export);
             Next::On(next)
         }
@@ -406,31 +396,30 @@ fn export_step(stream: &[u8], sizes: ModuleSizes, call: Call, walk: TableWalk) -
     }
 }
 
-fn table_step(stream: &[u8], sizes: ModuleSizes, call: Call, walk: TableWalk) -> Next {
-    let number = call.number;
+fn table_step(stream: &[u8], sizes: ModuleSizes, number: u8, walk: TableWalk) -> Next {
     match number {
-        FILE => file_step(stream, sizes, call, walk),
-        INLINEE => inlinee_step(stream, sizes, call, walk),
-        EXPORT => export_step(stream, sizes, call, walk),
-        _ => import_step(stream, sizes, call, walk),
+        FILE => file_step(stream, sizes, number, walk),
+        INLINEE => inlinee_step(stream, sizes, number, walk),
+        EXPORT => export_step(stream, sizes, number, walk),
+        _ => import_step(stream, sizes, number, walk),
     }
 }
 
-fn table_walk(stream: &[u8], sizes: ModuleSizes, call: Call) {
+fn table_walk(stream: &[u8], sizes: ModuleSizes, number: u8) {
     let mut walk = TableWalk::New;
     let mut turns = u64::MAX;
     while turns > 0 {
-        match table_step(stream, sizes, call, walk) {
+        match table_step(stream, sizes, number, walk) {
             Next::On(next) => {
                 walk = next;
             }
             Next::Over => {
-                head(call);
+                term(number);
                 over();
                 return;
             }
             Next::Refused(why) => {
-                head(call);
+                term(number);
                 refused(why);
                 put(b'\n');
                 return;
@@ -440,11 +429,11 @@ fn table_walk(stream: &[u8], sizes: ModuleSizes, call: Call) {
     }
 }
 
-fn sub_walk(area: &[u8], call: Call) {
+fn sub_walk(area: &[u8]) {
     let mut at: usize = 0;
     let mut turns = u64::MAX;
     while turns > 0 {
-        head(call);
+        term(SUB);
         match sub_at(area, at) {
             SubStep::Sub {
                 kind,
@@ -496,9 +485,16 @@ fn line_walk(stream: &[u8], sizes: ModuleSizes, slots: &[u32], call: Call, first
     }
 }
 
-fn symbol_walk(stream: &[u8], sizes: ModuleSizes, slots: &[u32], call: Call) {
-    match module_lines_for_symbol(stream, sizes, slots, call.section, call.word) {
-        SymbolLines::Lines(walk) => line_walk(stream, sizes, slots, call, walk),
+// No case has as many line subsections as there are slots here.
+fn lines(stream: &[u8], sizes: ModuleSizes, call: Call) {
+    let mut slots = [0u32; 256];
+    module_order_list(stream, sizes, &mut slots);
+    if call.number == LINE {
+        line_walk(stream, sizes, &slots, call, LineWalk::New);
+        return;
+    }
+    match module_lines_for_symbol(stream, sizes, &slots, call.section, call.word) {
+        SymbolLines::Lines(walk) => line_walk(stream, sizes, &slots, call, walk),
         SymbolLines::Refused(why) => {
             head(call);
             refused(why);
@@ -524,7 +520,7 @@ fn slots_text(slots: &[u32], n: usize) {
     }
 }
 
-// The order list, or whether there is one. No case has as many line subsections as there are slots here.
+// The order list, or whether there is one.
 fn order_answer(stream: &[u8], sizes: ModuleSizes, listed: bool) {
     let mut slots = [0u32; 256];
     match module_order_list(stream, sizes, &mut slots) {
@@ -532,7 +528,7 @@ fn order_answer(stream: &[u8], sizes: ModuleSizes, listed: bool) {
             if listed {
                 slots_text(&slots, n);
             } else {
-                spaced_name(YES);
+                spaced_term(YES);
             }
         }
         Ordered::Refused(why) => refused(why),
@@ -541,7 +537,7 @@ fn order_answer(stream: &[u8], sizes: ModuleSizes, listed: bool) {
 
 fn symbols_answer(stream: &[u8], sizes: ModuleSizes) {
     match module_symbols(stream, sizes) {
-        SymbolsAnswer::Yes => spaced_name(YES),
+        SymbolsAnswer::Yes => spaced_term(YES),
         SymbolsAnswer::Refused(why) => refused(why),
     }
 }
@@ -581,14 +577,14 @@ fn count_answer(stream: &[u8], sizes: ModuleSizes) {
 fn export_answer(stream: &[u8], sizes: ModuleSizes, local: u32) {
     match module_resolve_export(stream, sizes, local) {
         Lookup::Global(global) => spaced_hex(global as u64),
-        Lookup::None => spaced_name(NONE),
+        Lookup::None => spaced_term(NONE),
         Lookup::Refused(why) => refused(why),
     }
 }
 
 fn table_answer(stream: &[u8]) {
     match string_table(stream) {
-        TableAnswer::Names { start: _, len: _ } => spaced_name(YES),
+        TableAnswer::Names { start: _, len: _ } => spaced_term(YES),
         TableAnswer::Refused(why) => refused(why),
     }
 }
@@ -619,13 +615,12 @@ fn one_line(stream: &[u8], sizes: ModuleSizes, call: Call) {
     put(b'\n');
 }
 
-fn answer(stream: &[u8], sizes: ModuleSizes, slots: &[u32], call: Call) {
+fn answer(stream: &[u8], sizes: ModuleSizes, call: Call) {
     let number = call.number;
     match number {
-        SUB => sub_walk(stream, call),
-        LINE => line_walk(stream, sizes, slots, call, LineWalk::New),
-        SYM => symbol_walk(stream, sizes, slots, call),
-        FILE | INLINEE | IMPORT | IMPORT_REFUSED | EXPORT => table_walk(stream, sizes, call),
+        SUB => sub_walk(stream),
+        LINE | SYM => lines(stream, sizes, call),
+        FILE | INLINEE | IMPORT | IMPORT_REFUSED | EXPORT => table_walk(stream, sizes, number),
         _ => one_line(stream, sizes, call),
     }
 }
@@ -639,14 +634,14 @@ fn after(at: usize, n: usize) -> usize {
 }
 
 // Answers the call at a place of the list, and where the next one stands.
-fn call_at(list: &[u8], at: usize, stream: &[u8], sizes: ModuleSizes, slots: &[u32]) -> usize {
+fn call_at(list: &[u8], at: usize, stream: &[u8], sizes: ModuleSizes) -> usize {
     let number = u8_at(list, at);
     let call = Call {
         number,
         word: u32_at(list, after(at, 1)),
         section: u16_at(list, after(at, 5)),
     };
-    answer(stream, sizes, slots, call);
+    answer(stream, sizes, call);
     if number < INFO {
         after(at, 1)
     } else {
@@ -654,46 +649,32 @@ fn call_at(list: &[u8], at: usize, stream: &[u8], sizes: ModuleSizes, slots: &[u
     }
 }
 
-fn calls_at(
-    list: &[u8],
-    first: usize,
-    count: u8,
-    stream: &[u8],
-    sizes: ModuleSizes,
-    slots: &[u32],
-) -> usize {
+fn calls_at(list: &[u8], first: usize, count: u8, stream: &[u8], sizes: ModuleSizes) -> usize {
     let mut at = first;
     let mut i: u8 = 0;
     while i < count {
-        at = call_at(list, at, stream, sizes, slots);
+        at = call_at(list, at, stream, sizes);
         i += 1;
     }
     put(b'\n');
     at
 }
 
-fn sizes_at(list: &[u8], at: usize) -> ModuleSizes {
-    ModuleSizes {
-        symbols: u32_at(list, at),
-        c11: u32_at(list, after(at, 4)),
-        c13: u32_at(list, after(at, 8)),
-    }
-}
-
 // Answers the case at a place of the list, and where the next one stands.
 fn case_at(list: &[u8], at: usize, i: u32) -> usize {
-    let count = u8_at(list, at);
-    let sizes = sizes_at(list, after(at, 3));
     let start = after(at, 15);
     let len = u16_at(list, after(at, 1)) as usize;
     let stream = part(list, start, len);
-    let mut slots = [0u32; 256];
-    say(b"case");
+    let sizes = ModuleSizes {
+        symbols: u32_at(list, after(at, 3)),
+        c11: u32_at(list, after(at, 7)),
+        c13: u32_at(list, after(at, 11)),
+    };
+    term(CASE);
     spaced(i as u64);
     spaced(stream.len() as u64);
     put(b'\n');
-    module_order_list(stream, sizes, &mut slots);
-    calls_at(list, after(start, len), count, stream, sizes, &slots)
+    calls_at(list, after(start, len), u8_at(list, at), stream, sizes)
 }
 
 fn cases(list: &[u8]) -> usize {
@@ -712,7 +693,7 @@ fn main() {
     let mut buf = [0u8; 131072];
     let got = io::read_full(STDIN_FILENO, &mut buf);
     let read = cases(&buf[..got]);
-    say(b"read");
+    term(READ);
     spaced(read as u64);
     spaced(got as u64);
     put(b'\n');

@@ -6,10 +6,10 @@ use Rattle.replay.proofs.calls_at.Statement.{statement}
 use Rattle.replay.proofs.calls_at.Tie as tie
 
 abbrev Inv-loop : tie.InvT-loop
-Inv-loop list first count stream sizes slots at₀ i₀ at i = Unit {0}
+Inv-loop list first count stream sizes at₀ i₀ at i = Unit {0}
 
 abbrev μ-loop : tie.MeasureT-loop
-μ-loop list first count stream sizes slots at₀ i₀ at i = count - i
+μ-loop list first count stream sizes at₀ i₀ at i = count - i
 
 pub calls-at-spec : {M : Type 1} → statement M
 calls-at-spec =
