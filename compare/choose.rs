@@ -355,7 +355,7 @@ fn main() {
             *numbers.entry(word(&e, 0).parse().expect("number")).or_default() += 1;
         }
     }
-    text += &format!("read {} {}\n", list.len(), list.len());
+    text += &format!("read {} {1} {1}\n", chosen.len(), list.len());
     std::fs::File::create(format!("{}/stdin", args[0])).and_then(|mut f| f.write_all(&list)).expect("stdin");
     std::fs::File::create(format!("{}/stdout", args[0])).and_then(|mut f| f.write_all(text.as_bytes())).expect("stdout");
     let numbers: Vec<String> = numbers.iter().map(|(n, k)| format!("{n}: {k}")).collect();

@@ -677,7 +677,8 @@ fn case_at(list: &[u8], at: usize, i: u32) -> usize {
     calls_at(list, after(start, len), u8_at(list, at), stream, sizes)
 }
 
-fn cases(list: &[u8]) -> usize {
+// The last line: how many cases and how many bytes of the list were read, and how many bytes there are.
+fn cases(list: &[u8]) {
     let count = u32_at(list, 0);
     let mut at: usize = 4;
     let mut i: u32 = 0;
@@ -685,16 +686,15 @@ fn cases(list: &[u8]) -> usize {
         i += 1;
         at = case_at(list, at, i);
     }
-    at
+    term(READ);
+    spaced(count as u64);
+    spaced(at as u64);
+    spaced(list.len() as u64);
+    put(b'\n');
 }
 
-// The last line says how many bytes of the list were read, and how many there are.
 fn main() {
-    let mut buf = [0u8; 131072];
-    let got = io::read_full(STDIN_FILENO, &mut buf);
-    let read = cases(&buf[..got]);
-    term(READ);
-    spaced(read as u64);
-    spaced(got as u64);
-    put(b'\n');
+    let mut list = [0u8; 131072];
+    let len = io::read_full(STDIN_FILENO, &mut list);
+    cases(&list[..len]);
 }
