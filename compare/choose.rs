@@ -15,15 +15,25 @@ struct Case {
     keys: BTreeMap<String, String>,
 }
 
-/// The lists of a case: the key, the capital letter of its calls, whether the numbers are in hex.
-const LISTS: [(&str, u8, bool); 5] = [("files", b'F', false), ("syms", b'Y', true), ("imports", b'I', true), ("exports", b'E', true), ("offs", b'N', false)];
+/// The names of answers, in the order of the calls' numbers (crates/replay/src/main.rt). The second `import` is the call that shows only a refusal.
+const NAMES: [&str; 17] = [
+    "sub", "order", "file", "line", "inlinee", "import", "import", "export", "exports", "symbols", "program", "table", "info", "sym", "resolve", "lookup",
+    "name",
+];
 
-/// Letters of calls and the names of their answers (crates/replay/src/main.rt).
-const AREA: [(u8, &'static str); 2] = [(b's', "sub"), (b'o', "order")];
-const MODULE: [(u8, &'static str); 2] = [(b'y', "symbols"), (b'p', "program")];
-const LINES: [(u8, &'static str); 4] = [(b'f', "file"), (b'l', "line"), (b'F', "info"), (b'Y', "sym")];
-const TABLES: [(u8, &'static str); 6] = [(b'n', "inlinee"), (b'i', "import"), (b'I', "resolve"), (b'e', "export"), (b'c', "exports"), (b'E', "lookup")];
-const STRINGS: [(u8, &'static str); 2] = [(b't', "table"), (b'N', "name")];
+/// The names of walks, closed by `end` or an error.
+const WALKS: [&str; 7] = ["sub", "file", "line", "inlinee", "import", "export", "sym"];
+
+/// The answers of a case, in the oracle's order.
+const AREA: [&str; 2] = ["sub", "order"];
+const MODULE: [&str; 2] = ["symbols", "program"];
+const LINES: [&str; 4] = ["file", "line", "info", "sym"];
+const TABLES: [&str; 6] = ["inlinee", "import", "resolve", "export", "exports", "lookup"];
+const STRINGS: [&str; 2] = ["table", "name"];
+
+/// The lists of what a case asks: the key, the name of the answers, whether the numbers are in hex.
+const LISTS: [(&str, &str, bool); 5] =
+    [("files", "info", false), ("syms", "sym", true), ("imports", "resolve", true), ("exports", "lookup", true), ("offs", "name", false)];
 
 impl Case {
     fn parse(line: &str) -> Case {
@@ -49,46 +59,42 @@ impl Case {
 
     /// The calls, in the order in which the oracle answers them. What a reason to be outside the domain touches is not called.
     fn calls(&self, reasons: &[&str]) -> Vec<Call> {
-        let of: Vec<&[(u8, &'static str)]> = match self.kind.as_str() {
+        let of: Vec<&[&'static str]> = match self.kind.as_str() {
             "area" => vec![&AREA, &LINES, &TABLES],
             "module" => vec![&MODULE, &LINES, &TABLES],
             _ => vec![&STRINGS],
         };
         let outside = |name: &str| {
             reasons.iter().any(|r| match *r {
-                "address" | "length4" => ["import", "resolve", "export", "exports", "lookup"].contains(&name),
+                "address" | "length4" => TABLES[1..].contains(&name),
                 "equalkeys" => ["order", "line", "sym"].contains(&name),
                 _ => false,
             })
         };
-        of.concat().iter().filter(|c| !outside(c.1)).flat_map(|c| Call::each(self, c.0, c.1)).collect()
+        of.concat().into_iter().filter(|name| !outside(name)).flat_map(|name| Call::each(self, name)).collect()
     }
 }
 
-/// A call: its letter in the list, the name of its answers, and what is asked: a word, and of a symbol its section.
+/// A call: its number, the name of its answers, and what is asked: a word, and of a symbol its section.
 struct Call {
-    letter: u8,
+    number: u8,
     name: &'static str,
     argument: Option<(u32, u16)>,
 }
 
 impl Call {
-    /// The calls of a letter: a capital one is called for each member of its list.
-    fn each(case: &Case, letter: u8, name: &'static str) -> Vec<Call> {
-        let Some((key, _, hex)) = LISTS.iter().find(|l| l.1 == letter) else {
-            return vec![Call { letter, name, argument: None }];
+    /// The calls of a name: one, or one for each member of its list.
+    fn each(case: &Case, name: &'static str) -> Vec<Call> {
+        let number = NAMES.iter().position(|n| *n == name).expect(name) as u8;
+        let Some((key, _, hex)) = LISTS.iter().find(|l| l.1 == name) else {
+            return vec![Call { number, name, argument: None }];
         };
-        let number = |s: &str| if *hex { u32::from_str_radix(s, 16) } else { s.parse() }.expect("number");
+        let parse = |s: &str| if *hex { u32::from_str_radix(s, 16) } else { s.parse() }.expect("number");
         let argument = |s: &str| match s.split_once(':') {
-            Some((section, offset)) => (number(offset), section.parse().expect("section")),
-            None => (number(s), 0),
+            Some((section, offset)) => (parse(offset), section.parse().expect("section")),
+            None => (parse(s), 0),
         };
-        case.list(key).iter().map(|s| Call { letter, name, argument: Some(argument(s)) }).collect()
-    }
-
-    /// Whether its answer is a walk, closed by `end` or an error.
-    fn walks(&self) -> bool {
-        b"sflnieY".contains(&self.letter)
+        case.list(key).iter().map(|s| Call { number, name, argument: Some(argument(s)) }).collect()
     }
 }
 
@@ -96,7 +102,7 @@ impl Call {
 struct Answered {
     case: String,
     input: Vec<u8>,
-    head: String,
+    length: String,
     lines: Vec<String>,
     /// The kinds of its answers.
     shows: Vec<u32>,
@@ -184,19 +190,20 @@ fn stands(case: &Case) -> Vec<String> {
     }
 }
 
-/// A case as the list has it.
+/// A case as the list has it. An area is the module of the sizes 0, 0 and its length.
 fn listed(case: &Case, calls: &[Call]) -> Vec<u8> {
     let bytes = case.bytes();
-    let mut out = vec![case.kind.as_bytes()[0], calls.len().try_into().expect("calls")];
+    let mut out = vec![calls.len().try_into().expect("calls")];
     out.extend(u16::try_from(bytes.len()).expect("length").to_le_bytes());
-    if case.kind == "module" {
-        for key in ["sym", "c11", "c13"] {
-            out.extend(case.text(key).parse::<u32>().expect(key).to_le_bytes());
-        }
-    }
+    let sizes = match case.kind.as_str() {
+        "area" => [0, 0, bytes.len() as u32],
+        "module" => ["sym", "c11", "c13"].map(|key| case.text(key).parse().expect(key)),
+        _ => [0; 3],
+    };
+    out.extend(sizes.iter().flat_map(|s| s.to_le_bytes()));
     out.extend(bytes);
     for call in calls {
-        out.push(call.letter);
+        out.push(call.number);
         if let Some((word, section)) = call.argument {
             out.extend(word.to_le_bytes());
             out.extend(section.to_le_bytes());
@@ -205,10 +212,11 @@ fn listed(case: &Case, calls: &[Call]) -> Vec<u8> {
     out
 }
 
-/// The answers that are kept, held against the calls: each call has its name on each of its lines, and a walk is closed.
-fn kept(calls: &[Call], answers: &[String], shown: &mut Vec<String>) -> Vec<String> {
+/// The answers that are kept, held against the calls: each call has its name on each of its lines, and a walk is closed. The crate collects
+/// imports before it answers, so a listing that it refuses is its refusal alone, and is called by another number.
+fn kept(calls: &mut [Call], answers: &[String], shown: &mut Vec<String>) -> Vec<String> {
     let names: BTreeSet<&str> = calls.iter().map(|c| c.name).collect();
-    let mut lines = answers.iter().filter(|l| names.contains(word(l, 0))).peekable();
+    let mut lines = answers.iter().filter(|l| names.contains(word(l, 0)));
     let mut out = vec![];
     for call in calls {
         let mut before = 0;
@@ -216,9 +224,17 @@ fn kept(calls: &[Call], answers: &[String], shown: &mut Vec<String>) -> Vec<Stri
             let line = lines.next().expect("a call without an answer");
             assert!(word(line, 0) == call.name && !line.contains("panic") && !line.contains("other"), "{line}");
             shown.push(shows(line, before));
-            out.push(line.clone());
+            // A refusal says what it carries, or 0.
+            out.push(match error(line) {
+                Some(e) if e.contains("0x") => line.replace("0x", ""),
+                Some(_) => format!("{line} 0"),
+                None => line.clone(),
+            });
             before += 1;
-            if !call.walks() || line.ends_with(" end") || error(line).is_some() {
+            if call.name == "import" && error(line).is_some() {
+                call.number = 6;
+            }
+            if !WALKS.contains(&call.name) || line.ends_with(" end") || error(line).is_some() {
                 break;
             }
         }
@@ -236,9 +252,9 @@ fn read(cases: &str, answers: &str, names: &mut HashMap<String, u32>) -> Vec<Ans
             let case = Case::parse(&line);
             let block: Vec<String> = answers.by_ref().take_while(|l| !l.is_empty()).collect();
             let domain = block.iter().find_map(|l| l.strip_prefix("domain no ")).unwrap_or("");
-            let calls = case.calls(&domain.split(',').collect::<Vec<_>>());
+            let mut calls = case.calls(&domain.split(',').collect::<Vec<_>>());
             let mut shown = stands(&case);
-            let lines = kept(&calls, &block[1..], &mut shown);
+            let lines = kept(&mut calls, &block[1..], &mut shown);
             let mut shows: Vec<u32> = shown
                 .into_iter()
                 .map(|s| {
@@ -248,8 +264,7 @@ fn read(cases: &str, answers: &str, names: &mut HashMap<String, u32>) -> Vec<Ans
                 .collect();
             shows.sort_unstable();
             shows.dedup();
-            let head: Vec<&str> = block[0].split(' ').skip(3).collect();
-            Answered { case: line.split_once(' ').unwrap().1.split_once(' ').unwrap().1.into(), input: listed(&case, &calls), head: head.join(" "), lines, shows }
+            Answered { case: line.split_once(' ').unwrap().1.split_once(' ').unwrap().1.into(), input: listed(&case, &calls), length: word(&block[0], 3).into(), lines, shows }
         })
         .collect()
 }
@@ -334,13 +349,13 @@ fn main() {
     let mut numbers: BTreeMap<u32, usize> = BTreeMap::new();
     for (i, one) in chosen.iter().enumerate() {
         list.extend(&one.input);
-        text += &format!("case {} {}\n{}\n\n", i + 1, one.head, one.lines.join("\n"));
+        text += &format!("case {} {}\n{}\n\n", i + 1, one.length, one.lines.join("\n"));
         answers += one.lines.len();
         for e in one.lines.iter().filter_map(|l| error(l)) {
             *numbers.entry(word(&e, 0).parse().expect("number")).or_default() += 1;
         }
     }
-    text += &format!("replayed {} cases, {} bytes\n", chosen.len(), list.len());
+    text += &format!("read {} {1} {1}\n", chosen.len(), list.len());
     std::fs::File::create(format!("{}/stdin", args[0])).and_then(|mut f| f.write_all(&list)).expect("stdin");
     std::fs::File::create(format!("{}/stdout", args[0])).and_then(|mut f| f.write_all(text.as_bytes())).expect("stdout");
     let numbers: Vec<String> = numbers.iter().map(|(n, k)| format!("{n}: {k}")).collect();

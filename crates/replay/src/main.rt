@@ -1,21 +1,21 @@
-// Cases with the crate's answers, replayed: reads a fixed list of cases from standard input and writes the answer of every call that it asks. What
+// Cases with the crate's answers, replayed: reads a fixed list of cases from standard input and writes the answer of every call that it names. What
 // is written is compared with the file stdout, which compare/fix made of the answers of the crate pdb 0.8.0 (compare/README.md).
 //
-// The list: the number of cases, u32. Each case: kind u8 (a: an area, m: a module's stream, s: a string table), the number of calls u8, the length
-// of the bytes u16; of a module three sizes u32 (symbols, C11, C13); the bytes; the calls. A call is a letter:
-//     s subsections, o order list, f files, l lines, n inlinees, i imports, e exports, c the number of exports
-//     y whether a module's symbols can be read, p whether it has an order list; t whether a string table can be read
-// or a capital letter, a word u32 and a section u16 (which only Y reads):
-//     F the file at an index, Y the lines of a symbol, I a reference, E an export, N the name at an offset
+// The list: the number of cases, u32. Each case: the number of calls u8, the length of a stream u16, a module's sizes in it u32 (symbols, C11, C13),
+// the stream, the calls. An area is the module of the sizes 0, 0 and its length, as it is to the crate; a string table has no sizes. A call is
+// its number u8, as below, and from INFO on a word u32 and a section u16, which only SYM reads.
 use area::SubStep;
 use area::sub_at;
 use checksums::ChecksumKind;
+use checksums::number as kind_number;
 use exports::Count;
 use exports::CrossModuleExport;
 use exports::ExportStep;
 use exports::Lookup;
 use files::FileAnswer;
 use files::FileStep;
+use given::put_refusal;
+use given::state_word;
 use imports::ImportStep;
 use imports::Resolved;
 use inlinees::InlineeStep;
@@ -27,19 +27,98 @@ use line_record::LineKind;
 use line_record::LineRecord;
 use modi::ModuleSizes;
 use modi::SymbolsAnswer;
+use modi::module_symbols;
+use modi_lines::module_checksum_bytes;
+use modi_lines::module_file_at;
+use modi_lines::module_lines_for_symbol;
+use modi_lines::module_next_file;
+use modi_lines::module_next_line;
+use modi_lines::module_order_list;
+use modi_tables::module_export_count;
+use modi_tables::module_next_export;
+use modi_tables::module_next_import;
+use modi_tables::module_next_inlinee;
+use modi_tables::module_resolve_export;
+use modi_tables::module_resolve_import;
+use modi_tables::module_word;
 use order::Ordered;
 use records::LineStep;
 use refusal::Refusal;
 use rows::WordAnswer;
+use std::num::wrapping_add_u8;
 use strings::NameAnswer;
 use strings::TableAnswer;
+use strings::name_at;
+use strings::name_bytes;
+use strings::string_table;
 use symbol_lines::SymbolLines;
 use table::TableWalk;
-use text::Place;
 use turns::LineWalk;
 use word::u8_at;
 use word::u16_at;
 use word::u32_at;
+
+// The calls, numbered as their terms are in `term`: subsections, order list, files, lines, inlinees, imports, imports of which only the refusal is
+// shown, exports, the number of exports, whether a module's symbols can be read, whether it has an order list, whether a string table can be read;
+// the file at an index, the lines of a symbol, a reference, an export, the name at an offset.
+const SUB: u8 = 0;
+
+const ORDER: u8 = 1;
+
+const FILE: u8 = 2;
+
+const LINE: u8 = 3;
+
+const INLINEE: u8 = 4;
+
+const IMPORT: u8 = 5;
+
+const IMPORT_REFUSED: u8 = 6;
+
+const EXPORT: u8 = 7;
+
+const EXPORTS: u8 = 8;
+
+const SYMBOLS: u8 = 9;
+
+const PROGRAM: u8 = 10;
+
+const TABLE: u8 = 11;
+
+const INFO: u8 = 12;
+
+const SYM: u8 = 13;
+
+const RESOLVE: u8 = 14;
+
+const LOOKUP: u8 = 15;
+
+// Other terms of the text. Those of the kinds of checksums are in the order of their numbers, from NONE on.
+const NONE: u8 = 17;
+
+const TYPE: u8 = 21;
+
+const ID: u8 = 22;
+
+const EXPRESSION: u8 = 23;
+
+const STATEMENT: u8 = 24;
+
+const YES: u8 = 25;
+
+const END: u8 = 26;
+
+const ERROR: u8 = 27;
+
+const CASE: u8 = 28;
+
+const READ: u8 = 29;
+
+struct Call {
+    number: u8,
+    word: u32,
+    section: u16,
+}
 
 // ---- pieces of the text
 
@@ -47,8 +126,8 @@ fn say(text: &[u8]) {
     io::write_all(STDOUT_FILENO, text);
 }
 
-fn decimal(n: u64) {
-    io::print_decimal(STDOUT_FILENO, n);
+fn put(b: u8) {
+    say(&[b]);
 }
 
 fn hex(n: u64) {
@@ -56,23 +135,18 @@ fn hex(n: u64) {
 }
 
 fn spaced(n: u64) {
-    say(b" ");
-    decimal(n);
+    put(b' ');
+    io::print_decimal(STDOUT_FILENO, n);
 }
 
 fn spaced_hex(n: u64) {
-    say(b" ");
+    put(b' ');
     hex(n);
 }
 
-fn spaced_place(section: u16, offset: u32) {
-    spaced(section as u64);
-    say(b":");
-    hex(offset as u64);
-}
-
-fn none_text() {
-    say(b" -");
+fn dash() {
+    put(b' ');
+    put(b'-');
 }
 
 // A part of a slice; the empty one where it does not lie there.
@@ -86,59 +160,75 @@ fn part(all: &[u8], start: usize, len: usize) -> &[u8] {
     &all[start..start + len]
 }
 
-// Bytes, two digits each, and the end of a line.
+// A term: each has its length in front and takes eight bytes.
+fn term(number: u8) {
+    let terms: &[u8] =
+        b"\x03sub....\x05order..\x04file...\x04line...\x07inlinee\x06import.\x06import.\x06export.\x07exports\x07symbols\x07program\x05table..\x04info...\x03sym....\x07resolve\x06lookup.\x04name...\x04none...\x03md5....\x04sha1...\x06sha256.\x04type...\x02id.....\x02ex.....\x02st.....\x03yes....\x03end....\x05error..\x04case...\x04read...";
+    let at = 8 * (number as usize);
+    say(part(terms, at + 1, u8_at(terms, at) as usize));
+}
+
+fn spaced_term(number: u8) {
+    put(b' ');
+    term(number);
+}
+
+// The last line of a walk.
+fn over() {
+    spaced_term(END);
+    put(b'\n');
+}
+
+fn place(section: u16, offset: u32) {
+    spaced(section as u64);
+    put(b':');
+    hex(offset as u64);
+}
+
+fn byte(b: u8) {
+    io::print_hex(STDOUT_FILENO, b as u64, 2);
+}
+
 fn bytes_text(bytes: &[u8]) {
-    let mut buf = [0u8; 4096];
     if bytes.len() == 0 {
-        say(b" -\n");
+        dash();
         return;
     }
-    say(b" ");
-    match text::put_hex_bytes(&mut buf, Place::At(0), bytes) {
-        Place::At(n) => say(part(&buf, 0, n)),
-        Place::Full => say(b"TOO LONG"),
+    put(b' ');
+    let mut i: usize = 0;
+    while i < bytes.len() {
+        byte(bytes[i]);
+        i += 1;
     }
-    say(b"\n");
 }
 
-fn carried(n: u64) {
-    say(b" 0x");
-    hex(n);
-}
-
-// A refusal: its number, what it carries, and the end of a line.
+// A refusal: its number, and what it carries or 0.
 fn refused(why: Refusal) {
-    say(b" error");
-    spaced(refusal::number(why));
-    match why {
-        Refusal::UnknownKind(kind) => carried(kind as u64),
-        Refusal::UnknownChecksumKind(kind) => carried(kind as u64),
-        Refusal::NotACrossModuleRef(index) => carried(index as u64),
-        Refusal::CrossModuleRefNotFound(index) => carried(index as u64),
-        Refusal::NoFile(index) => carried(index as u64),
-        _ => {}
-    }
-    say(b"\n");
+    let mut words = [0u64; 2];
+    put_refusal(&mut words, 0, why);
+    spaced_term(ERROR);
+    spaced(state_word(&words, 0));
+    spaced_hex(state_word(&words, 1));
 }
 
 fn length(l: Length) {
     match l {
         Length::Is(n) => spaced(n as u64),
-        Length::Unset => none_text(),
+        Length::Unset => dash(),
     }
 }
 
 fn column(c: Column) {
     match c {
         Column::At(n) => spaced(n as u64),
-        Column::None => none_text(),
+        Column::None => dash(),
     }
 }
 
 fn line_kind(k: LineKind) {
     match k {
-        LineKind::Statement => say(b" st\n"),
-        LineKind::Expression => say(b" ex\n"),
+        LineKind::Statement => spaced_term(STATEMENT),
+        LineKind::Expression => spaced_term(EXPRESSION),
     }
 }
 
@@ -147,7 +237,7 @@ fn record(r: LineRecord) {
     let s = r.column_start;
     let e = r.column_end;
     let k = r.kind;
-    spaced_place(r.section, r.offset);
+    place(r.section, r.offset);
     length(l);
     spaced(r.file as u64);
     spaced(r.start_line as u64);
@@ -155,142 +245,37 @@ fn record(r: LineRecord) {
     column(s);
     column(e);
     line_kind(k);
+    put(b'\n');
 }
 
-fn checksum_kind(kind: ChecksumKind) {
-    match kind {
-        ChecksumKind::None => say(b" none"),
-        ChecksumKind::Md5 => say(b" md5"),
-        ChecksumKind::Sha1 => say(b" sha1"),
-        ChecksumKind::Sha256 => say(b" sha256"),
+fn checksum(stream: &[u8], sizes: ModuleSizes, kind: ChecksumKind, start: usize, len: usize) {
+    spaced_term(wrapping_add_u8(NONE, kind_number(kind)));
+    bytes_text(module_checksum_bytes(stream, sizes, start, len));
+}
+
+// What is asked, at the head of a line.
+fn head(call: Call) {
+    let number = call.number;
+    term(number);
+    match number {
+        0..=11 => {}
+        SYM => place(call.section, call.word),
+        RESOLVE | LOOKUP => spaced_hex(call.word as u64),
+        _ => spaced(call.word as u64),
     }
 }
 
-// ---- the calls that an area and a module have
+// ---- walks, a line for each step. A proved loop has to end, so it counts its turns down, from a number that no run uses up.
 
-enum Input {
-    Area,
-    Module(ModuleSizes),
-}
-
-fn order_list(bytes: &[u8], input: Input, slots: &mut [u32]) -> Ordered {
-    match input {
-        Input::Area => order::order_list(bytes, slots),
-        Input::Module(sizes) => modi_lines::module_order_list(bytes, sizes, slots),
-    }
-}
-
-fn next_line(bytes: &[u8], input: Input, slots: &[u32], walk: LineWalk) -> LineStep {
-    match input {
-        Input::Area => records::next_line(bytes, slots, walk),
-        Input::Module(sizes) => modi_lines::module_next_line(bytes, sizes, slots, walk),
-    }
-}
-
-fn lines_for_symbol(
-    bytes: &[u8],
-    input: Input,
-    slots: &[u32],
-    section: u16,
-    offset: u32,
-) -> SymbolLines {
-    match input {
-        Input::Area => symbol_lines::lines_for_symbol(bytes, slots, section, offset),
-        Input::Module(sizes) => {
-            modi_lines::module_lines_for_symbol(bytes, sizes, slots, section, offset)
-        }
-    }
-}
-
-fn next_file(bytes: &[u8], input: Input, walk: TableWalk) -> FileStep {
-    match input {
-        Input::Area => files::next_file(bytes, walk),
-        Input::Module(sizes) => modi_lines::module_next_file(bytes, sizes, walk),
-    }
-}
-
-fn file_at(bytes: &[u8], input: Input, index: u32) -> FileAnswer {
-    match input {
-        Input::Area => files::file_at(bytes, index),
-        Input::Module(sizes) => modi_lines::module_file_at(bytes, sizes, index),
-    }
-}
-
-fn checksum_bytes(bytes: &[u8], input: Input, start: usize, len: usize) {
-    match input {
-        Input::Area => bytes_text(files::checksum_bytes(bytes, start, len)),
-        Input::Module(sizes) => {
-            bytes_text(modi_lines::module_checksum_bytes(bytes, sizes, start, len))
-        }
-    }
-}
-
-fn word_in(bytes: &[u8], input: Input, words: usize, count: usize, i: usize) -> WordAnswer {
-    match input {
-        Input::Area => rows::word_in(bytes, words, count, i),
-        Input::Module(sizes) => modi_tables::module_word(bytes, sizes, words, count, i),
-    }
-}
-
-fn next_inlinee(bytes: &[u8], input: Input, walk: TableWalk) -> InlineeStep {
-    match input {
-        Input::Area => inlinees::next_inlinee(bytes, walk),
-        Input::Module(sizes) => modi_tables::module_next_inlinee(bytes, sizes, walk),
-    }
-}
-
-fn next_import(bytes: &[u8], input: Input, walk: TableWalk) -> ImportStep {
-    match input {
-        Input::Area => imports::next_import(bytes, walk),
-        Input::Module(sizes) => modi_tables::module_next_import(bytes, sizes, walk),
-    }
-}
-
-fn resolve_import(bytes: &[u8], input: Input, index: u32) -> Resolved {
-    match input {
-        Input::Area => imports::resolve_import(bytes, index),
-        Input::Module(sizes) => modi_tables::module_resolve_import(bytes, sizes, index),
-    }
-}
-
-fn next_export(bytes: &[u8], input: Input, walk: TableWalk) -> ExportStep {
-    match input {
-        Input::Area => exports::next_export(bytes, walk),
-        Input::Module(sizes) => modi_tables::module_next_export(bytes, sizes, walk),
-    }
-}
-
-fn export_count(bytes: &[u8], input: Input) -> Count {
-    match input {
-        Input::Area => exports::export_count(bytes),
-        Input::Module(sizes) => modi_tables::module_export_count(bytes, sizes),
-    }
-}
-
-fn resolve_export(bytes: &[u8], input: Input, local: u32) -> Lookup {
-    match input {
-        Input::Area => exports::resolve_export(bytes, local),
-        Input::Module(sizes) => modi_tables::module_resolve_export(bytes, sizes, local),
-    }
-}
-
-// ---- walks, a line of text for each step
-
-// What a step of a walk over a table leaves to do.
+// What a step over a table leaves to do.
 enum Next {
     On(TableWalk),
     Over,
     Refused(Refusal),
 }
 
-fn file_text(bytes: &[u8], input: Input, name: u32, kind: ChecksumKind, start: usize, len: usize) {
-    spaced(name as u64);
-    checksum_kind(kind);
-    checksum_bytes(bytes, input, start, len);
-}
-
-fn file_step(bytes: &[u8], input: Input, walk: TableWalk) -> Next {
-    match next_file(bytes, input, walk) {
+fn file_step(stream: &[u8], sizes: ModuleSizes, number: u8, walk: TableWalk) -> Next {
+    match module_next_file(stream, sizes, walk) {
         FileStep::File {
             index,
             name,
@@ -299,9 +284,11 @@ fn file_step(bytes: &[u8], input: Input, walk: TableWalk) -> Next {
             len,
             next,
         } => {
-            table_name(b'f');
+            term(number);
             spaced(index as u64);
-            file_text(bytes, input, name, kind, start, len);
+            spaced(name as u64);
+            checksum(stream, sizes, kind, start, len);
+            put(b'\n');
             Next::On(next)
         }
         FileStep::None => Next::Over,
@@ -315,34 +302,34 @@ fn word_text(answer: WordAnswer, in_hex: bool) {
             if in_hex {
                 hex(w as u64);
             } else {
-                decimal(w as u64);
+                io::print_decimal(STDOUT_FILENO, w as u64);
             }
         }
-        WordAnswer::None => none_text(),
+        WordAnswer::None => dash(),
         WordAnswer::Refused(why) => refused(why),
     }
 }
 
-// The words of a record, by their place and number, and the end of a line.
-fn words(bytes: &[u8], input: Input, place: usize, count: usize, in_hex: bool) {
+// The words of a record, by their place and number.
+fn words(stream: &[u8], sizes: ModuleSizes, at: usize, count: usize, in_hex: bool) {
     if count == 0 {
-        none_text();
+        dash();
+    } else {
+        put(b' ');
     }
     let mut i: usize = 0;
     while i < count {
-        if i == 0 {
-            say(b" ");
-        } else {
-            say(b",");
+        if 0 < i {
+            put(b',');
         }
-        word_text(word_in(bytes, input, place, count, i), in_hex);
+        word_text(module_word(stream, sizes, at, count, i), in_hex);
         i += 1;
     }
-    say(b"\n");
+    put(b'\n');
 }
 
-fn inlinee_step(bytes: &[u8], input: Input, walk: TableWalk) -> Next {
-    match next_inlinee(bytes, input, walk) {
+fn inlinee_step(stream: &[u8], sizes: ModuleSizes, number: u8, walk: TableWalk) -> Next {
+    match module_next_inlinee(stream, sizes, walk) {
         InlineeStep::Inlinee {
             inlinee,
             file,
@@ -351,11 +338,11 @@ fn inlinee_step(bytes: &[u8], input: Input, walk: TableWalk) -> Next {
             count,
             next,
         } => {
-            table_name(b'n');
+            term(number);
             spaced(inlinee as u64);
             spaced(file as u64);
             spaced(line as u64);
-            words(bytes, input, extra, count, false);
+            words(stream, sizes, extra, count, false);
             Next::On(next)
         }
         InlineeStep::None => Next::Over,
@@ -363,22 +350,18 @@ fn inlinee_step(bytes: &[u8], input: Input, walk: TableWalk) -> Next {
     }
 }
 
-fn import_text(bytes: &[u8], input: Input, name: u32, place: usize, count: usize) {
-    table_name(b'i');
-    spaced(name as u64);
-    words(bytes, input, place, count, true);
-}
-
-fn import_step(bytes: &[u8], input: Input, walk: TableWalk, shown: bool) -> Next {
-    match next_import(bytes, input, walk) {
+fn import_step(stream: &[u8], sizes: ModuleSizes, number: u8, walk: TableWalk) -> Next {
+    match module_next_import(stream, sizes, walk) {
         ImportStep::Module {
             name,
-            words,
+            words: at,
             count,
             next,
         } => {
-            if shown {
-                import_text(bytes, input, name, words, count);
+            if number == IMPORT {
+                term(number);
+                spaced(name as u64);
+                words(stream, sizes, at, count, true);
             }
             Next::On(next)
         }
@@ -387,31 +370,25 @@ fn import_step(bytes: &[u8], input: Input, walk: TableWalk, shown: bool) -> Next
     }
 }
 
-fn pair_text(local: u32, global: u32) {
+fn export_line(kind: u8, local: u32, global: u32) {
+    spaced_term(kind);
     spaced_hex(local as u64);
     spaced_hex(global as u64);
-    say(b"\n");
+    put(b'\n');
 }
 
 fn export_text(export: CrossModuleExport) {
     match export {
-        CrossModuleExport::Type { local, global } => {
-            say(b"export type");
-            pair_text(local, global);
-        }
-        CrossModuleExport::Id { local, global } => {
-            say(b"export id");
-            pair_text(local, global);
-        }
+        CrossModuleExport::Type { local, global } => export_line(TYPE, local, global),
+        CrossModuleExport::Id { local, global } => export_line(ID, local, global),
     }
 }
 
-fn export_step(bytes: &[u8], input: Input, walk: TableWalk, shown: bool) -> Next {
-    match next_export(bytes, input, walk) {
+fn export_step(stream: &[u8], sizes: ModuleSizes, number: u8, walk: TableWalk) -> Next {
+    match module_next_export(stream, sizes, walk) {
         ExportStep::Export { export, next } => {
-            if shown {
-                export_text(export);
-            }
+            term(number);
+            export_text(export);
             Next::On(next)
         }
         ExportStep::None => Next::Over,
@@ -419,75 +396,44 @@ fn export_step(bytes: &[u8], input: Input, walk: TableWalk, shown: bool) -> Next
     }
 }
 
-fn table_step(bytes: &[u8], input: Input, table: u8, walk: TableWalk, shown: bool) -> Next {
-    match table {
-        b'f' => file_step(bytes, input, walk),
-        b'n' => inlinee_step(bytes, input, walk),
-        b'i' => import_step(bytes, input, walk, shown),
-        _ => export_step(bytes, input, walk, shown),
+fn table_step(stream: &[u8], sizes: ModuleSizes, number: u8, walk: TableWalk) -> Next {
+    match number {
+        FILE => file_step(stream, sizes, number, walk),
+        INLINEE => inlinee_step(stream, sizes, number, walk),
+        EXPORT => export_step(stream, sizes, number, walk),
+        _ => import_step(stream, sizes, number, walk),
     }
 }
 
-fn table_name(table: u8) {
-    match table {
-        b'f' => say(b"file"),
-        b'n' => say(b"inlinee"),
-        b'i' => say(b"import"),
-        _ => say(b"export"),
-    }
-}
-
-fn over(table: u8, shown: bool) {
-    if shown {
-        table_name(table);
-        say(b" end\n");
-    }
-}
-
-// Steps a walk over a table to its end, and answers whether it was not refused. What is not shown is only walked, but for a refusal. A proved
-// loop has to end, so it counts its turns down, from a number that no run uses up.
-fn table_walk(bytes: &[u8], input: Input, table: u8, shown: bool) -> bool {
+fn table_walk(stream: &[u8], sizes: ModuleSizes, number: u8) {
     let mut walk = TableWalk::New;
     let mut turns = u64::MAX;
     while turns > 0 {
-        match table_step(bytes, input, table, walk, shown) {
+        match table_step(stream, sizes, number, walk) {
             Next::On(next) => {
                 walk = next;
             }
             Next::Over => {
-                over(table, shown);
-                return true;
+                term(number);
+                over();
+                return;
             }
             Next::Refused(why) => {
-                table_name(table);
+                term(number);
                 refused(why);
-                return false;
+                put(b'\n');
+                return;
             }
         }
         turns -= 1;
     }
-    false
-}
-
-// The crate collects imports and exports before it answers: of a listing that is refused it gives the refusal alone.
-fn collected(bytes: &[u8], input: Input, table: u8) {
-    if table_walk(bytes, input, table, false) {
-        table_walk(bytes, input, table, true);
-    }
-}
-
-fn sub_text(kind: u32, start: usize, len: usize) {
-    say(b"sub");
-    spaced_hex(kind as u64);
-    spaced(start as u64);
-    spaced(len as u64);
-    say(b"\n");
 }
 
 fn sub_walk(area: &[u8]) {
     let mut at: usize = 0;
     let mut turns = u64::MAX;
     while turns > 0 {
+        term(SUB);
         match sub_at(area, at) {
             SubStep::Sub {
                 kind,
@@ -495,16 +441,19 @@ fn sub_walk(area: &[u8]) {
                 len,
                 next,
             } => {
-                sub_text(kind, start, len);
+                spaced_hex(kind as u64);
+                spaced(start as u64);
+                spaced(len as u64);
+                put(b'\n');
                 at = next;
             }
             SubStep::None => {
-                say(b"sub end\n");
+                over();
                 return;
             }
             SubStep::Refused(why) => {
-                say(b"sub");
                 refused(why);
+                put(b'\n');
                 return;
             }
         }
@@ -512,38 +461,23 @@ fn sub_walk(area: &[u8]) {
     }
 }
 
-// A call of the list.
-struct Call {
-    letter: u8,
-    word: u32,
-    section: u16,
-}
-
-fn line_head(call: Call) {
-    if call.letter == b'Y' {
-        say(b"sym");
-        spaced_place(call.section, call.word);
-    } else {
-        say(b"line");
-    }
-}
-
-fn line_walk(bytes: &[u8], input: Input, slots: &[u32], call: Call, first: LineWalk) {
+fn line_walk(stream: &[u8], sizes: ModuleSizes, slots: &[u32], call: Call, first: LineWalk) {
     let mut walk = first;
     let mut turns = u64::MAX;
     while turns > 0 {
-        line_head(call);
-        match next_line(bytes, input, slots, walk) {
+        head(call);
+        match module_next_line(stream, sizes, slots, walk) {
             LineStep::Line(r, next) => {
                 record(r);
                 walk = next;
             }
             LineStep::None => {
-                say(b" end\n");
+                over();
                 return;
             }
             LineStep::Refused(why) => {
                 refused(why);
+                put(b'\n');
                 return;
             }
         }
@@ -551,169 +485,143 @@ fn line_walk(bytes: &[u8], input: Input, slots: &[u32], call: Call, first: LineW
     }
 }
 
-// ---- single answers
-
-fn slot(slots: &[u32], i: usize) {
-    if i < slots.len() {
-        spaced(wide(slots[i]));
+// No case has as many line subsections as there are slots here.
+fn lines(stream: &[u8], sizes: ModuleSizes, call: Call) {
+    let mut slots = [0u32; 256];
+    module_order_list(stream, sizes, &mut slots);
+    if call.number == LINE {
+        line_walk(stream, sizes, &slots, call, LineWalk::New);
+        return;
+    }
+    match module_lines_for_symbol(stream, sizes, &slots, call.section, call.word) {
+        SymbolLines::Lines(walk) => line_walk(stream, sizes, &slots, call, walk),
+        SymbolLines::Refused(why) => {
+            head(call);
+            refused(why);
+            put(b'\n');
+        }
     }
 }
 
-fn wide(x: u32) -> u64 {
-    x as u64
+// ---- answers of one line
+
+fn slot(s: u32) {
+    spaced(s as u64);
 }
 
 fn slots_text(slots: &[u32], n: usize) {
     if n == 0 {
-        none_text();
+        dash();
     }
     let mut i: usize = 0;
-    while i < n {
-        slot(slots, i);
+    while i < n && i < slots.len() {
+        slot(slots[i]);
         i += 1;
     }
-    say(b"\n");
 }
 
-// The order list; of a module, as in the crate, only whether there is one.
-fn order_answer(bytes: &[u8], input: Input, listed: bool) {
+// The order list, or whether there is one.
+fn order_answer(stream: &[u8], sizes: ModuleSizes, listed: bool) {
     let mut slots = [0u32; 256];
-    match order_list(bytes, input, &mut slots) {
+    match module_order_list(stream, sizes, &mut slots) {
         Ordered::Lines(n) => {
             if listed {
                 slots_text(&slots, n);
             } else {
-                say(b" yes\n");
+                spaced_term(YES);
             }
         }
         Ordered::Refused(why) => refused(why),
     }
 }
 
-fn symbols_answer(bytes: &[u8], input: Input) {
-    say(b"symbols");
-    match input {
-        Input::Area => say(b" NO MODULE\n"),
-        Input::Module(sizes) => match modi::module_symbols(bytes, sizes) {
-            SymbolsAnswer::Yes => say(b" yes\n"),
-            SymbolsAnswer::Refused(why) => refused(why),
-        },
+fn symbols_answer(stream: &[u8], sizes: ModuleSizes) {
+    match module_symbols(stream, sizes) {
+        SymbolsAnswer::Yes => spaced_term(YES),
+        SymbolsAnswer::Refused(why) => refused(why),
     }
 }
 
-fn file_answer(bytes: &[u8], input: Input, index: u32) {
-    say(b"info");
-    spaced(index as u64);
-    match file_at(bytes, input, index) {
+fn file_answer(stream: &[u8], sizes: ModuleSizes, index: u32) {
+    match module_file_at(stream, sizes, index) {
         FileAnswer::File {
             name,
             kind,
             start,
             len,
-        } => file_text(bytes, input, name, kind, start, len),
+        } => {
+            spaced(name as u64);
+            checksum(stream, sizes, kind, start, len);
+        }
         FileAnswer::Refused(why) => refused(why),
     }
 }
 
-fn symbol_answer(bytes: &[u8], input: Input, slots: &[u32], call: Call) {
-    match lines_for_symbol(bytes, input, slots, call.section, call.word) {
-        SymbolLines::Lines(walk) => line_walk(bytes, input, slots, call, walk),
-        SymbolLines::Refused(why) => {
-            line_head(call);
-            refused(why);
-        }
-    }
-}
-
-fn reference_answer(bytes: &[u8], input: Input, index: u32) {
-    say(b"resolve");
-    spaced_hex(index as u64);
-    match resolve_import(bytes, input, index) {
+fn reference_answer(stream: &[u8], sizes: ModuleSizes, index: u32) {
+    match module_resolve_import(stream, sizes, index) {
         Resolved::Ref { name, word } => {
             spaced(name as u64);
             spaced_hex(word as u64);
-            say(b"\n");
         }
         Resolved::Refused(why) => refused(why),
     }
 }
 
-fn count_answer(bytes: &[u8], input: Input) {
-    say(b"exports");
-    match export_count(bytes, input) {
-        Count::Exports(n) => {
-            spaced(n as u64);
-            say(b"\n");
-        }
+fn count_answer(stream: &[u8], sizes: ModuleSizes) {
+    match module_export_count(stream, sizes) {
+        Count::Exports(n) => spaced(n as u64),
         Count::Refused(why) => refused(why),
     }
 }
 
-fn export_answer(bytes: &[u8], input: Input, local: u32) {
-    say(b"lookup");
-    spaced_hex(local as u64);
-    match resolve_export(bytes, input, local) {
-        Lookup::Global(global) => {
-            spaced_hex(global as u64);
-            say(b"\n");
-        }
-        Lookup::None => say(b" none\n"),
+fn export_answer(stream: &[u8], sizes: ModuleSizes, local: u32) {
+    match module_resolve_export(stream, sizes, local) {
+        Lookup::Global(global) => spaced_hex(global as u64),
+        Lookup::None => spaced_term(NONE),
         Lookup::Refused(why) => refused(why),
     }
 }
 
 fn table_answer(stream: &[u8]) {
-    say(b"table");
-    match strings::string_table(stream) {
-        TableAnswer::Names { start: _, len: _ } => say(b" yes\n"),
+    match string_table(stream) {
+        TableAnswer::Names { start: _, len: _ } => spaced_term(YES),
         TableAnswer::Refused(why) => refused(why),
     }
 }
 
 fn name_answer(stream: &[u8], offset: u32) {
-    say(b"name");
-    spaced(offset as u64);
-    match strings::name_at(stream, offset) {
-        NameAnswer::At { start: _, len: _ } => bytes_text(strings::name_bytes(stream, offset)),
+    match name_at(stream, offset) {
+        NameAnswer::At { start: _, len: _ } => bytes_text(name_bytes(stream, offset)),
         NameAnswer::Refused(why) => refused(why),
     }
 }
 
 // ---- cases
 
-fn capital(bytes: &[u8], input: Input, slots: &[u32], call: Call) {
-    let letter = call.letter;
-    match letter {
-        b'F' => file_answer(bytes, input, call.word),
-        b'Y' => symbol_answer(bytes, input, slots, call),
-        b'I' => reference_answer(bytes, input, call.word),
-        b'E' => export_answer(bytes, input, call.word),
-        b'N' => name_answer(bytes, call.word),
-        _ => say(b"NO CALL\n"),
+fn one_line(stream: &[u8], sizes: ModuleSizes, call: Call) {
+    let number = call.number;
+    head(call);
+    match number {
+        ORDER => order_answer(stream, sizes, true),
+        PROGRAM => order_answer(stream, sizes, false),
+        SYMBOLS => symbols_answer(stream, sizes),
+        INFO => file_answer(stream, sizes, call.word),
+        RESOLVE => reference_answer(stream, sizes, call.word),
+        EXPORTS => count_answer(stream, sizes),
+        LOOKUP => export_answer(stream, sizes, call.word),
+        TABLE => table_answer(stream),
+        _ => name_answer(stream, call.word),
     }
+    put(b'\n');
 }
 
-fn answer(bytes: &[u8], input: Input, slots: &[u32], call: Call) {
-    let letter = call.letter;
-    match letter {
-        b's' => sub_walk(bytes),
-        b'o' => {
-            say(b"order");
-            order_answer(bytes, input, true);
-        }
-        b'l' => line_walk(bytes, input, slots, call, LineWalk::New),
-        b'f' | b'n' => {
-            table_walk(bytes, input, letter, true);
-        }
-        b'i' | b'e' => collected(bytes, input, letter),
-        b'c' => count_answer(bytes, input),
-        b'y' => symbols_answer(bytes, input),
-        b'p' => {
-            say(b"program");
-            order_answer(bytes, input, false);
-        }
-        b't' => table_answer(bytes),
-        _ => capital(bytes, input, slots, call),
+fn answer(stream: &[u8], sizes: ModuleSizes, call: Call) {
+    let number = call.number;
+    match number {
+        SUB => sub_walk(stream),
+        LINE | SYM => lines(stream, sizes, call),
+        FILE | INLINEE | IMPORT | IMPORT_REFUSED | EXPORT => table_walk(stream, sizes, number),
+        _ => one_line(stream, sizes, call),
     }
 }
 
@@ -726,104 +634,67 @@ fn after(at: usize, n: usize) -> usize {
 }
 
 // Answers the call at a place of the list, and where the next one stands.
-fn call_at(all: &[u8], at: usize, bytes: &[u8], input: Input, slots: &[u32]) -> usize {
-    let letter = u8_at(all, at);
+fn call_at(list: &[u8], at: usize, stream: &[u8], sizes: ModuleSizes) -> usize {
+    let number = u8_at(list, at);
     let call = Call {
-        letter,
-        word: u32_at(all, after(at, 1)),
-        section: u16_at(all, after(at, 5)),
+        number,
+        word: u32_at(list, after(at, 1)),
+        section: u16_at(list, after(at, 5)),
     };
-    answer(bytes, input, slots, call);
-    if letter < b'a' {
-        after(at, 7)
-    } else {
+    answer(stream, sizes, call);
+    if number < INFO {
         after(at, 1)
+    } else {
+        after(at, 7)
     }
 }
 
-fn calls_at(
-    all: &[u8],
-    first: usize,
-    count: u8,
-    bytes: &[u8],
-    input: Input,
-    slots: &[u32],
-) -> usize {
+fn calls_at(list: &[u8], first: usize, count: u8, stream: &[u8], sizes: ModuleSizes) -> usize {
     let mut at = first;
     let mut i: u8 = 0;
     while i < count {
-        at = call_at(all, at, bytes, input, slots);
+        at = call_at(list, at, stream, sizes);
         i += 1;
     }
+    put(b'\n');
     at
 }
 
-fn input_at(all: &[u8], at: usize) -> Input {
-    if u8_at(all, at) != b'm' {
-        return Input::Area;
-    }
+// Answers the case at a place of the list, and where the next one stands.
+fn case_at(list: &[u8], at: usize, i: u32) -> usize {
+    let start = after(at, 15);
+    let len = u16_at(list, after(at, 1)) as usize;
+    let stream = part(list, start, len);
     let sizes = ModuleSizes {
-        symbols: u32_at(all, after(at, 4)),
-        c11: u32_at(all, after(at, 8)),
-        c13: u32_at(all, after(at, 12)),
+        symbols: u32_at(list, after(at, 3)),
+        c11: u32_at(list, after(at, 7)),
+        c13: u32_at(list, after(at, 11)),
     };
-    Input::Module(sizes)
-}
-
-fn head_len(input: Input) -> usize {
-    match input {
-        Input::Area => 4,
-        Input::Module(_) => 16,
-    }
-}
-
-fn case_head(i: u32, input: Input, len: usize) {
-    say(b"case");
+    term(CASE);
     spaced(i as u64);
-    spaced(len as u64);
-    match input {
-        Input::Area => {}
-        Input::Module(sizes) => {
-            spaced(sizes.symbols as u64);
-            spaced(sizes.c11 as u64);
-            spaced(sizes.c13 as u64);
-        }
-    }
-    say(b"\n");
+    spaced(stream.len() as u64);
+    put(b'\n');
+    calls_at(list, after(start, len), u8_at(list, at), stream, sizes)
 }
 
-// Answers the case at a place of the list, and where the next one stands. No case has as many line subsections as there are slots here.
-fn case_at(all: &[u8], at: usize, i: u32) -> usize {
-    let input = input_at(all, at);
-    let start = after(at, head_len(input));
-    let len = u16_at(all, after(at, 2)) as usize;
-    let bytes = part(all, start, len);
-    let mut slots = [0u32; 256];
-    case_head(i, input, bytes.len());
-    order_list(bytes, input, &mut slots);
-    let count = u8_at(all, after(at, 1));
-    let next = calls_at(all, after(start, len), count, bytes, input, &slots);
-    say(b"\n");
-    next
-}
-
-fn cases(all: &[u8]) {
-    let count = u32_at(all, 0);
+// The last line: how many cases and how many bytes of the list were read, and how many bytes there are.
+fn cases(list: &[u8]) {
+    let count = u32_at(list, 0);
     let mut at: usize = 4;
     let mut i: u32 = 0;
     while i < count {
-        at = case_at(all, at, i + 1);
         i += 1;
+        at = case_at(list, at, i);
     }
-    say(b"replayed");
-    spaced(wide(i));
-    say(b" cases,");
+    term(READ);
+    spaced(count as u64);
     spaced(at as u64);
-    say(b" bytes\n");
+    spaced(list.len() as u64);
+    put(b'\n');
 }
 
 fn main() {
-    let mut buf = [0u8; 131072];
-    let got = io::read_full(STDIN_FILENO, &mut buf);
-    cases(&buf[..got]);
+    let mut list = [0u8; 131072];
+    let len = io::read_full(STDIN_FILENO, &mut list);
+    cases(&list[..len]);
 }

@@ -6,10 +6,10 @@ use Rattle.replay.proofs.calls_at.Statement.{statement}
 use Rattle.replay.proofs.calls_at.Tie as tie
 
 abbrev Inv-loop : tie.InvT-loop
-Inv-loop all first count bytes input slots at₀ i₀ at i = Unit {0}
+Inv-loop list first count stream sizes at₀ i₀ at i = Unit {0}
 
 abbrev μ-loop : tie.MeasureT-loop
-μ-loop all first count bytes input slots at₀ i₀ at i = count - i
+μ-loop list first count stream sizes at₀ i₀ at i = count - i
 
 pub calls-at-spec : {M : Type 1} → statement M
 calls-at-spec =
@@ -22,4 +22,5 @@ calls-at-spec =
     (λ c. search needs)
     (λ c. search needs)
     (λ c. search needs)
+    (λ c κs. search needs)
     (λ c. search needs))

@@ -6,10 +6,10 @@ use Rattle.replay.proofs.cases.Statement.{statement}
 use Rattle.replay.proofs.cases.Tie as tie
 
 abbrev Inv-loop : tie.InvT-loop
-Inv-loop all count at₀ i₀ t5 t6 t7 at i = Unit {0}
+Inv-loop list count at₀ i₀ at i = Unit {0}
 
 abbrev μ-loop : tie.MeasureT-loop
-μ-loop all count at₀ i₀ t5 t6 t7 at i = count - i
+μ-loop list count at₀ i₀ at i = count - i
 
 pub cases-spec : {M : Type 1} → statement M
 cases-spec =
@@ -23,14 +23,10 @@ cases-spec =
     (λ c κs. search needs)
     (λ c. search needs)
     (λ c. search needs)
-    (λ c. search needs)
-    (λ c. search needs)
-    (λ c κs. search needs)
-    (λ c κs. search needs)
     (λ c κs. search needs)
     (λ c. search needs)
     (λ c κs. search needs)
     (λ c κs. search needs)
-    (λ c. search needs)
+    (λ c κs. search needs)
     (λ c κs. search needs)
     (λ c. search needs))

@@ -6,10 +6,10 @@ use Rattle.replay.proofs.slots_text.Statement.{statement}
 use Rattle.replay.proofs.slots_text.Tie as tie
 
 abbrev Inv-loop : tie.InvT-loop
-Inv-loop slots n i₀ t4 i = Unit {0}
+Inv-loop slots n i₀ i = Unit {0}
 
 abbrev μ-loop : tie.MeasureT-loop
-μ-loop slots n i₀ t4 i = n - i
+μ-loop slots n i₀ i = n - i
 
 pub slots-text-spec : {M : Type 1} → statement M
 slots-text-spec =
@@ -19,10 +19,11 @@ slots-text-spec =
     μ-loop
     (λ c κs. search needs)
     (λ c. search needs)
-    (λ c κs. search needs)
-    (λ c. search needs)
-    (λ c. search needs)
     (λ c. search needs)
     (λ c. search needs)
     (λ c κs. search needs)
+    (λ c. search needs)
+    (λ c. search needs)
+    (λ c. search needs)
+    (λ c. search needs)
     (λ c. search needs))

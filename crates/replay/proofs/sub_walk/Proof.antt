@@ -5,10 +5,10 @@ use Rattle.replay.proofs.sub_walk.Statement.{statement}
 use Rattle.replay.proofs.sub_walk.Tie as tie
 
 abbrev Inv-loop : tie.InvT-loop
-Inv-loop area at₀ turns₀ t9 t10 at turns = Unit {0}
+Inv-loop area at₀ turns₀ at turns = Unit {0}
 
 abbrev μ-loop : tie.MeasureT-loop
-μ-loop area at₀ turns₀ t9 t10 at turns = turns
+μ-loop area at₀ turns₀ at turns = turns
 
 pub sub-walk-spec : {M : Type 1} → statement M
 sub-walk-spec =
@@ -18,12 +18,15 @@ sub-walk-spec =
     μ-loop
     (λ c. search needs)
     (λ c κs. search needs)
-    (λ c. search needs)
     (λ c κs. search needs)
     (λ c. search needs)
     (λ c. search needs)
     (λ c κs. search needs)
+    (λ c κs. search needs)
+    (λ c κs. search needs)
+    (λ c κs. search needs)
     (λ c. search needs)
+    (λ c κs. search needs)
     (λ c. search needs)
     (λ c. search needs)
     (λ c κs. search needs)

@@ -6,10 +6,10 @@ use Rattle.replay.proofs.words.Statement.{statement}
 use Rattle.replay.proofs.words.Tie as tie
 
 abbrev Inv-loop : tie.InvT-loop
-Inv-loop bytes input place count in-hex i₀ t7 t8 t9 i = Unit {0}
+Inv-loop stream sizes at count in-hex i₀ i = Unit {0}
 
 abbrev μ-loop : tie.MeasureT-loop
-μ-loop bytes input place count in-hex i₀ t7 t8 t9 i = count - i
+μ-loop stream sizes at count in-hex i₀ i = count - i
 
 pub words-spec : {M : Type 1} → statement M
 words-spec =
@@ -18,14 +18,11 @@ words-spec =
     Inv-loop
     μ-loop
     (λ c κs. search needs)
-    (λ c. search needs)
-    (λ c. search needs)
     (λ c κs. search needs)
     (λ c. search needs)
     (λ c κs. search needs)
     (λ c κs. search needs)
     (λ c κs. search needs)
-    (λ c. search needs)
     (λ c. search needs)
     (λ c. search needs)
     (λ c. search needs)
