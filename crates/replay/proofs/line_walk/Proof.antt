@@ -1,0 +1,34 @@
+-- `replay::line_walk` is safe and ends. The measure is the number of turns that are left.
+-- Assumes nothing.
+use borrow.Author.Needs.{needs}
+use Rattle.replay.proofs.line_walk.Statement.{statement}
+use Rattle.replay.proofs.line_walk.Tie as tie
+
+abbrev Inv-loop : tie.InvT-loop
+Inv-loop bytes input slots call walk₀ turns₀ t11 walk turns = Unit {0}
+
+abbrev μ-loop : tie.MeasureT-loop
+μ-loop bytes input slots call walk₀ turns₀ t11 walk turns = turns
+
+pub line-walk-spec : {M : Type 1} → statement M
+line-walk-spec =
+    tie.close
+    (tie.spec
+    Inv-loop
+    μ-loop
+    (λ c. search needs)
+    (λ c κs. search needs)
+    (λ c κs. search needs)
+    (λ c. search needs)
+    (λ c κs. search needs)
+    (λ c. search needs)
+    (λ c. search needs)
+    (λ c κs. search needs)
+    (λ c. search needs)
+    (λ c. search needs)
+    (λ c κs. search needs)
+    (λ c. search needs)
+    (λ c. search needs)
+    (λ c. search needs)
+    (λ c. search needs)
+    (λ c. search needs))
