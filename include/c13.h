@@ -4,8 +4,8 @@
  * Each is proved to meet its contract in crates/; this header says the same in words. "Document 01" is docs/01-scope.md.
  *
  * WHAT A CALL IS LENT. Memory is lent as a pointer and a number of elements. A pointer must be valid for that number of elements and aligned to
- * its type; with the number 0 nothing is read through it, and it may be null. What may be written (`out`, `slots` of c13_order_list) must be no part
- * of anything else that is lent. That is all that is asked: any bytes, any numbers and any state of a walk are taken. The library keeps nothing
+ * its type; with the number 0 nothing is read through it, and it may be null. What may be written (`out`, `slots` of c13_order_list, `buf` of the
+ * writer) must be no part of anything else that is lent. That is all that is asked: any bytes, any numbers and any state of a walk are taken. The library keeps nothing
  * between calls, allocates nothing, and calls nothing; calls on different memory may run at the same time.
  *
  * WHAT A CALL ANSWERS. A status, and words that it puts into `out`:
@@ -14,9 +14,10 @@
  *   C13_GIVEN      an answer, in the words named at the call.
  *   C13_REFUSED    a refusal: its number (enum c13_refusal) and what it carries, or 0. The words stand at out[0] and out[1], or behind the state if the
  *                  call steps a walk: at out[1], out[4] or out[27].
- *   C13_TOO_SHORT  the words of the answer do not fit in `out`. `out` is left as it was. C13_MOST words are always enough.
+ *   C13_TOO_SHORT  the words of the answer do not fit in `out`. `out` is left as it was. C13_MOST words are always enough. A call that writes to other
+ *                  memory asks for two words before it does anything.
  *
- * Words that are not named are left as they were. A refused call changes no other lent memory.
+ * Words that are not named are left as they were. A call that is refused, or has too few words, changes no other lent memory.
  *
  * WALKS. The first words of `out` are the state of a walk; all zeros is a new walk, and a word that is not lent counts as 0. A call that gives a
  * record puts the next state in front of it, so that calling again with the same `out` gives the next record. At its end a walk leaves its state and
@@ -175,6 +176,51 @@ uint32_t c13_lines_part(const uint8_t *stream, size_t stream_len, uint32_t symbo
 /* The part that is the area for calls on inlinees, imports and exports. With C11 lines it is empty, as these tables are.
  *   out[0] its start   out[1] its length */
 uint32_t c13_tables_part(const uint8_t *stream, size_t stream_len, uint32_t symbols, uint32_t c11, uint32_t c13, uint64_t *out, size_t out_len);
+
+/* ---- the writer
+ *
+ * An area is written into a lent buffer by a sequence of calls. It starts at place 0; each call takes the place that the last one answered, adds one
+ * subsection or one entry to the last one there, and answers the place behind what is written then. All lengths are right after each call,
+ * and the bytes behind the answered place are left as they were. What was written is what is read: the full reading of the bytes is the list of accepted calls.
+ *
+ *   out[0] the place behind what is written
+ *
+ * Refused, in this order: C13_WRONG_PLACE where the place lies past the buffer, what is before it is no plain area, or an entry is not of the last
+ * subsection's kind; C13_NOT_PLAIN where the entry would break a rule of plain areas; C13_NO_ROOM where it does not fit in the buffer or in
+ * 16,777,216 bytes. */
+
+/* Whether an area is plain, which is what the writer makes: the full reading refuses nothing, and document 01's rules hold. C13_NONE: it is not.
+ *   out[0] place of its last header   out[1] kind of its last subsection   out[2] its mark; all 0 in an empty area */
+uint32_t c13_plain(const uint8_t *area, size_t area_len, uint64_t *out, size_t out_len);
+
+/* A line subsection with its header; bit 0 of the flags says that its lines have columns. */
+uint32_t c13_open_lines(uint8_t *buf, size_t buf_len, size_t place, uint32_t offset, uint16_t section, uint16_t flags, uint32_t code, uint64_t *out,
+                        size_t out_len);
+
+/* A block of a file: two words a line (offset, flags), and with columns one word a line (start in the low half, end in the high one), else none. */
+uint32_t c13_add_block(uint8_t *buf, size_t buf_len, size_t place, uint32_t file, const uint32_t *lines, size_t lines_len, const uint32_t *columns,
+                       size_t columns_len, uint64_t *out, size_t out_len);
+
+/* A checksum subsection, and an entry: 0, 16, 20 or 32 bytes for the kinds 0 to 3. */
+uint32_t c13_open_checksums(uint8_t *buf, size_t buf_len, size_t place, uint64_t *out, size_t out_len);
+uint32_t c13_add_entry(uint8_t *buf, size_t buf_len, size_t place, uint32_t name, uint8_t kind, const uint8_t *bytes, size_t bytes_len, uint64_t *out,
+                       size_t out_len);
+
+/* An inlinee subsection of signature 0 or 1, and an inlinee; extra files only under signature 1. */
+uint32_t c13_open_inlinees(uint8_t *buf, size_t buf_len, size_t place, uint32_t signature, uint64_t *out, size_t out_len);
+uint32_t c13_add_inlinee(uint8_t *buf, size_t buf_len, size_t place, uint32_t inlinee, uint32_t file, uint32_t line, const uint32_t *extra,
+                         size_t extra_len, uint64_t *out, size_t out_len);
+
+/* An import subsection, and a module of it with its words. */
+uint32_t c13_open_imports(uint8_t *buf, size_t buf_len, size_t place, uint64_t *out, size_t out_len);
+uint32_t c13_add_module(uint8_t *buf, size_t buf_len, size_t place, uint32_t name, const uint32_t *words, size_t words_len, uint64_t *out, size_t out_len);
+
+/* An export subsection, and a pair of it; local indices strictly ascend. */
+uint32_t c13_open_exports(uint8_t *buf, size_t buf_len, size_t place, uint64_t *out, size_t out_len);
+uint32_t c13_add_pair(uint8_t *buf, size_t buf_len, size_t place, uint32_t local, uint32_t global, uint64_t *out, size_t out_len);
+
+/* A subsection of kind 0xf1, 0xf3, 0xf5 or 0xf9 to 0xfd, whose body is given whole; its length is divisible by 4. */
+uint32_t c13_add_opaque(uint8_t *buf, size_t buf_len, size_t place, uint32_t kind, const uint8_t *body, size_t body_len, uint64_t *out, size_t out_len);
 
 #ifdef __cplusplus
 }

@@ -5,5 +5,5 @@ fn main() {
     let folder = std::env::var("C13_LIBRARY").unwrap_or(format!("{home}/../target/staticlib"));
     println!("cargo:rerun-if-env-changed=C13_LIBRARY");
     println!("cargo:rustc-link-search=native={folder}");
-    println!("cargo:rustc-link-lib=static=export");
+    println!("cargo:rustc-link-lib=static=c13");
 }

@@ -1,7 +1,7 @@
 //! An area and its subsections.
 
 use crate::calls::{self, SUB_STATE};
-use crate::words::{part, word32, Walk};
+use crate::words::{answer, part, word32, Walk};
 use crate::{CrossModuleExports, CrossModuleImports, InlineeIterator, LineProgram, Refusal};
 
 /// A C13 area: the debug subsections of a module.
@@ -40,6 +40,13 @@ impl<'a> Area<'a> {
     /// Its subsections; those that readers are told to ignore are left out.
     pub fn subsections(&self) -> Subsections<'a> {
         Subsections { area: self.bytes, walk: Walk::new() }
+    }
+
+    /// Whether it is plain, as the areas are that [`Writer`](crate::Writer) makes.
+    pub fn is_plain(&self) -> Result<bool, Refusal> {
+        let mut out = [0; 3];
+        let status = calls::c13_plain(self.bytes, &mut out);
+        Ok(answer(status, &out, 0)?.is_some())
     }
 
     /// Its lines and files.

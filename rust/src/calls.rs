@@ -19,71 +19,69 @@ pub const LINE_STATE: usize = 27;
 /// The words of a line record.
 pub const RECORD: usize = 12;
 
-/// Calls on one slice of bytes, then numbers.
-macro_rules! calls {
-    ($($name:ident($bytes:ident $(, $number:ident: $type:ty)*);)*) => {
-        mod raw {
-            extern "C" {
-                $(pub fn $name($bytes: *const u8, len: usize, $($number: $type,)* out: *mut u64, words: usize) -> u32;)*
+/// Declares a call and wraps it. In its list of parameters a slice is written `[name: element]`, one that is written to `[mut name: element]`, and a
+/// number `(name: type)`. Sound: each pointer is valid for its length and aligned, and what is written to is no part of anything else, since slices
+/// are so; the library asks for nothing more.
+macro_rules! call {
+    // taken apart, one parameter at a time: the C parameters, the Rust ones, the arguments
+    (@ $name:ident [$($c:tt)*] [$($r:tt)*] [$($a:tt)*] [$s:ident: $e:ty] $($rest:tt)*) => {
+        call!(@ $name [$($c)* $s: *const $e, _: usize,] [$($r)* $s: &[$e],] [$($a)* $s.as_ptr(), $s.len(),] $($rest)*);
+    };
+    (@ $name:ident [$($c:tt)*] [$($r:tt)*] [$($a:tt)*] [mut $s:ident: $e:ty] $($rest:tt)*) => {
+        call!(@ $name [$($c)* $s: *mut $e, _: usize,] [$($r)* $s: &mut [$e],] [$($a)* $s.as_mut_ptr(), $s.len(),] $($rest)*);
+    };
+    (@ $name:ident [$($c:tt)*] [$($r:tt)*] [$($a:tt)*] ($n:ident: $t:ty) $($rest:tt)*) => {
+        call!(@ $name [$($c)* $n: $t,] [$($r)* $n: $t,] [$($a)* $n,] $($rest)*);
+    };
+    (@ $name:ident [$($c:tt)*] [$($r:tt)*] [$($a:tt)*]) => {
+        #[inline]
+        pub fn $name($($r)*) -> u32 {
+            mod raw {
+                extern "C" {
+                    pub fn $name($($c)*) -> u32;
+                }
             }
+            unsafe { raw::$name($($a)*) }
         }
-        $(
-            #[inline]
-            pub fn $name($bytes: &[u8], $($number: $type,)* out: &mut [u64]) -> u32 {
-                // Sound: each pointer is valid for its length, and `out` is no part of the bytes.
-                unsafe { raw::$name($bytes.as_ptr(), $bytes.len(), $($number,)* out.as_mut_ptr(), out.len()) }
-            }
-        )*
+    };
+    ($name:ident $($parameters:tt)*) => {
+        call!(@ $name [] [] [] $($parameters)* [mut out: u64]);
     };
 }
 
+macro_rules! calls {
+    ($($name:ident($($parameters:tt)*);)*) => { $(call!($name $($parameters)*);)* };
+}
+
 calls! {
-    c13_next_sub(area);
-    c13_next_file(area);
-    c13_file_at(area, index: u32);
-    c13_next_inlinee(area);
-    c13_next_import(area);
-    c13_word(area, words: usize, count: usize, i: usize);
-    c13_resolve_import(area, index: u32);
-    c13_next_export(area);
-    c13_export_count(area);
-    c13_resolve_export(area, local: u32);
-    c13_module_symbols(stream, symbols: u32, c11: u32, c13: u32);
-    c13_lines_part(stream, symbols: u32, c11: u32, c13: u32);
-    c13_tables_part(stream, symbols: u32, c11: u32, c13: u32);
-    c13_string_table(stream);
-    c13_name(stream, offset: u32);
-}
-
-mod slots {
-    extern "C" {
-        pub fn c13_order_list(area: *const u8, len: usize, slots: *mut u32, n: usize, out: *mut u64, words: usize) -> u32;
-        pub fn c13_next_line(area: *const u8, len: usize, slots: *const u32, n: usize, out: *mut u64, words: usize) -> u32;
-        pub fn c13_lines_for_symbol(
-            area: *const u8,
-            len: usize,
-            slots: *const u32,
-            n: usize,
-            section: u16,
-            offset: u32,
-            out: *mut u64,
-            words: usize,
-        ) -> u32;
-    }
-}
-
-// As above: the slices that may be written are no part of each other or of the others.
-#[inline]
-pub fn c13_order_list(area: &[u8], slots: &mut [u32], out: &mut [u64]) -> u32 {
-    unsafe { slots::c13_order_list(area.as_ptr(), area.len(), slots.as_mut_ptr(), slots.len(), out.as_mut_ptr(), out.len()) }
-}
-
-#[inline]
-pub fn c13_next_line(area: &[u8], slots: &[u32], out: &mut [u64]) -> u32 {
-    unsafe { slots::c13_next_line(area.as_ptr(), area.len(), slots.as_ptr(), slots.len(), out.as_mut_ptr(), out.len()) }
-}
-
-#[inline]
-pub fn c13_lines_for_symbol(area: &[u8], slots: &[u32], section: u16, offset: u32, out: &mut [u64]) -> u32 {
-    unsafe { slots::c13_lines_for_symbol(area.as_ptr(), area.len(), slots.as_ptr(), slots.len(), section, offset, out.as_mut_ptr(), out.len()) }
+    c13_next_sub([area: u8]);
+    c13_order_list([area: u8] [mut slots: u32]);
+    c13_next_line([area: u8] [slots: u32]);
+    c13_lines_for_symbol([area: u8] [slots: u32] (section: u16) (offset: u32));
+    c13_next_file([area: u8]);
+    c13_file_at([area: u8] (index: u32));
+    c13_next_inlinee([area: u8]);
+    c13_next_import([area: u8]);
+    c13_word([area: u8] (place: usize) (count: usize) (i: usize));
+    c13_resolve_import([area: u8] (index: u32));
+    c13_next_export([area: u8]);
+    c13_export_count([area: u8]);
+    c13_resolve_export([area: u8] (local: u32));
+    c13_string_table([stream: u8]);
+    c13_name([stream: u8] (offset: u32));
+    c13_module_symbols([stream: u8] (symbols: u32) (c11: u32) (c13: u32));
+    c13_lines_part([stream: u8] (symbols: u32) (c11: u32) (c13: u32));
+    c13_tables_part([stream: u8] (symbols: u32) (c11: u32) (c13: u32));
+    c13_plain([area: u8]);
+    c13_open_lines([mut buf: u8] (place: usize) (offset: u32) (section: u16) (flags: u16) (code: u32));
+    c13_add_block([mut buf: u8] (place: usize) (file: u32) [lines: u32] [columns: u32]);
+    c13_open_checksums([mut buf: u8] (place: usize));
+    c13_add_entry([mut buf: u8] (place: usize) (name: u32) (kind: u8) [bytes: u8]);
+    c13_open_inlinees([mut buf: u8] (place: usize) (signature: u32));
+    c13_add_inlinee([mut buf: u8] (place: usize) (inlinee: u32) (file: u32) (line: u32) [extra: u32]);
+    c13_open_imports([mut buf: u8] (place: usize));
+    c13_add_module([mut buf: u8] (place: usize) (name: u32) [words: u32]);
+    c13_open_exports([mut buf: u8] (place: usize));
+    c13_add_pair([mut buf: u8] (place: usize) (local: u32) (global: u32));
+    c13_add_opaque([mut buf: u8] (place: usize) (kind: u32) [body: u8]);
 }

@@ -29,6 +29,7 @@ mod refusal;
 mod strings;
 mod tables;
 mod words;
+mod writer;
 
 pub use area::{Area, Subsection, Subsections};
 pub use lines::{FileChecksum, FileIndex, FileInfo, FileIterator, LineInfo, LineInfoKind, LineIterator, LineProgram, PdbInternalSectionOffset};
@@ -39,3 +40,4 @@ pub use tables::{
     CrossModuleExport, CrossModuleExportIter, CrossModuleExports, CrossModuleImports, CrossModuleRef, ImportModule, ImportModules, Inlinee,
     InlineeIterator, ModuleRef, Words,
 };
+pub use writer::Writer;

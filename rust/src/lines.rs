@@ -96,6 +96,16 @@ impl<'a> FileChecksum<'a> {
         }
     }
 
+    /// The number of its kind.
+    pub(crate) fn number(&self) -> u8 {
+        match self {
+            FileChecksum::None => 0,
+            FileChecksum::Md5(_) => 1,
+            FileChecksum::Sha1(_) => 2,
+            FileChecksum::Sha256(_) => 3,
+        }
+    }
+
     /// The name of its kind.
     pub fn kind(&self) -> &'static str {
         match self {

@@ -122,6 +122,45 @@ fn a_module_is_its_parts() {
     assert_eq!(long.lines_area().map(|_| ()), Err(Refusal::ModuleSizes));
 }
 
+#[test]
+fn what_was_written_is_read() {
+    let mut buf = [0xaa; 300];
+    let mut writer = Writer::new(&mut buf);
+    let sum: Vec<u8> = (0..16).collect();
+    writer.open_checksums().expect("room");
+    writer.add_entry(StringRef(1), FileChecksum::Md5(&sum)).expect("room");
+    writer.open_lines(place(1, 0x1000), 1, 0x20).expect("room");
+    writer.add_block(FileIndex(0), &[0, 0x8000_000a, 8, 0x8000_000c], &[0x0002_0001, 0x0004_0003]).expect("room");
+    writer.open_inlinees(1).expect("room");
+    writer.add_inlinee(0x1000, FileIndex(0), 7, &[24]).expect("room");
+    writer.open_imports().expect("room");
+    writer.add_module(ModuleRef(StringRef(5)), &[0x1003, 0x1004]).expect("room");
+    writer.open_exports().expect("room");
+    writer.add_pair(7, 0x1007).expect("room");
+    writer.add_opaque(0xf5, &[1, 2, 3, 4]).expect("room");
+    // refused: the rule, the place, the room; and nothing changes
+    let before = writer.written().to_vec();
+    assert_eq!(writer.add_opaque(0xf5, &[1]), Err(Refusal::NotPlain));
+    assert_eq!(writer.add_pair(8, 0x1008), Err(Refusal::WrongPlace));
+    assert_eq!(writer.add_opaque(0xf5, &[0; 200]), Err(Refusal::NoRoom));
+    assert_eq!(writer.written(), before);
+
+    let area = Area::new(writer.written());
+    assert_eq!(area.is_plain(), Ok(true));
+    let program = area.line_program().expect("program");
+    let lines: Vec<LineInfo> = program.lines().collect::<Result<_, _>>().expect("lines");
+    assert_eq!(
+        lines.iter().map(|l| (l.offset.offset, l.line_start, l.column_end)).collect::<Vec<_>>(),
+        [(0x1000, 10, Some(2)), (0x1008, 12, Some(4))]
+    );
+    assert_eq!(program.get_file_info(FileIndex(0)).expect("file").checksum, FileChecksum::Md5(&sum));
+    assert_eq!(area.inlinees().next().expect("one").expect("inlinee").extra_files.collect::<Vec<_>>(), [24]);
+    assert_eq!(area.imports().resolve_import(0x8000_0001), Ok(CrossModuleRef(ModuleRef(StringRef(5)), 0x1004)));
+    assert_eq!(area.exports().expect("exports").resolve_import(7), Ok(Some(0x1007)));
+    let end = before.len();
+    assert!(buf[end..].iter().all(|b| *b == 0xaa), "bytes behind what is written");
+}
+
 /// Numbers by chance, the same each time.
 struct Chance(u64);
 
@@ -232,6 +271,58 @@ fn ask(bytes: &[u8], chance: &mut Chance) -> usize {
         let _ = exports.resolve_import(chance.word());
     }
     answers
+}
+
+/// A call of the writer by chance.
+fn write(writer: &mut Writer<'_>, chance: &mut Chance) -> Result<(), Refusal> {
+    let words: Vec<u32> = (0..chance.below(5)).map(|_| chance.word()).collect();
+    let bytes: Vec<u8> = (0..[0, 4, 16, 20, 32, 5][chance.below(6) as usize]).map(|_| chance.next() as u8).collect();
+    let columns: Vec<u32> = words.iter().step_by(2).copied().collect();
+    match chance.below(11) {
+        0 => writer.open_lines(place(1, chance.word()), chance.below(2) as u16, chance.word()),
+        1 => writer.add_block(FileIndex(chance.word()), &words, if chance.below(2) == 0 { &columns } else { &[] }),
+        2 => writer.open_checksums(),
+        3 => writer.add_entry(
+            StringRef(chance.word()),
+            [FileChecksum::None, FileChecksum::Md5(&bytes), FileChecksum::Sha1(&bytes), FileChecksum::Sha256(&bytes)][chance.below(4) as usize],
+        ),
+        4 => writer.open_inlinees(chance.below(3) as u32),
+        5 => writer.add_inlinee(chance.word(), FileIndex(chance.word()), chance.word(), &words),
+        6 => writer.open_imports(),
+        7 => writer.add_module(ModuleRef(StringRef(chance.word())), &words),
+        8 => writer.open_exports(),
+        9 => writer.add_pair(chance.word(), chance.word()),
+        _ => writer.add_opaque(0xf0 + chance.below(16) as u32, &bytes),
+    }
+}
+
+#[test]
+fn no_calls_make_the_writer_panic() {
+    let mut chance = Chance(2);
+    let (mut accepted, mut refused) = (0, 0);
+    for _ in 0..2_000 {
+        let mut buf = vec![0x55; chance.below(400) as usize];
+        let mut writer = Writer::new(&mut buf);
+        for _ in 0..chance.below(20) {
+            let before = writer.written().to_vec();
+            match write(&mut writer, &mut chance) {
+                Ok(()) => {
+                    assert!(writer.written().len() > before.len() && Area::new(writer.written()).is_plain() == Ok(true));
+                    accepted += 1;
+                }
+                Err(why) => {
+                    assert!(matches!(why, Refusal::WrongPlace | Refusal::NotPlain | Refusal::NoRoom), "{why}");
+                    assert_eq!(writer.written(), before);
+                    refused += 1;
+                }
+            }
+        }
+        let end = writer.written().len();
+        let (area, rest) = buf.split_at(end);
+        assert!(rest.iter().all(|b| *b == 0x55), "bytes behind what is written");
+        ask(area, &mut chance);
+    }
+    assert!(accepted > 5_000 && refused > 5_000, "{accepted} accepted, {refused} refused");
 }
 
 #[test]

@@ -74,8 +74,64 @@ static const struct function {
     {"c13_module_symbols", module_symbols, 0, 0, A_MODULE},
     {"c13_lines_part", lines_part, 0, 2, A_MODULE},
     {"c13_tables_part", tables_part, 0, 2, A_MODULE},
+    {"c13_plain", c13_plain, 0, 3, AN_AREA},
 };
 enum { FUNCTIONS = sizeof functions / sizeof *functions };
+
+/* ---- the writer's functions, as one type */
+
+/* What is written: numbers, words, column words and bytes. */
+static uint32_t numbers[4], line_words[8], column_words[4];
+static uint8_t sum_bytes[32];
+static size_t words_given, columns_given, bytes_given;
+
+typedef uint32_t write_call(uint8_t *, size_t, size_t, uint64_t *, size_t);
+
+static uint32_t open_lines(uint8_t *b, size_t n, size_t at, uint64_t *o, size_t m) {
+    return c13_open_lines(b, n, at, numbers[0], (uint16_t)numbers[1], (uint16_t)numbers[2], numbers[3], o, m);
+}
+static uint32_t add_block(uint8_t *b, size_t n, size_t at, uint64_t *o, size_t m) {
+    return c13_add_block(b, n, at, numbers[0], line_words, words_given, column_words, columns_given, o, m);
+}
+static uint32_t add_entry(uint8_t *b, size_t n, size_t at, uint64_t *o, size_t m) {
+    return c13_add_entry(b, n, at, numbers[0], (uint8_t)numbers[1], sum_bytes, bytes_given, o, m);
+}
+static uint32_t open_inlinees(uint8_t *b, size_t n, size_t at, uint64_t *o, size_t m) { return c13_open_inlinees(b, n, at, numbers[0], o, m); }
+static uint32_t add_inlinee(uint8_t *b, size_t n, size_t at, uint64_t *o, size_t m) {
+    return c13_add_inlinee(b, n, at, numbers[0], numbers[1], numbers[2], line_words, words_given, o, m);
+}
+static uint32_t add_module(uint8_t *b, size_t n, size_t at, uint64_t *o, size_t m) { return c13_add_module(b, n, at, numbers[0], line_words, words_given, o, m); }
+static uint32_t add_pair(uint8_t *b, size_t n, size_t at, uint64_t *o, size_t m) { return c13_add_pair(b, n, at, numbers[0], numbers[1], o, m); }
+static uint32_t add_opaque(uint8_t *b, size_t n, size_t at, uint64_t *o, size_t m) { return c13_add_opaque(b, n, at, numbers[0], sum_bytes, bytes_given, o, m); }
+
+/* With numbers, words, columns and bytes that are accepted in this order. */
+static const struct writer {
+    const char *name;
+    write_call *f;
+    uint32_t numbers[4];
+    size_t words, columns, bytes;
+} writers[] = {
+    {"c13_open_checksums", c13_open_checksums, {0}, 0, 0, 0},
+    {"c13_add_entry", add_entry, {1, 1}, 0, 0, 16},
+    {"c13_open_lines", open_lines, {0x1000, 1, 1, 0x20}, 0, 0, 0},
+    {"c13_add_block", add_block, {0}, 4, 2, 0},
+    {"c13_open_inlinees", open_inlinees, {1}, 0, 0, 0},
+    {"c13_add_inlinee", add_inlinee, {0x1000, 0, 7}, 2, 0, 0},
+    {"c13_open_imports", c13_open_imports, {0}, 0, 0, 0},
+    {"c13_add_module", add_module, {5}, 2, 0, 0},
+    {"c13_open_exports", c13_open_exports, {0}, 0, 0, 0},
+    {"c13_add_pair", add_pair, {7, 0x1007}, 0, 0, 0},
+    {"c13_add_opaque", add_opaque, {0xf5}, 0, 0, 4},
+};
+enum { WRITERS = sizeof writers / sizeof *writers };
+
+static void writes(const struct writer *w) {
+    memcpy(numbers, w->numbers, sizeof numbers);
+    for (size_t i = 0; i < 8; i++) line_words[i] = i % 2 ? 0x8000000a + (uint32_t)i : 4 * (uint32_t)i;
+    for (size_t i = 0; i < 4; i++) column_words[i] = 0x00020001 * (uint32_t)(i + 1);
+    for (size_t i = 0; i < 32; i++) sum_bytes[i] = (uint8_t)i;
+    words_given = w->words, columns_given = w->columns, bytes_given = w->bytes;
+}
 
 /* ---- examples */
 
@@ -161,12 +217,39 @@ static void examples(const uint8_t *area, size_t n, const uint8_t *names, size_t
     sizes[1] = 0, ask("c13_lines_part", stream, 11);
 }
 
+/* A call of the writer, shown: the place behind what is written, or the refusal. */
+static void show_write(const struct writer *w, uint8_t *buf, size_t n, size_t *place) {
+    uint64_t out[2] = {0};
+    uint32_t status = w->f(buf, n, *place, out, 2);
+    printf("%s at %zu: %s %llu\n", w->name, *place, status == C13_GIVEN ? "given" : status == C13_REFUSED ? "refused" : "?", (unsigned long long)out[0]);
+    if (status == C13_GIVEN) *place = out[0];
+}
+
+static void writing(void) {
+    printf("-- writing\n");
+    static uint8_t buf[512];
+    size_t n = 0, wrong;
+    for (const struct writer *w = writers; w < writers + WRITERS; w++) writes(w), show_write(w, buf, sizeof buf, &n);
+    for (size_t i = 0; i < n; i++) printf("%02x%s", buf[i], i % 32 == 31 || i == n - 1 ? "\n" : "");
+    ask("c13_next_sub", buf, n);
+    ask("c13_plain", buf, n);
+    ask("c13_plain", buf, n - 1);
+    /* refused: a pair behind an opaque body, an opaque body of three bytes, no room, a place past the buffer, a place inside a subsection */
+    writes(writers + 9), show_write(writers + 9, buf, sizeof buf, &n);
+    writes(writers + 10), bytes_given = 3, show_write(writers + 10, buf, sizeof buf, &n);
+    bytes_given = 4, show_write(writers + 10, buf, n + 11, &n);
+    wrong = sizeof buf + 1, show_write(writers + 10, buf, sizeof buf, &wrong);
+    wrong = n - 4, show_write(writers + 10, buf, sizeof buf, &wrong);
+}
+
 /* ---- hostile inputs */
 
 static void nothing_lent(void) {
     printf("-- nothing lent\n");
     slots_used = 0;
     for (const struct function *f = functions; f < functions + FUNCTIONS; f++) printf("%s: %u\n", f->name, f->f(NULL, 0, NULL, 0));
+    words_given = columns_given = bytes_given = 0;
+    for (const struct writer *w = writers; w < writers + WRITERS; w++) printf("%s: %u\n", w->name, w->f(NULL, 0, 0, NULL, 0));
     uint64_t out[2] = {0};
     printf("c13_order_list, no slots: %u", c13_order_list(every_bytes, sizeof every, NULL, 0, out, 2));
     printf(" %llu\n", (unsigned long long)out[0]);
@@ -263,7 +346,7 @@ static void list_by_chance(const uint8_t *area, size_t n) {
 /* Bytes cut, spoilt and by chance, with states, slots and numbers by chance. */
 static void by_chance(void) {
     printf("-- by chance\n");
-    static uint64_t told[FUNCTIONS][4], numbers[20];
+    static uint64_t told[FUNCTIONS][4], refusals[20];
     for (int round = 0; round < 40000; round++) {
         uint64_t state[WORDS];
         int forged = chance() % 4;
@@ -276,13 +359,60 @@ static void by_chance(void) {
         list_by_chance(bytes_end - n, n);
         uint32_t status = try(f, bytes_end - n, n, state, m);
         told[f - functions][status]++;
-        if (status == C13_REFUSED) numbers[(words_end - m)[f->state]]++;
+        if (status == C13_REFUSED) refusals[(words_end - m)[f->state]]++;
     }
     for (size_t f = 0; f < FUNCTIONS; f++)
         printf("%s: none %llu, given %llu, refused %llu, too short %llu\n", functions[f].name, (unsigned long long)told[f][0],
                (unsigned long long)told[f][1], (unsigned long long)told[f][2], (unsigned long long)told[f][3]);
     for (int i = 1; i < 20; i++)
-        if (numbers[i]) printf("refusal %d: %llu\n", i, (unsigned long long)numbers[i]);
+        if (refusals[i]) printf("refusal %d: %llu\n", i, (unsigned long long)refusals[i]);
+    printf("sum %016llx\n", (unsigned long long)sum);
+}
+
+/* Calls of the writer by chance, at places by chance, on buffers that end with their page: a refused one changes nothing, an accepted one nothing behind
+ * the place that it answers, and what is written is plain. */
+static void writing_by_chance(void) {
+    printf("-- writing by chance\n");
+    static uint64_t told[WRITERS][4], refusals[20];
+    static uint8_t before[256];
+    size_t n = 0, place = 0;
+    for (int round = 0; round < 20000; round++) {
+        if (round % 16 == 0) { /* a new buffer */
+            n = chance() % sizeof before, place = 0;
+            for (size_t i = 0; i < n; i++) (bytes_end - n)[i] = (uint8_t)chance();
+        }
+        uint8_t *buf = bytes_end - n;
+        const struct writer *w = writers + chance() % WRITERS;
+        writes(w);
+        if (chance() % 4 == 0) words_given = chance() % 9, columns_given = chance() % 5, bytes_given = chance() % 33;
+        if (chance() % 4 == 0)
+            for (size_t i = 0; i < 4; i++) numbers[i] = (uint32_t)number_by_chance();
+        size_t at = chance() % 8 ? place : number_by_chance(), m = chance() % 8 ? 2 : chance() % 3;
+        uint64_t *out = words_end - m;
+        for (size_t i = 0; i < m; i++) out[i] = 0;
+        memcpy(before, buf, n);
+        uint32_t status = w->f(buf, n, at, out, m);
+        const struct function f = {w->name, NULL, 0, 0, AN_AREA};
+        told[w - writers][status & 3]++;
+        if (status == C13_GIVEN) {
+            if (m < 2 || out[0] <= at || out[0] > n) fail(&f, "a place that cannot be");
+            place = out[0];
+            uint64_t plain[3];
+            if (c13_plain(buf, place, plain, 3) != C13_GIVEN) fail(&f, "what is written is not plain");
+            if (memcmp(before + place, buf + place, n - place)) fail(&f, "bytes behind what is written changed");
+        } else {
+            if (memcmp(before, buf, n)) fail(&f, "a refused call changed the buffer");
+            if (status == C13_TOO_SHORT ? m >= 2 : status != C13_REFUSED || (out[0] != 10 && out[0] != 16 && out[0] != 17)) fail(&f, "no such answer");
+            if (status == C13_REFUSED) refusals[out[0]]++;
+        }
+        sum_up(status);
+        if (m == 2) sum_up(out[0]);
+    }
+    for (size_t w = 0; w < WRITERS; w++)
+        printf("%s: given %llu, refused %llu, too short %llu\n", writers[w].name, (unsigned long long)told[w][1], (unsigned long long)told[w][2],
+               (unsigned long long)told[w][3]);
+    for (int i = 1; i < 20; i++)
+        if (refusals[i]) printf("refusal %d: %llu\n", i, (unsigned long long)refusals[i]);
     printf("sum %016llx\n", (unsigned long long)sum);
 }
 
@@ -314,6 +444,7 @@ int main(int argc, char **argv) {
     bytes_end = page_end(), words_end = (uint64_t *)page_end(), slots_end = (uint32_t *)page_end();
     static uint8_t module[4 + sizeof every] = {4};
     examples(area, n, names, k);
+    writing();
     memcpy(module + 4, every_bytes, sizeof every);
     whole[AN_AREA].bytes = every_bytes, whole[AN_AREA].n = sizeof every;
     whole[NAMES].bytes = names, whole[NAMES].n = k;
@@ -321,6 +452,7 @@ int main(int argc, char **argv) {
     nothing_lent();
     few_words();
     by_chance();
+    writing_by_chance();
     too_long();
     return 0;
 }
