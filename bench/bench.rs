@@ -10,6 +10,7 @@ use pdb::{
     oracle_module, oracle_strings, CrossModuleExport, FallibleIterator, FileChecksum, FileIndex, FileInfo, LineInfo, LineInfoKind, LineIterator,
     Local, ModuleInfo, OracleProbe, PdbInternalSectionOffset, StringRef, TypeIndex, C13,
 };
+use std::cell::RefCell;
 use std::hint::black_box;
 
 /// An answer, of either side, as the numbers that both sides must agree on.
@@ -240,6 +241,9 @@ impl Input {
     }
 }
 
+/// How many records one call of `c13_lines` has room for.
+const ROOM: usize = 1 << 18;
+
 /// The cases through the library.
 mod rattle {
     use super::*;
@@ -263,6 +267,16 @@ mod rattle {
         black_box(&out);
     }
     pub fn walk(i: &Input, slots: &[u32], t: &mut impl Taker) {
+        let area = black_box(i.bytes.as_slice());
+        let (mut out, records) = ([0; LINE_STATE + 2], RefCell::new(vec![0; ROOM * RECORD]));
+        steps(
+            &mut out,
+            |out| calls::c13_lines(area, slots, &mut records.borrow_mut(), out),
+            |out| records.borrow().chunks_exact(RECORD).take(out[LINE_STATE] as usize).for_each(|r| t.take(r)),
+        );
+    }
+    /// The same, one record a call.
+    pub fn steps_walk(i: &Input, slots: &[u32], t: &mut impl Taker) {
         let area = black_box(i.bytes.as_slice());
         steps(&mut [0; LINE_STATE + RECORD], |out| calls::c13_next_line(area, slots, out), |out| t.take(&out[LINE_STATE..]));
     }
@@ -422,6 +436,7 @@ fn rattle_side(case: &str, n: u64, i: &Input, mut slots: Vec<u32>) {
             summed.map_or((), |t| slots.iter().for_each(|s| t.take(&[*s as u64][..])))
         }),
         "walk" => repeat!(n, 0, t => rattle::walk(i, slots, t)),
+        "stepped" => repeat!(n, 0, t => rattle::steps_walk(i, slots, t)),
         "lines" => repeat!(n, 0, t => {
             rattle::list(i, slots);
             rattle::walk(i, slots, t)
@@ -453,7 +468,7 @@ fn crate_side(case: &str, n: u64, i: &Input) {
             Some(t) => C13::order(&i.bytes).expect("order").iter().for_each(|s| t.take(&[*s as u64][..])),
             None => drop(black_box(rust::program(i))),
         }),
-        "walk" => {
+        "walk" | "stepped" => {
             let program = rust::program(i);
             repeat!(n, 0, t => rust::walk(&program, t))
         }

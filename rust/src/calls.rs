@@ -57,6 +57,7 @@ calls! {
     c13_next_sub([area: u8]);
     c13_order_list([area: u8] [mut slots: u32]);
     c13_next_line([area: u8] [slots: u32]);
+    c13_lines([area: u8] [slots: u32] [mut records: u64]);
     c13_lines_for_symbol([area: u8] [slots: u32] (section: u16) (offset: u32));
     c13_next_file([area: u8]);
     c13_file_at([area: u8] (index: u32));

@@ -38,6 +38,8 @@ typedef uint32_t call(const uint8_t *, size_t, uint64_t *, size_t);
 
 static uint32_t order_list(const uint8_t *a, size_t n, uint64_t *o, size_t m) { return c13_order_list(a, n, slots_end - 16, 16, o, m); }
 static uint32_t next_line(const uint8_t *a, size_t n, uint64_t *o, size_t m) { return c13_next_line(a, n, slots, slots_used, o, m); }
+static uint64_t records[2 * C13_RECORD];
+static uint32_t lines(const uint8_t *a, size_t n, uint64_t *o, size_t m) { return c13_lines(a, n, slots, slots_used, records, 2 * C13_RECORD, o, m); }
 static uint32_t symbol(const uint8_t *a, size_t n, uint64_t *o, size_t m) { return c13_lines_for_symbol(a, n, slots, slots_used, 1, number, o, m); }
 static uint32_t file_at(const uint8_t *a, size_t n, uint64_t *o, size_t m) { return c13_file_at(a, n, number, o, m); }
 static uint32_t resolve_import(const uint8_t *a, size_t n, uint64_t *o, size_t m) { return c13_resolve_import(a, n, number, o, m); }
@@ -75,6 +77,7 @@ static const struct function {
     {"c13_lines_part", lines_part, 0, 2, A_MODULE},
     {"c13_tables_part", tables_part, 0, 2, A_MODULE},
     {"c13_plain", c13_plain, 0, 3, AN_AREA},
+    {"c13_lines", lines, C13_LINE_STATE, C13_LINE_STATE + 2, AN_AREA},
 };
 enum { FUNCTIONS = sizeof functions / sizeof *functions };
 
@@ -187,6 +190,8 @@ static void examples(const uint8_t *area, size_t n, const uint8_t *names, size_t
     ask("c13_order_list", area, n);
     for (size_t i = 0; i < slots_used; i++) printf("  slot %u\n", slots[i]);
     ask("c13_next_line", area, n);
+    ask("c13_lines", area, n);
+    printf("  the first two: line %llu, line %llu\n", (unsigned long long)records[C13_START_LINE], (unsigned long long)records[C13_RECORD + C13_START_LINE]);
     number = 0x71, ask("c13_lines_for_symbol", area, n);
     ask("c13_next_file", area, n);
     ask("c13_string_table", names, k);
