@@ -2,7 +2,7 @@
 //!
 //! thin: drops the cases that are too long for the list or at an odd address, and all but a few of what each case asks.
 //! Else, of each file CASES, whose answers by the oracle (--added) are in ANSWERS, at most NUMBER cases are chosen: always the one that shows the
-//! most pairs of kinds of answers not seen so far, for its bytes. DIR/stdin becomes the list (its form stands at the head of
+//! most pairs of kinds of answers and of limits in itself not seen so far, for its bytes. DIR/stdin becomes the list (its form stands at the head of
 //! crates/replay/src/main.rt) and DIR/stdout what the crate answered: the oracle's lines, without those that are outside the domain of the
 //! comparison (compare/README.md) and those that say nothing of an answer. The last line says what was made.
 
@@ -104,7 +104,7 @@ struct Answered {
     input: Vec<u8>,
     length: String,
     lines: Vec<String>,
-    /// The kinds of its answers.
+    /// The kinds of its answers, and the limits in itself.
     shows: Vec<u32>,
 }
 
@@ -154,40 +154,55 @@ fn shows(line: &str, before: usize) -> String {
     }
 }
 
+/// The word at a place, or 0.
+fn word_at(bytes: &[u8], at: usize) -> i64 {
+    bytes.get(at..at + 4).map_or(0, |b| u32::from_le_bytes(b.try_into().unwrap()) as i64)
+}
+
 /// What is at a limit in a case itself: a string table's version and its length, a module's sizes, the lengths of an area's bodies.
 fn stands(case: &Case) -> Vec<String> {
     let bytes = case.bytes();
-    let word = |at: usize| bytes.get(at..at + 4).map_or(0, |b| u32::from_le_bytes(b.try_into().unwrap()) as i64);
+    let word = |at| word_at(&bytes, at);
     let over = |n: i64| (n - bytes.len() as i64).clamp(-2, 2);
     let size = |key: &str| case.text(key).parse::<i64>().expect(key);
     match case.kind.as_str() {
-        "strings" => vec![format!("version {}", word(4).min(4)), format!("names {} {}", over(24 + word(8)), word(8).min(4)), format!("there {}", bytes.len().min(25))],
-        "module" => vec![format!("parts {} {}", over(size("sym") + size("c13")), size("c11").min(2)), format!("symbols {} {} {}", size("sym").min(9), over(size("sym")), word(0).min(5))],
-        _ => {
-            let (mut at, mut out) = (0, vec![]);
-            while at + 8 <= bytes.len() {
-                let length = word(at + 4) as usize;
-                out.push(format!("body {:x} {} {}", word(at), length.min(37), over((at + 8 + length) as i64) > 0));
-                // How the first record of a body ends, against the body's end or the block's.
-                let (body, end) = (at + 8, (at + 8 + length).min(bytes.len()) as i64);
-                let ends = |at: i64, end: i64| (at - end).clamp(-4, 4);
-                let entry = word(body + 4) & 0xff;
-                out.push(match word(at) {
-                    0xf2 => {
-                        let (columns, count, size) = (word(body + 4) >> 16 & 1, word(body + 16), word(body + 20));
-                        format!("block {} {} {}", columns, ends(12 + count * (8 + 4 * columns), size), ends(body as i64 + 12 + size, end))
-                    }
-                    0xf4 => format!("entry {} {} {}", word(body + 4) >> 8 & 0xff, entry % 4, ends(body as i64 + 6 + entry, end)),
-                    0xf6 => format!("inlinee {} {}", word(body).min(2), ends(body as i64 + 20 + 4 * word(body + 16), end)),
-                    0xf7 => format!("module {}", ends(body as i64 + 8 + 4 * word(body + 4), end)),
-                    _ => String::new(),
-                });
-                at += 8 + length;
-            }
-            out.push(format!("left {}", bytes.len() as i64 - at as i64));
-            out
-        }
+        "strings" => vec![
+            format!("version {}", word(4).min(4)),
+            format!("names {} {}", over(24 + word(8)), word(8).min(4)),
+            format!("there {}", bytes.len().min(25)),
+        ],
+        "module" => vec![
+            format!("parts {} {}", over(size("sym") + size("c13")), size("c11").min(2)),
+            format!("symbols {} {} {}", size("sym").min(9), over(size("sym")), word(0).min(5)),
+        ],
+        _ => bodies(&bytes),
     }
+}
+
+/// The lengths of the bodies of an area, and how the first record of each ends, against the body's end or the block's.
+fn bodies(area: &[u8]) -> Vec<String> {
+    let word = |at| word_at(area, at);
+    let ends = |at: i64, end: i64| (at - end).clamp(-4, 4);
+    let (mut at, mut out) = (0, vec![]);
+    while at + 8 <= area.len() {
+        let (kind, length, body) = (word(at), word(at + 4) as usize, at + 8);
+        out.push(format!("body {kind:x} {} {}", length.min(37), body + length > area.len()));
+        let (here, end) = (body as i64, (body + length).min(area.len()) as i64);
+        let entry = word(body + 4) & 0xff;
+        out.push(match kind {
+            0xf2 => {
+                let (columns, count, size) = (word(body + 4) >> 16 & 1, word(body + 16), word(body + 20));
+                format!("block {columns} {} {}", ends(12 + count * (8 + 4 * columns), size), ends(here + 12 + size, end))
+            }
+            0xf4 => format!("entry {} {} {}", word(body + 4) >> 8 & 0xff, entry % 4, ends(here + 6 + entry, end)),
+            0xf6 => format!("inlinee {} {}", word(body).min(2), ends(here + 20 + 4 * word(body + 16), end)),
+            0xf7 => format!("module {}", ends(here + 8 + 4 * word(body + 4), end)),
+            _ => String::new(),
+        });
+        at = body + length;
+    }
+    out.push(format!("left {}", area.len() as i64 - at as i64));
+    out
 }
 
 /// A case as the list has it. An area is the module of the sizes 0, 0 and its length.
@@ -264,7 +279,9 @@ fn read(cases: &str, answers: &str, names: &mut HashMap<String, u32>) -> Vec<Ans
                 .collect();
             shows.sort_unstable();
             shows.dedup();
-            Answered { case: line.split_once(' ').unwrap().1.split_once(' ').unwrap().1.into(), input: listed(&case, &calls), length: word(&block[0], 3).into(), lines, shows }
+            // Its name is left out: two cases may differ in that alone.
+            let text = line.splitn(3, ' ').last().unwrap().into();
+            Answered { case: text, input: listed(&case, &calls), length: word(&block[0], 3).into(), lines, shows }
         })
         .collect()
 }
