@@ -191,7 +191,7 @@ static void examples(const uint8_t *area, size_t n, const uint8_t *names, size_t
     for (size_t i = 0; i < slots_used; i++) printf("  slot %u\n", slots[i]);
     ask("c13_next_line", area, n);
     ask("c13_lines", area, n);
-    printf("  the first two: line %llu, line %llu\n", (unsigned long long)records[C13_START_LINE], (unsigned long long)records[C13_RECORD + C13_START_LINE]);
+    printf("  the last two: line %llu, line %llu\n", (unsigned long long)records[C13_START_LINE], (unsigned long long)records[C13_RECORD + C13_START_LINE]);
     number = 0x71, ask("c13_lines_for_symbol", area, n);
     ask("c13_next_file", area, n);
     ask("c13_string_table", names, k);
