@@ -46,11 +46,11 @@ use Rattle.agree.specs.ChaptersLaws.{Whole, first-chapter, last-chapter,
 
 -- ---- what is picked passes the test
 
-abbrev Passes : {B : Type 0} → (B → Bool) → B → Type 0
+abbrev pub Passes : {B : Type 0} → (B → Bool) → B → Type 0
 Passes f b = f b ≡ true
 
 module _ {B R : Type 0} (f : B → Bool) where
-  first-passes : (l : Listing B R) → Gives (Passes f) (firstBy f l)
+  pub first-passes : (l : Listing B R) → Gives (Passes f) (firstBy f l)
   unfolding firstBy
   first-passes (more b l) = by-cases (Gives (Passes f)) (f b) (λ e. e) (λ e. first-passes l)
   first-passes ends = tt
@@ -240,6 +240,9 @@ module _ (rule : ℕ → Sort) (s : List ℕ) (h : Whole (reading rule s)) where
 
   -- ---- and the tests before the files pass
 
+  pub lines-pass : failure (linesFrom rule s 0) ≡ nothing
+  lines-pass = ap failure lines-are ∙ lines-whole
+
   passes : {B : Type 0} (l : Listing B Told) (f : Reply Span Told) → failure l ≡ nothing → ifPassed (countOf l) f ≡ f
   unfolding failure countOf
   passes (more b l) f q = one (countOf l) ∙ passes l f q
@@ -254,8 +257,7 @@ module _ (rule : ℕ → Sort) (s : List ℕ) (h : Whole (reading rule s)) where
   files-sub : filesSub rule s ≡ lastSub rule 0xf4 s
   unfolding filesSub
   files-sub =
-      passes (linesFrom rule s 0) (lastSub rule 0xf4 s)
-      (ap failure lines-are ∙ lines-whole)
+      passes (linesFrom rule s 0) (lastSub rule 0xf4 s) lines-pass
 
   -- the files, with their checksums, are the records of the last checksum subsection, but for the bytes of kind 0
   pub files-agree : mapped dropped same (recordsIn (lastBy (begins 0xf4) (chapters (reading rule s)))) ≡ each checksum (mapped (file.spelt s) same (filesIn rule s))

@@ -99,7 +99,7 @@ whole-list : {B : Type 0} (step : List ℕ → Move (List ℕ) B Told) (s : List
 unfolding wholly
 whole-list step s e = ends-list (all step length s) e
 
-ascends-list : (l : Listing Pair Told) (f m : ℕ) → ascends f l ≡ some m → (ps : List Pair) × (l ≡ before ps ends) × Ascend f ps
+pub ascends-list : (l : Listing Pair Told) (f m : ℕ) → ascends f l ≡ some m → (ps : List Pair) × (l ≡ before ps ends) × Ascend f ps
 unfolding ascends
 ascends-list (more p l) f m q = go (leb f (p .local)) refl q (ascends-list l (p .local + 1) m)
   where
@@ -203,7 +203,7 @@ mark-back k b m h = go (eqb k 0xf2) refl (eqb k 0xf4) refl (eqb k 0xf6) refl (eq
 
 -- ---- areas
 
-abbrev Marked : Raw → Type 0
+abbrev pub Marked : Raw → Type 0
 Marked r = (m : ℕ) × (markOf (r .kind) (r .body) ≡ some m)
 
 from-list : (l : Parts) (p : ℕ) (last x : Last) → plainFrom p last l ≡ some x → (rs : List Raw) × (l ≡ before rs ends) × Each Marked rs
@@ -217,6 +217,10 @@ from-list (more r l) p last x q = go (markOf (r .kind) (r .body)) refl q (λ m. 
     go (some m) e q ih = let t = ih m q in (r ∷ t .0, ap (more r) (t .1), ((m, e), t .2))
 from-list ends p last x q = ([], refl, tt)
 from-list (fails c) p last x q = no-some q
+
+-- a plain area is whole subsections, each of a plain body
+pub plain-marked : (s : List ℕ) (l : Last) → plainOf s ≡ some l → (rs : List Raw) × (parts s ≡ before rs ends) × Each Marked rs
+plain-marked s l q = from-list (parts s) 0 nothing-yet l (not-long s l q)
 
 raws-back : (rs : List Raw) → Bytes (join rs) → Each Marked rs → (ss : List Sec) × (rawsOf ss ≡ rs) × Each GoodSec ss
 unfolding join
@@ -232,7 +236,7 @@ raws-back (r ∷ rs) h g =
 
 pub plain-back : (s : List ℕ) (l : Last) → Bytes s → plainOf s ≡ some l → (ss : List Sec) × (join (rawsOf ss) ≡ s) × Each GoodSec ss
 plain-back s l h q =
-    let F = from-list (parts s) 0 nothing-yet l (not-long s l q) in
+    let F = plain-marked s l q in
     let j : join (F .0) ≡ s = join-whole s (F .0) h (F .1) in
     let B = raws-back (F .0) (rw j h) (F .2) in
     (B .0, ap join (B .1) ∙ j, B .2)

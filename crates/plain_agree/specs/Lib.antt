@@ -1,0 +1,2 @@
+pub mod PlainAgree
+pub mod PlainAgreeLaws
