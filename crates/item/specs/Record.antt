@@ -4,9 +4,10 @@
 use Prim.Native.Nat.{ℕ, _+_, _-_, _*_}
 use mathlib.Core.List.{List}
 use mathlib.Core.Bool.{Bool, true, false}
-use lib.ListN.{getD}
-use Rattle.walk.specs.Listing.{Answer, gives, none, refuses}
+use lib.ListN.{take, drop, getD}
+use Rattle.walk.specs.Listing.{Answer, gives, none, refuses, Reply, gave, nothing, refused}
 use Rattle.refusal.specs.Told.{Told}
+use Rattle.table.specs.Table.{Place}
 use Rattle.body.specs.Lines.{lineHead, columned}
 use Rattle.lines.specs.Blocks.{LineBlock, blockAt}
 use Rattle.checksums.specs.Entry.{Entry, entryAt}
@@ -14,8 +15,13 @@ use Rattle.inlinees.specs.Inlinees.{SourceLine, sourceLineAt}
 use Rattle.imports.specs.Imports.{ModuleAt, moduleAt}
 use Rattle.exports.specs.Exports.{pairAt}
 use Rattle.item.specs.Item.{ToldColumns, columnsAt, noColumns, ToldItem, block, checksum, inlinee, imports, exports}
+use Rattle.item.specs.declared.ItemWalk.{ItemWalk}
+use Rattle.item.specs.declared.ItemWalk.the-variants as walk
 use Rattle.item.specs.declared.TypedBody.{TypedBody}
 use Rattle.item.specs.declared.TypedBody.the-variants as typed
+
+abbrev pub ItemAnswer : Type 0
+ItemAnswer = Answer ItemWalk ToldItem Told
 
 -- an answer's record as an item
 abbrev pub asItem : {B : Type 0} → (B → ToldItem) → Answer ℕ B Told → Answer ℕ ToldItem Told
@@ -52,3 +58,15 @@ recordAt typed.Checksums b start at = asItem (checksumItem b start) (entryAt b a
 recordAt typed.Inlinees b start at = asItem (inlineeItem start) (sourceLineAt b at)
 recordAt typed.Imports b start at = asItem (moduleItem start) (moduleAt b at)
 recordAt typed.Exports b start at = asItem exports (pairAt b at)
+
+-- and the walk behind it, in the body of len bytes at start
+abbrev pub inWalk : TypedBody → ℕ → ℕ → Answer ℕ ToldItem Told → ItemAnswer
+inWalk k start len (gives i x) = gives i (walk.In k start len x)
+inWalk k start len none = none
+inWalk k start len (refuses t) = refuses t
+
+-- in a body of the area s that is held against it
+abbrev pub recordIn : List ℕ → TypedBody → Reply Place Told → ItemAnswer
+recordIn s k (gave q) = inWalk k (q .start) (q .len) (recordAt k (take (q .len) (drop (q .start) s)) (q .start) (q .at))
+recordIn s k nothing = none
+recordIn s k (refused t) = refuses t

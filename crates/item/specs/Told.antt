@@ -6,7 +6,7 @@ use Rattle.refusal.specs.Untold.{untold, untold-told}
 use Rattle.lines.specs.Told.{toldHeader, untoldHeader}
 use Rattle.item.specs.Item.{ToldColumns, columnsAt, noColumns}
 use Rattle.item.specs.Item as item
-use Rattle.item.specs.Step.{ItemAnswer}
+use Rattle.item.specs.Record.{ItemAnswer}
 use Rattle.item.specs.declared.Columns.{Columns}
 use Rattle.item.specs.declared.Columns.the-variants as columns
 use Rattle.item.specs.declared.ItemStep.{ItemStep}

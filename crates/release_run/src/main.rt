@@ -8,7 +8,7 @@ use files::checksum_bytes;
 use item::Columns;
 use item::ItemStep;
 use item::ItemWalk;
-use item::next_item;
+use items::next_item;
 use libc::STDOUT_FILENO;
 use rows::WordAnswer;
 use rows::word_in;

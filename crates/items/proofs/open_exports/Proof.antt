@@ -1,0 +1,13 @@
+-- `items::open_exports` meets its contract: each way out is a case of `exportsOpened`.
+-- Assumes nothing.
+use native.Mathlib.Omega.{arith}
+use Rattle.items.specs.StepLaws.{exports-open, exports-odd}
+use Rattle.items.proofs.open_exports.Statement.{statement}
+use Rattle.items.proofs.open_exports.Tie as tie
+
+pub open-exports-spec : {M : Type 1} → statement M
+open-exports-spec =
+    tie.close
+    (tie.spec
+    (λ c. exports-open _ _ (omega arith))
+    (λ c. exports-odd _ _ (omega arith)))

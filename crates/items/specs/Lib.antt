@@ -1,0 +1,4 @@
+pub mod Step
+pub mod StepLaws
+pub mod WalkLaws
+pub mod ReadingLaws
