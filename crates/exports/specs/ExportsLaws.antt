@@ -20,12 +20,14 @@ use Rattle.find.specs.Find.{same, Span, firstSub}
 use Rattle.body.specs.Exports.{Pair, pairBite, pairs}
 use Rattle.table.specs.declared.TableWalk.{TableWalk}
 use Rattle.table.specs.declared.TableWalk.the-variants as walk
-use Rattle.table.specs.Table.{Place, spotOf, readAt, tableOf}
-use Rattle.table.specs.TableLaws.{spot-in-area, step-at, step-other, table-walk, first-finds}
+use Rattle.table.specs.Table.{tableOf}
+use Rattle.table.specs.StepLaws.{Steps, steps}
+use Rattle.table.specs.TableLaws.{table-walk, first-finds}
 use Rattle.rows.specs.Rows.{placed, rowAt, rowsFrom}
 use Rattle.rows.specs.RowsLaws.{Bitten, bites-step, rows-step, rows-in}
 use Rattle.rows.specs.Collect.{onGave, collected, counted}
 use Rattle.rows.specs.CollectLaws.{mapped-same, collected-length}
+use Rattle.exports.specs.Told.{toldPair}
 use Rattle.exports.specs.Exports.{Export, aType, anId, exportOf, pairSize, unplaced, exportIn, pairsOf, exportsOf, exportCount, above, ascends, globalOf, lookup, pairAt, exportShown, exportStep, pairsFrom}
 
 -- ---- the kind of an export
@@ -75,19 +77,10 @@ shown-pair start len l g x e m h q = ap (λ (y : Export). gives y (walk.In start
 pub shown-other : (start len : ℕ) (k m : Answer ℕ Pair Told) → k ≡ m → exportShown start len k ≡ exportShown start len m
 shown-other start len k m q = ap (exportShown start len) q
 
--- ---- `next_export`: q is the spot of the walk w
+-- ---- a step of the walk
 
-module _ (rule : ℕ → Sort) (s : List ℕ) (w : TableWalk) (q : Place) (e : gave q ≡ spotOf (firstSub rule 0xf8 s) s w) where
-  pub export-inside : q .start + q .len ≤ length s
-  export-inside = spot-in-area s (firstSub rule 0xf8 s) (first-finds rule 0xf8 s) w q e
-
-  -- the part is lent from its start on, k long
-  pub export-at : (k : ℕ) → k ≡ q .len → exportShown (q .start) (q .len) (pairAt (take k (drop (q .start) s)) (q .at)) ≡ exportStep rule s w
-  export-at k ek = step-at pairAt exportIn (firstSub rule 0xf8 s) s w q k e ek
-
-pub export-other : (rule : ℕ → Sort) (s : List ℕ) (w : TableWalk) (x : Reply Place Told) → x ≡ spotOf (firstSub rule 0xf8 s) s w
-    → readAt pairAt exportIn s x ≡ exportStep rule s w
-export-other rule s w x e = step-other pairAt exportIn (firstSub rule 0xf8 s) s w x e
+pub export-steps : (rule : ℕ → Sort) (s : List ℕ) (w : TableWalk) → Steps pairAt exportIn toldPair (firstSub rule 0xf8 s) s w (exportStep rule s w)
+export-steps rule s w = steps pairAt exportIn toldPair (firstSub rule 0xf8 s) s w (first-finds rule 0xf8 s)
 
 -- ---- the walk: a new walk's answers, taken until it ends, are the exports of the area
 

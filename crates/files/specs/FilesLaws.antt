@@ -11,15 +11,17 @@ use Rattle.walk.specs.Pick.{mapReply}
 use Rattle.refusal.specs.Told.{Told, longest}
 use Rattle.area.specs.Kind.{Sort}
 use Rattle.find.specs.Find.{same, Span, lastSub, bytesAt}
-use Rattle.table.specs.Table.{Place, spotIn, spotOf, shifted, readAt, tableOf}
-use Rattle.table.specs.TableLaws.{Finds, spot-in-area, spot-short, spot-inside, last-finds, step-other, table-walk}
+use Rattle.table.specs.Table.{Place, spotIn, shifted, tableOf}
+use Rattle.table.specs.StepLaws.{Steps, steps}
+use Rattle.table.specs.TableLaws.{Finds, Inside, in-inside, spot-inside, last-finds, table-walk}
 use Rattle.table.specs.Whole.{ofBody}
-use Rattle.table.specs.WholeLaws.{step-read, mapped-every, table-means}
+use Rattle.table.specs.WholeLaws.{mapped-every, table-means}
 use Rattle.table.specs.declared.TableWalk.{TableWalk}
 use Rattle.table.specs.declared.TableWalk.the-variants as walk
 use Rattle.body.specs.Checksums.{Checksum, checksums}
 use Rattle.checksums.specs.Entry.{Entry, entryAt, entriesFrom, shown}
 use Rattle.checksums.specs.Entry as entry
+use Rattle.checksums.specs.Told.{toldEntry}
 use Rattle.checksums.specs.EntryLaws.{entry-lies, entries-step, entries-mean, In, entries-in, Stands, entries-stand}
 use Rattle.lines.specs.Lines.{countLines}
 use Rattle.files.specs.Files.{Info, File, infoOf, fileOf, ifPassed, filesSub, fileStep, filesIn, atIndex, fileIn, fileAt, held, partOf, spelt}
@@ -50,35 +52,16 @@ module _ (rule : ℕ → Sort) (s : List ℕ) where
 
 -- ---- a walk
 
-module _ (rule : ℕ → Sort) (s : List ℕ) (w : TableWalk) where
-  -- the part that is lent lies in the area
-  pub file-spot : (q : Place) → gave q ≡ spotOf (filesSub rule s) s w → q .start + q .len ≤ length s
-  file-spot q e = spot-in-area s (filesSub rule s) (files-finds rule s) w q e
+pub file-steps : (rule : ℕ → Sort) (s : List ℕ) (w : TableWalk) → Steps entryAt fileOf toldEntry (filesSub rule s) s w (fileStep rule s w)
+unfolding fileStep
+file-steps rule s w = steps entryAt fileOf toldEntry (filesSub rule s) s w (files-finds rule s)
 
-  -- and so does the place of an entry's bytes, which are not past the longest area
-  pub file-bytes : (q : Place) (k : ℕ) (e : Entry) (x : ℕ) → gave q ≡ spotOf (filesSub rule s) s w
-      → gives e x ≡ entryAt (take k (drop (q .start) s)) (q .at) → k ≡ q .len
-      → (q .start + e .start ≤ length s) × (e .start ≡ q .at + 6) × (length s ≤ longest)
-  file-bytes q k e x h l ek =
-      let z = spot-short s (filesSub rule s) (files-finds rule s) w q h in
-      omega (arith, file-spot q h, entry-lies (take k (drop (q .start) s)) (q .at) e x l, length-take k (drop (q .start) s))
-
-  pub file-read : (q : Place) (k : ℕ) (u : Answer ℕ Entry Told) → gave q ≡ spotOf (filesSub rule s) s w
-      → u ≡ entryAt (take k (drop (q .start) s)) (q .at) → k ≡ q .len → shifted fileOf (q .start) (q .len) u ≡ fileStep rule s w
-  unfolding fileStep
-  file-read = step-read entryAt fileOf (filesSub rule s) s w
-
-  -- an entry, its index being its place
-  pub file-entry : (q : Place) (k : ℕ) (e : Entry) (x : ℕ) → gave q ≡ spotOf (filesSub rule s) s w
-      → gives e x ≡ entryAt (take k (drop (q .start) s)) (q .at) → k ≡ q .len
-      → gives (record { index = q .at; info = infoOf (q .start) e }) (walk.In (q .start) (q .len) x) ≡ fileStep rule s w
-  file-entry q k e x h l ek =
-      let i : q .at ≡ e .start - 6 = omega (arith, entry-lies (take k (drop (q .start) s)) (q .at) e x l) in
-      (λ j. gives (record { index = i j; info = infoOf (q .start) e }) (walk.In (q .start) (q .len) x)) ∙ file-read q k (gives e x) h l ek
-
-  pub file-other : (x : Reply Place Told) → x ≡ spotOf (filesSub rule s) s w → readAt entryAt fileOf s x ≡ fileStep rule s w
-  unfolding fileStep
-  file-other = step-other entryAt fileOf (filesSub rule s) s w
+-- an entry, its index being its place
+pub file-entry : (start len at : ℕ) (b : List ℕ) (e : Entry) (x : ℕ) (out : Answer TableWalk File Told) → gives e x ≡ entryAt b at
+    → shifted fileOf start len (gives e x) ≡ out → gives (record { index = at; info = infoOf start e }) (walk.In start len x) ≡ out
+file-entry start len at b e x out l q =
+    let i : at ≡ e .start - 6 = omega (arith, entry-lies b at e x l) in
+    (λ j. gives (record { index = i j; info = infoOf start e }) (walk.In start len x)) ∙ q
 
 -- THE WALK: n calls from a new walk on answer the files in order, and then the end, or the same refusal, again and again
 pub files-walk : (rule : ℕ → Sort) (s : List ℕ) (n : ℕ) → calls (fileStep rule s) n walk.New ≡ replies n (filesIn rule s)
@@ -127,7 +110,7 @@ files-indexed rule s = by (filesSub rule s)
 -- ---- the bytes of a checksum
 
 pub part-in : (s : List ℕ) (start len : ℕ) (o : Place) → gave o ≡ spotIn s start len 0 → o .start + o .len ≤ length s
-part-in s start len o e = spot-in-area s nothing tt (walk.In start len 0) o e
+part-in s start len o e = subst⁻¹ (Inside s) e (in-inside s start len 0) .0
 
 -- a part that lies in an area
 pub part-inside : (s : List ℕ) (start len : ℕ) → length s ≤ longest → start + len ≤ length s → partOf s start len ≡ record { start = start; len = len }

@@ -12,7 +12,7 @@ use borrow.Author.Tests.{eq-eqb, ne-eqb, ltb-false}
 use Rattle.word.specs.Word.{u32At}
 use Rattle.word.specs.WordLaws.{u32-drop}
 use Rattle.walk.specs.Cases.{tests, by-cases}
-use Rattle.walk.specs.Listing.{Move, item, pass, over, fail, more, mapped, onMove, moved, all, Answer, gives, none, refuses, Reply, gave, nothing, refused, calls, replies}
+use Rattle.walk.specs.Listing.{Move, item, pass, over, fail, more, mapped, onMove, moved, all, gives, none, refuses, Reply, gave, nothing, refused, calls, replies}
 use Rattle.refusal.specs.Told.{Told, told}
 use Rattle.refusal.specs.declared.Refusal.the-variants as why
 use Rattle.area.specs.Kind.{Sort}
@@ -22,13 +22,15 @@ use Rattle.body.specs.WordsLaws.{words-length}
 use Rattle.body.specs.Imports.{Module, moduleBite, modules}
 use Rattle.table.specs.declared.TableWalk.{TableWalk}
 use Rattle.table.specs.declared.TableWalk.the-variants as walk
-use Rattle.table.specs.Table.{Place, shifted, spotOf, readAt, tableOf}
-use Rattle.table.specs.TableLaws.{spot-in-area, step-at, step-other, table-walk, first-finds}
+use Rattle.table.specs.Table.{tableOf}
+use Rattle.table.specs.StepLaws.{Steps, steps}
+use Rattle.table.specs.TableLaws.{table-walk, first-finds}
 use Rattle.rows.specs.Rows.{placed, rowAt}
 use Rattle.rows.specs.RowsLaws.{Bitten, rows-step, rows-in, row-next, row-end, row-refused, rows-back}
 use Rattle.rows.specs.Collect.{onGave, collected, ofNth}
 use Rattle.rows.specs.CollectLaws.{mapped-same, mapped-mapped, sought, sought-is}
 use Rattle.rows.specs.WordsLaws.{words-nth, words-none, words-part}
+use Rattle.imports.specs.Told.{toldModule}
 use Rattle.imports.specs.Imports.{modulesOf, Ref, scopeOf, idOf, ifRef, wordOf, refOf, ModuleAt, moduleOf, moduleShown, moduleSize, inArea, importsOf, moduleAt, importStep, modulesFrom}
 
 -- ---- the tests of `module_at`
@@ -192,25 +194,10 @@ module _ (b : List ℕ) (index n : ℕ) (best : Reply Ref Told) (p : ℕ) where
     unfolding sought modules
     sought-refused t q = ap (sought (wordOf index) (ifRef index) (scopeOf index) n best) (row-refused moduleBite moduleSize moduleShown bitten b p h t q)
 
--- ---- `next_import`: q is the spot of the walk w
+-- ---- a step of the walk
 
-module _ (rule : ℕ → Sort) (s : List ℕ) (w : TableWalk) where
-  module _ (q : Place) (e : gave q ≡ spotOf (firstSub rule 0xf7 s) s w) where
-    pub import-inside : q .start + q .len ≤ length s
-    import-inside = spot-in-area s (firstSub rule 0xf7 s) (first-finds rule 0xf7 s) w q e
-
-    -- the part is lent from its start on, k long
-    pub import-room : (k : ℕ) (m : ModuleAt) (x : ℕ) → k ≡ q .len → gives m x ≡ moduleAt (take k (drop (q .start) s)) (q .at) → q .start + m .words ≤ length s
-    import-room k m x ek g =
-        omega (arith, import-inside, module-next (take k (drop (q .start) s)) (q .at) m x g, length-take k (drop (q .start) s))
-
-    -- u is what stands there
-    pub import-at : (k : ℕ) (u : Answer ℕ ModuleAt Told) → k ≡ q .len → u ≡ moduleAt (take k (drop (q .start) s)) (q .at)
-        → shifted inArea (q .start) (q .len) u ≡ importStep rule s w
-    import-at k u ek eu = ap (shifted inArea (q .start) (q .len)) eu ∙ step-at moduleAt inArea (firstSub rule 0xf7 s) s w q k e ek
-
-  pub import-other : (x : Reply Place Told) → x ≡ spotOf (firstSub rule 0xf7 s) s w → readAt moduleAt inArea s x ≡ importStep rule s w
-  import-other x e = step-other moduleAt inArea (firstSub rule 0xf7 s) s w x e
+pub import-steps : (rule : ℕ → Sort) (s : List ℕ) (w : TableWalk) → Steps moduleAt inArea toldModule (firstSub rule 0xf7 s) s w (importStep rule s w)
+import-steps rule s w = steps moduleAt inArea toldModule (firstSub rule 0xf7 s) s w (first-finds rule 0xf7 s)
 
 -- ---- the theorems
 

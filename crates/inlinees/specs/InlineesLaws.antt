@@ -1,18 +1,18 @@
--- Laws of the inlinees of an area: a law for each way out of the code, the walk, and what the inlinees and their extra files are in the bytes.
+-- Laws of the inlinees of an area: a step, the walk, and what the inlinees and their extra files are in the bytes.
 use Prim.Native.Nat.{ℕ, _+_, _≤_}
 use mathlib.Core.Path.{_≡_, ap, _∙_}
 use mathlib.Core.List.{List}
 use native.Mathlib.Omega.{arith}
-use lib.ListN.{length, take, drop, length-take}
-use Rattle.walk.specs.Listing.{Listing, mapped, Answer, gives, Reply, gave, nothing, calls, replies}
+use lib.ListN.{length, take, drop}
+use Rattle.walk.specs.Listing.{Listing, mapped, gave, nothing, calls, replies}
 use Rattle.walk.specs.ListingLaws.{Every}
 use Rattle.refusal.specs.Told.{Told, longest}
 use Rattle.area.specs.Kind.{Sort}
 use Rattle.find.specs.Find.{same, firstSub, firstBytes}
-use Rattle.table.specs.Table.{Place, spotOf, shifted, readAt}
-use Rattle.table.specs.TableLaws.{spot-in-area, first-finds, step-other, table-walk}
+use Rattle.table.specs.StepLaws.{Steps, steps}
+use Rattle.table.specs.TableLaws.{first-finds, table-walk}
 use Rattle.table.specs.Whole.{ofBody}
-use Rattle.table.specs.WholeLaws.{step-read, table-every, table-means}
+use Rattle.table.specs.WholeLaws.{table-every, table-means}
 use Rattle.table.specs.declared.TableWalk.{TableWalk}
 use Rattle.table.specs.declared.TableWalk.the-variants as walk
 use Rattle.body.specs.Words.{wordsIn}
@@ -21,29 +21,14 @@ use Rattle.rows.specs.Collect.{ofNth}
 use Rattle.rows.specs.Words.{wordIn}
 use Rattle.rows.specs.WordsLaws.{words-part, word-of}
 use Rattle.inlinees.specs.Inlinees.{SourceLine, sourceLineAt, sourceLinesFrom, show, inlineeStep, inlineesIn, spelt, inlineesOf}
-use Rattle.inlinees.specs.SourceLineLaws.{line-lies, lines-step, In, lines-in, lines-mean}
+use Rattle.inlinees.specs.Told.{toldLine}
+use Rattle.inlinees.specs.SourceLineLaws.{lines-step, In, lines-in, lines-mean}
 
 -- ---- a walk over the inlinees of an area
 
-module _ (rule : ℕ → Sort) (s : List ℕ) (w : TableWalk) where
-  -- the part that is lent lies in the area
-  pub inlinee-spot : (q : Place) → gave q ≡ spotOf (firstSub rule 0xf6 s) s w → q .start + q .len ≤ length s
-  inlinee-spot q e = spot-in-area s (firstSub rule 0xf6 s) (first-finds rule 0xf6 s) w q e
-
-  -- and so does the place of an entry's extra files
-  pub inlinee-extra : (q : Place) (k : ℕ) (e : SourceLine) (x : ℕ) → gave q ≡ spotOf (firstSub rule 0xf6 s) s w
-      → gives e x ≡ sourceLineAt (take k (drop (q .start) s)) (q .at) → k ≡ q .len → q .start + e .extra ≤ length s
-  inlinee-extra q k e x h l ek =
-      omega (arith, inlinee-spot q h, line-lies (take k (drop (q .start) s)) (q .at) e x l, length-take k (drop (q .start) s))
-
-  pub inlinee-read : (q : Place) (k : ℕ) (u : Answer ℕ SourceLine Told) → gave q ≡ spotOf (firstSub rule 0xf6 s) s w
-      → u ≡ sourceLineAt (take k (drop (q .start) s)) (q .at) → k ≡ q .len → shifted show (q .start) (q .len) u ≡ inlineeStep rule s w
-  unfolding inlineeStep
-  inlinee-read = step-read sourceLineAt show (firstSub rule 0xf6 s) s w
-
-  pub inlinee-other : (x : Reply Place Told) → x ≡ spotOf (firstSub rule 0xf6 s) s w → readAt sourceLineAt show s x ≡ inlineeStep rule s w
-  unfolding inlineeStep
-  inlinee-other = step-other sourceLineAt show (firstSub rule 0xf6 s) s w
+pub inlinee-steps : (rule : ℕ → Sort) (s : List ℕ) (w : TableWalk) → Steps sourceLineAt show toldLine (firstSub rule 0xf6 s) s w (inlineeStep rule s w)
+unfolding inlineeStep
+inlinee-steps rule s w = steps sourceLineAt show toldLine (firstSub rule 0xf6 s) s w (first-finds rule 0xf6 s)
 
 -- THE WALK: n calls from a new walk on answer the inlinees in order, and then the end, or the same refusal, again and again
 pub inlinees-walk : (rule : ℕ → Sort) (s : List ℕ) (n : ℕ) → calls (inlineeStep rule s) n walk.New ≡ replies n (inlineesIn rule s)

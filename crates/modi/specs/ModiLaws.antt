@@ -1,8 +1,9 @@
 -- Laws of a module's stream: a law for each way out of the code, where a part lies, and calls on it.
-use Prim.Native.Nat.{ℕ, _+_, _<_, _≤_}
+use Prim.Native.Nat.{ℕ, _+_, _-_, _<_, _≤_}
 use mathlib.Core.Path.{_≡_, refl, sym, ap, _∙_, subst⁻¹}
 use mathlib.Core.List.{List, []}
 use native.Mathlib.Omega.{arith}
+use native.Mathlib.Nat.{add-sub-cancel-left}
 use lib.ListN.{length, take, drop}
 use lib.Dec.{ltb}
 use borrow.Author.Tests.{ltb-false}
@@ -13,10 +14,14 @@ use Rattle.walk.specs.ListingLaws.{calls-are}
 use Rattle.walk.specs.Pick.{orElse, mapReply}
 use Rattle.walk.specs.PickLaws.{Gives}
 use Rattle.refusal.specs.Told.{Told, told, longest}
+use Rattle.refusal.specs.declared.Refusal.{Refusal}
 use Rattle.refusal.specs.declared.Refusal.the-variants as why
 use Rattle.find.specs.Find.{same, Span, bytesAt}
 use Rattle.table.specs.Whole.{ofBody}
 use Rattle.modi.specs.declared.ModuleSizes.{ModuleSizes}
+use Rattle.modi.specs.declared.Part.{Part}
+use Rattle.modi.specs.declared.Part.the-variants as part
+use Rattle.modi.specs.Told.{toldPart}
 use Rattle.modi.specs.Modi.{moduleSymbols, moduleSpan, tablesSpan, linesSpan, tablesArea, linesArea, stepIn}
 
 module _ (z : ModuleSizes) (s : List ℕ) where
@@ -86,15 +91,17 @@ or-lies s (gave a) y hx hy = hx
 or-lies s nothing y hx hy = hy
 or-lies s (refused t) y hx hy = tt
 
-module _ (z : ModuleSizes) (s : List ℕ) (a : Span) where
-  pub span-in : gave a ≡ moduleSpan z s → a .start + a .len ≤ length s
-  span-in e = subst⁻¹ (Inside s) e (span-lies z s)
+pub span-in : (z : ModuleSizes) (s : List ℕ) (a : Span) → gave a ≡ moduleSpan z s → a .start + a .len ≤ length s
+span-in z s a e = subst⁻¹ (Inside s) e (span-lies z s)
 
-  pub tables-in : gave a ≡ tablesSpan z s → a .start + a .len ≤ length s
-  tables-in e = subst⁻¹ (Inside s) e (or-lies s (moduleSpan z s) (gave (record { start = 0; len = 0 })) (span-lies z s) (omega arith))
+-- as the code has it in hand: y is the answer that says where the part is
+module _ (z : ModuleSizes) (s : List ℕ) where
+  pub tables-in : {y : Part} {start len : ℕ} → y ≡ part.At start len → toldPart y ≡ tablesSpan z s → start + len ≤ length s
+  tables-in h e =
+      subst⁻¹ (Inside s) (ap toldPart (sym h) ∙ e) (or-lies s (moduleSpan z s) (gave (record { start = 0; len = 0 })) (span-lies z s) (omega arith))
 
-  pub lines-in : gave a ≡ linesSpan z s → a .start + a .len ≤ length s
-  lines-in e = subst⁻¹ (Inside s) e (or-lies s (moduleSpan z s) (refused (told why.OldFormat)) (span-lies z s) tt)
+  pub lines-in : {y : Part} {start len : ℕ} → y ≡ part.At start len → toldPart y ≡ linesSpan z s → start + len ≤ length s
+  lines-in h e = subst⁻¹ (Inside s) (ap toldPart (sym h) ∙ e) (or-lies s (moduleSpan z s) (refused (told why.OldFormat)) (span-lies z s) tt)
 
 -- ---- `tables_part` and `lines_part`: x is what `module_area` answers
 
@@ -121,15 +128,17 @@ module _ (z : ModuleSizes) (s : List ℕ) (h₀ : length s ≤ longest) where
   pub lines-c11 : 0 < z .c11 → refused (told why.OldFormat) ≡ linesArea z s
   lines-c11 h = ap (mapReply (bytesAt s) same) (lines-of z s _ (span-c11 z s h₀ h))
 
--- ---- a call on a part: x is where the part is, g what the call makes of its bytes
+-- ---- THE LAW of every call on a part: y is the answer that says where the part is, and g what the call makes of its bytes. The part is lent from
+-- its start on
 
 module _ {A : Type 0} (g : Reply (List ℕ) Told → A) (s : List ℕ) (x : Reply Span Told) where
-  -- the part is lent from its start on, k long
-  pub of-part : (a : Span) (k : ℕ) → gave a ≡ x → k ≡ a .len → g (gave (take k (drop (a .start) s))) ≡ g (mapReply (bytesAt s) same x)
-  of-part a k e ek = ap (λ (j : ℕ). g (gave (take j (drop (a .start) s)))) ek ∙ ap (λ (y : Reply Span Told). g (mapReply (bytesAt s) same y)) e
+  pub of-part : {y : Part} {start len : ℕ} → y ≡ part.At start len → toldPart y ≡ x → g (gave (take (start + len - start) (drop start s))) ≡ g (mapReply (bytesAt s) same x)
+  of-part {y} {start} {len} h e =
+      ap (λ (k : ℕ). g (gave (take k (drop start s)))) (add-sub-cancel-left start len)
+      ∙ ap (λ (v : Reply Span Told). g (mapReply (bytesAt s) same v)) (ap toldPart (sym h) ∙ e)
 
-  pub of-other : (y : Reply Span Told) → y ≡ x → g (mapReply (bytesAt s) same y) ≡ g (mapReply (bytesAt s) same x)
-  of-other y e = ap (λ (v : Reply Span Told). g (mapReply (bytesAt s) same v)) e
+  pub of-refused : {y : Part} {r : Refusal} → y ≡ part.Refused r → toldPart y ≡ x → g (refused (told r)) ≡ g (mapReply (bytesAt s) same x)
+  of-refused h e = ap (λ (v : Reply Span Told). g (mapReply (bytesAt s) same v)) (ap toldPart (sym h) ∙ e)
 
 -- ---- the walk of a module's table is the walk of its area's: `right` says so of each area
 

@@ -61,26 +61,6 @@ pub spot-lies : (s : List ℕ) (f : Reply Span Told) → Finds s f → (w : Tabl
 spot-lies s f h walk.New = new-inside s f h
 spot-lies s f h (walk.In start len at) = in-inside s start len at
 
--- what a caller lends lies in the area
-pub spot-in-area : (s : List ℕ) (f : Reply Span Told) → Finds s f → (w : TableWalk) (q : Place) → gave q ≡ spotOf f s w → q .start + q .len ≤ length s
-spot-in-area s f h w q e = subst⁻¹ (Inside s) e (spot-lies s f h w) .0
-
--- and the area is not too long
-pub spot-short : (s : List ℕ) (f : Reply Span Told) → Finds s f → (w : TableWalk) (q : Place) → gave q ≡ spotOf f s w → length s ≤ longest
-spot-short s f h w q e = subst⁻¹ (Inside s) e (spot-lies s f h w) .1
-
--- ---- a step, read off the spot that the code was given
-
-module _ {B C : Type 0} (step : List ℕ → ℕ → Answer ℕ B Told) (show : ℕ → B → C) (f : Reply Span Told) (s : List ℕ) (w : TableWalk) where
-  -- the part is lent from its start on, k long
-  pub step-at : (q : Place) (k : ℕ) → gave q ≡ spotOf f s w → k ≡ q .len
-      → shifted show (q .start) (q .len) (step (take k (drop (q .start) s)) (q .at)) ≡ tableStep step show f s w
-  step-at q k e ek =
-      ap (λ (j : ℕ). shifted show (q .start) (q .len) (step (take j (drop (q .start) s)) (q .at))) ek ∙ ap (readAt step show s) e
-
-  pub step-other : (x : Reply Place Told) → x ≡ spotOf f s w → readAt step show s x ≡ tableStep step show f s w
-  step-other x e = ap (readAt step show s) e
-
 -- ---- the walk is the table
 
 module _ {B C : Type 0} (step : List ℕ → ℕ → Answer ℕ B Told) (show : ℕ → B → C) (list : List ℕ → ℕ → Listing B Told)

@@ -1,27 +1,18 @@
--- Laws of tables that a step with places makes: a step read off the part that the code lends, and the records spelt out of the area, which are
--- those spelt out of the body alone.
+-- Laws of tables that a step with places makes: the records spelt out of the area are those spelt out of the body alone.
 use Prim.Native.Nat.{ℕ, _+_, _≤_}
-use mathlib.Core.Path.{_≡_, refl, ap, _∙_, subst}
+use mathlib.Core.Path.{_≡_, refl, subst}
 use mathlib.Core.List.{List}
 use lib.ListN.{length, take, drop, length-drop}
 use lib.Seq.{length-take-le}
 use native.Mathlib.Omega.{arith}
-use Rattle.walk.specs.Listing.{Listing, more, ends, fails, mapped, Answer, Reply, gave, nothing, refused}
+use Rattle.walk.specs.Listing.{Listing, more, ends, fails, mapped, Reply, gave, nothing, refused}
 use Rattle.walk.specs.ListingLaws.{Every}
 use Rattle.walk.specs.Pick.{mapReply}
 use Rattle.refusal.specs.Told.{Told, longest}
 use Rattle.find.specs.Find.{same, Span, bytesAt}
-use Rattle.table.specs.Table.{Place, spotOf, shifted, tableStep, tableOf}
-use Rattle.table.specs.TableLaws.{Finds, step-at}
+use Rattle.table.specs.Table.{tableOf}
+use Rattle.table.specs.TableLaws.{Finds}
 use Rattle.table.specs.Whole.{ofBody}
-use Rattle.table.specs.declared.TableWalk.{TableWalk}
-
--- ---- a step: u is what the code was answered in the part, which is lent k long
-
-module _ {B C : Type 0} (step : List ℕ → ℕ → Answer ℕ B Told) (show : ℕ → B → C) (f : Reply Span Told) (s : List ℕ) (w : TableWalk) where
-  pub step-read : (q : Place) (k : ℕ) (u : Answer ℕ B Told) → gave q ≡ spotOf f s w → u ≡ step (take k (drop (q .start) s)) (q .at) → k ≡ q .len
-      → shifted show (q .start) (q .len) u ≡ tableStep step show f s w
-  step-read q k u e eu ek = ap (shifted show (q .start) (q .len)) eu ∙ step-at step show f s w q k e ek
 
 -- ---- what holds of each record
 

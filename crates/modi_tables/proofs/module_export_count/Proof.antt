@@ -2,27 +2,13 @@
 -- Assumes nothing.
 use borrow.Author.Needs.{needs}
 use native.Mathlib.Omega.{arith}
-use native.Mathlib.Nat.{add-sub-cancel-left}
-use mathlib.Core.Path.{sym, ap, _∙_}
+use mathlib.Core.Path.{_∙_}
 use Rattle.area.specs.Kind.{ruled}
 use Rattle.rows.specs.Collect.{onGave}
 use Rattle.exports.specs.Exports.{exportCount}
-use Rattle.modi.specs.Told.{toldPart}
-use Rattle.modi.specs.ModiLaws.{tables-in, of-part, of-other}
+use Rattle.modi.specs.ModiLaws.{tables-in, of-part, of-refused}
 use Rattle.modi_tables.proofs.module_export_count.Statement.{statement}
 use Rattle.modi_tables.proofs.module_export_count.Tie as tie
-
-returns : tie.Need-returns
-returns c =
-    let q = c .before .before .before in
-    let p = q .before .before in
-    c .export-count .ensures
-    ∙ of-part (onGave (exportCount ruled)) _ _ _ _ (ap toldPart (sym (q .start .given .1)) ∙ p .tables-part .ensures) (add-sub-cancel-left _ _)
-
-returns-2 : tie.Need-returns-2
-returns-2 c =
-    let p = c .before .before .before in
-    of-other (onGave (exportCount ruled)) _ _ _ (ap toldPart (sym (c .before .why .given .1)) ∙ p .tables-part .ensures)
 
 pub module-export-count-spec : {M : Type 1} → statement M
 module-export-count-spec =
@@ -30,11 +16,11 @@ module-export-count-spec =
     (tie.spec
     (λ c κs. search needs)
     (λ c. search needs)
-    (λ c. omega (arith, tables-in _ _ _ (ap toldPart (sym (c .before .start .given .1)) ∙ c .before .before .before .tables-part .ensures)))
+    (λ c. omega (arith, tables-in _ _ (c .before .start .given .1) (c .before .before .before .tables-part .ensures)))
     (λ c. search needs)
     (λ c. search needs)
-    (λ c. omega (arith, tables-in _ _ _ (ap toldPart (sym (c .before .start .given .1)) ∙ c .before .before .before .tables-part .ensures)))
+    (λ c. omega (arith, tables-in _ _ (c .before .start .given .1) (c .before .before .before .tables-part .ensures)))
     (λ c κs. search needs)
     (λ c. search needs)
-    returns
-    returns-2)
+    (λ c. let q = c .before .before .before in let p = q .before .before in c .export-count .ensures ∙ of-part (onGave (exportCount ruled)) _ _ (q .start .given .1) (p .tables-part .ensures))
+    (λ c. let p = c .before .before .before in of-refused (onGave (exportCount ruled)) _ _ (c .before .why .given .1) (p .tables-part .ensures)))

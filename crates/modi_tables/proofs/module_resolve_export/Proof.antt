@@ -4,29 +4,13 @@ use borrow.Author.Needs.{needs}
 use Prim.Native.Nat.{ℕ}
 use mathlib.Core.List.{List}
 use native.Mathlib.Omega.{arith}
-use native.Mathlib.Nat.{add-sub-cancel-left}
-use mathlib.Core.Path.{sym, ap, _∙_}
+use mathlib.Core.Path.{_∙_}
 use Rattle.area.specs.Kind.{ruled}
 use Rattle.rows.specs.Collect.{onGave}
 use Rattle.exports.specs.Exports.{resolveExport}
-use Rattle.modi.specs.Told.{toldPart}
-use Rattle.modi.specs.ModiLaws.{tables-in, of-part, of-other}
+use Rattle.modi.specs.ModiLaws.{tables-in, of-part, of-refused}
 use Rattle.modi_tables.proofs.module_resolve_export.Statement.{statement}
 use Rattle.modi_tables.proofs.module_resolve_export.Tie as tie
-
-returns : tie.Need-returns
-returns c =
-    let q = c .before .before .before in
-    let p = q .before .before in
-    let m = p .before .before .args in
-    c .resolve-export .ensures
-    ∙ of-part (onGave (λ (a : List ℕ). resolveExport ruled a (m .local))) _ _ _ _ (ap toldPart (sym (q .start .given .1)) ∙ p .tables-part .ensures) (add-sub-cancel-left _ _)
-
-returns-2 : tie.Need-returns-2
-returns-2 c =
-    let p = c .before .before .before in
-    let m = p .before .before .args in
-    of-other (onGave (λ (a : List ℕ). resolveExport ruled a (m .local))) _ _ _ (ap toldPart (sym (c .before .why .given .1)) ∙ p .tables-part .ensures)
 
 pub module-resolve-export-spec : {M : Type 1} → statement M
 module-resolve-export-spec =
@@ -34,11 +18,11 @@ module-resolve-export-spec =
     (tie.spec
     (λ c κs. search needs)
     (λ c. search needs)
-    (λ c. omega (arith, tables-in _ _ _ (ap toldPart (sym (c .before .start .given .1)) ∙ c .before .before .before .tables-part .ensures)))
+    (λ c. omega (arith, tables-in _ _ (c .before .start .given .1) (c .before .before .before .tables-part .ensures)))
     (λ c. search needs)
     (λ c. search needs)
-    (λ c. omega (arith, tables-in _ _ _ (ap toldPart (sym (c .before .start .given .1)) ∙ c .before .before .before .tables-part .ensures)))
+    (λ c. omega (arith, tables-in _ _ (c .before .start .given .1) (c .before .before .before .tables-part .ensures)))
     (λ c κs. search needs)
     (λ c. search needs)
-    returns
-    returns-2)
+    (λ c. let q = c .before .before .before in let p = q .before .before in let m = p .before .before .args in c .resolve-export .ensures ∙ of-part (onGave (λ (a : List ℕ). resolveExport ruled a (m .local))) _ _ (q .start .given .1) (p .tables-part .ensures))
+    (λ c. let p = c .before .before .before in let m = p .before .before .args in of-refused (onGave (λ (a : List ℕ). resolveExport ruled a (m .local))) _ _ (c .before .why .given .1) (p .tables-part .ensures)))
