@@ -17,7 +17,8 @@ use Rattle.lines.specs.Lines.{countLines}
 use Rattle.files.specs.Files.{File, filesIn, spelt}
 use Rattle.records.specs.Meaning.{areaRecords}
 use Rattle.text.specs.Text.{joined}
-use Rattle.printed.specs.Printed.{Pieces, headLine, subLine, fileLine, recordLine, endLine, refusedLine}
+use Rattle.printed.specs.Printed.{Pieces, headLine, subLine, fileLine, endLine, refusedLine}
+use Rattle.line_text.specs.LineText.{recordLine}
 
 abbrev pub mostBytes : ℕ
 mostBytes = 65536

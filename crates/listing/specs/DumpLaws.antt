@@ -37,7 +37,8 @@ use Rattle.records.specs.Next.{todo, nextOf}
 use Rattle.records.specs.NextLaws.{falls}
 use Rattle.records.specs.WalkLaws.{walk-is}
 use Rattle.text.specs.Text.{joined}
-use Rattle.printed.specs.Printed.{Pieces, headLine, recordLine, endLine}
+use Rattle.printed.specs.Printed.{Pieces, headLine, endLine}
+use Rattle.line_text.specs.LineText.{recordLine}
 use Rattle.listing.specs.Dump.{mostBytes, subRow, fileRow, refusal, closing, linesOf, bytesOf, textOf, Room, spoken, size}
 use Rattle.listing.specs.Step.{Line, stage, linesStep, filesStep, subsStep, headStep, stepOf}
 use Rattle.listing.specs.RoomLaws.{room-taken}

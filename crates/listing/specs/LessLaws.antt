@@ -31,7 +31,8 @@ use Rattle.turns.specs.declared.LineWalk.the-variants as line
 use Rattle.records.specs.Next.{todo, nextOf}
 use Rattle.records.specs.NextLaws.{falls}
 use Rattle.text.specs.Text.{joined}
-use Rattle.printed.specs.Printed.{Pieces, longestLine, recordLine, endLine}
+use Rattle.printed.specs.Printed.{Pieces, longestLine, endLine}
+use Rattle.line_text.specs.LineText.{recordLine}
 use Rattle.listing.specs.Dump.{mostBytes, subRow, fileRow}
 use Rattle.listing.specs.Step.{Line, stage, linesStep, filesStep, subsStep, headStep, stepOf, Both, both, shown, stepIn}
 use Rattle.listing.specs.Told.{toldText}

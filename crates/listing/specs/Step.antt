@@ -20,7 +20,8 @@ use Rattle.turns.specs.declared.LineWalk.{LineWalk}
 use Rattle.turns.specs.declared.LineWalk.the-variants as line
 use Rattle.records.specs.Next.{nextOf}
 use Rattle.text.specs.Text.{joined, Next, at, full}
-use Rattle.printed.specs.Printed.{Pieces, longestLine, headLine, recordLine, endLine}
+use Rattle.printed.specs.Printed.{Pieces, longestLine, headLine, endLine}
+use Rattle.line_text.specs.LineText.{recordLine}
 use Rattle.listing.specs.Dump.{mostBytes, subRow, fileRow, refusal}
 use Rattle.listing.specs.declared.TextWalk.{TextWalk}
 use Rattle.listing.specs.declared.TextWalk.the-variants.{Head, Subs, Files, Lines, Done}

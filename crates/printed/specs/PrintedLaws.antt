@@ -11,14 +11,7 @@ use Rattle.text.specs.TextLaws.{length-below, hex-length}
 use Rattle.refusal.specs.Told.{told, numberOf}
 use Rattle.refusal.specs.declared.Refusal.{Refusal}
 use Rattle.refusal.specs.declared.Refusal.the-variants as why
-use Rattle.line_record.specs.declared.Length.{Length}
-use Rattle.line_record.specs.declared.Length.the-variants.{Unset, Is}
-use Rattle.line_record.specs.declared.Column.{Column}
-use Rattle.line_record.specs.declared.Column.the-variants as column
-use Rattle.line_record.specs.declared.LineKind.{LineKind}
-use Rattle.line_record.specs.declared.LineKind.the-variants.{Expression, Statement}
-use Rattle.line_record.specs.declared.LineRecord.{LineRecord}
-use Rattle.printed.specs.Printed.{longestLine, headLine, subLine, wordOf, bytesText, fileLine, lengthText, sideText, kindText, recordLine, endLine, refusedLine}
+use Rattle.printed.specs.Printed.{longestLine, headLine, subLine, wordOf, bytesText, fileLine, endLine, refusedLine}
 
 pub bytes-none : (bytes : List ℕ) → length bytes ≡ 0 → ascii "-" ≡ bytesText bytes
 unfolding bytesText
@@ -37,10 +30,10 @@ refused-is p q n m e f = e ∙ ap (λ (k : ℕ). writtenAll (refusedLine k) p) f
 abbrev pub Short : ℕ → Type 0
 Short n = n < 18446744073709551616
 
-decimal-short : (n : ℕ) → Short n → length (decimal n) ≤ 20
+pub decimal-short : (n : ℕ) → Short n → length (decimal n) ≤ 20
 decimal-short n h = length-below 10 (omega arith) 19 n (omega arith)
 
-hex-short : (n : ℕ) → Short n → length (hex n) ≤ 16
+pub hex-short : (n : ℕ) → Short n → length (hex n) ≤ 16
 hex-short n h = length-below 16 (omega arith) 15 n (omega arith)
 
 pub head-fits : (len : ℕ) → Short len → length (joined (headLine len)) ≤ longestLine
@@ -68,50 +61,6 @@ pub file-fits : (at name kind : ℕ) (bytes : List ℕ) → Short at → Short n
 unfolding ascii
 file-fits at name kind bytes h g l =
     simp length-append (omega (arith, decimal-short at h, decimal-short name g, word-short kind, bytes-short bytes l))
-
-abbrev pub ShortLength : Length → Type 0
-ShortLength Unset = Unit {0}
-ShortLength (Is n) = Short n
-
-abbrev pub ShortColumn : Column → Type 0
-ShortColumn column.None = Unit {0}
-ShortColumn (column.At n) = Short n
-
-abbrev pub ShortRecord : LineRecord → Type 0
-ShortRecord r =
-    Short (r .section) × Short (r .offset) × ShortLength (r .length) × Short (r .file) × Short (r .«start_line») × Short (r .«end_line»)
-    × ShortColumn (r .«column_start») × ShortColumn (r .«column_end»)
-
-length-short : (l : Length) → ShortLength l → length (lengthText l) ≤ 20
-unfolding ascii
-length-short Unset h = omega arith
-length-short (Is n) h = decimal-short n h
-
-side-short : (c : Column) → ShortColumn c → length (sideText c) ≤ 20
-side-short column.None h = omega arith
-side-short (column.At n) h = decimal-short n h
-
-kind-short : (k : LineKind) → length (kindText k) ≤ 4
-unfolding ascii
-kind-short Statement = omega arith
-kind-short Expression = omega arith
-
-pub record-fits : (r : LineRecord) → ShortRecord r → length (joined (recordLine r)) ≤ longestLine
-unfolding ascii
-record-fits r h =
-    simp length-append
-    (omega (
-      arith,
-      decimal-short (r .section) (h .0),
-      hex-short (r .offset) (h .1),
-      length-short (r .length) (h .2),
-      decimal-short (r .file) (h .3),
-      decimal-short (r .«start_line») (h .4),
-      decimal-short (r .«end_line») (h .5),
-      side-short (r .«column_start») (h .6),
-      side-short (r .«column_end») (h .7),
-      kind-short (r .kind),
-    ))
 
 pub end-fits : length (joined endLine) ≤ longestLine
 unfolding ascii
@@ -144,18 +93,12 @@ refused-fits w = simp length-append (omega (arith, decimal-short (numberOf (told
 
 -- ---- the lines of document 01's example
 
-abbrev lineOf : Length → Column → Column → LineKind → LineRecord
-lineOf l a b k =
-    record { section = 1; offset = 0x1000; length = l; file = 0; «start_line» = 10; «end_line» = 10; «column_start» = a; «column_end» = b; kind = k }
-
 pub example : (joined (headLine 80) ≡ ascii "c13 80 bytes\n")
     × (joined (subLine 0xf4 24) ≡ ascii "sub f4 24\n")
     × (joined (fileLine 0 1 1 (0 ∷ 1 ∷ 2 ∷ 3 ∷ 4 ∷ 5 ∷ 6 ∷ 7 ∷ 8 ∷ 9 ∷ 10 ∷ 11 ∷ 12 ∷ 13 ∷ 14 ∷ 15 ∷ []))
     ≡ ascii "file 0 name 1 md5 000102030405060708090a0b0c0d0e0f\n")
-    × (joined (recordLine (lineOf (Is 8) column.None column.None Statement)) ≡ ascii "line 1:1000 len 8 file 0 10-10 - st\n")
-    × (joined (recordLine (lineOf Unset (column.At 3) (column.At 7) Expression)) ≡ ascii "line 1:1000 len - file 0 10-10 3-7 ex\n")
     × (joined (fileLine 24 1 0 []) ≡ ascii "file 24 name 1 none -\n")
     × (joined endLine ≡ ascii "end\n")
     × (joined (refusedLine 11) ≡ ascii "refused 11\n")
 unfolding ascii numeral numeralIn glyph hexBytes bytesText
-example = (refl, refl, refl, refl, refl, refl, refl, refl)
+example = (refl, refl, refl, refl, refl, refl)

@@ -1,11 +1,11 @@
--- `printed::put_address` meets its contract: its pieces one after the other.
+-- `line_text::put_address` meets its contract: its pieces one after the other.
 -- Assumes nothing.
 use borrow.Author.Needs.{needs}
 use native.Mathlib.Omega.{arith}
 use Rattle.text.specs.Text.{ascii}
 use Rattle.text.specs.PageLaws.{and-one}
-use Rattle.printed.proofs.put_address.Statement.{statement}
-use Rattle.printed.proofs.put_address.Tie as tie
+use Rattle.line_text.proofs.put_address.Statement.{statement}
+use Rattle.line_text.proofs.put_address.Tie as tie
 
 returns : tie.Need-returns
 unfolding ascii

@@ -1,13 +1,13 @@
--- `printed::put_kind` meets its contract: each kind has its word.
+-- `line_text::put_kind` meets its contract: each kind has its word.
 -- Assumes nothing.
 use borrow.Author.Needs.{needs}
 use mathlib.Core.Path.{sym, ap}
 use Rattle.text.specs.Text.{ascii}
 use Rattle.text.specs.PageLaws.{same-text}
 use Rattle.line_record.specs.declared.LineKind.{LineKind}
-use Rattle.printed.specs.Printed.{kindText}
-use Rattle.printed.proofs.put_kind.Statement.{statement}
-use Rattle.printed.proofs.put_kind.Tie as tie
+use Rattle.line_text.specs.LineText.{kindText}
+use Rattle.line_text.proofs.put_kind.Statement.{statement}
+use Rattle.line_text.proofs.put_kind.Tie as tie
 
 returns : tie.Need-returns
 unfolding ascii

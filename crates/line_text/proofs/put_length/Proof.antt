@@ -1,4 +1,4 @@
--- `printed::put_length` meets its contract: the number, if there is one.
+-- `line_text::put_length` meets its contract: the number, if there is one.
 -- Assumes nothing.
 use borrow.Author.Needs.{needs}
 use native.Mathlib.Omega.{arith}
@@ -6,10 +6,10 @@ use mathlib.Core.Path.{sym, ap, subst}
 use Rattle.text.specs.Text.{ascii}
 use Rattle.text.specs.PageLaws.{same-text}
 use Rattle.line_record.specs.declared.Length.{Length}
-use Rattle.printed.specs.PrintedLaws.{ShortLength}
-use Rattle.printed.specs.Printed.{lengthText}
-use Rattle.printed.proofs.put_length.Statement.{statement}
-use Rattle.printed.proofs.put_length.Tie as tie
+use Rattle.line_text.specs.LineTextLaws.{ShortLength}
+use Rattle.line_text.specs.LineText.{lengthText}
+use Rattle.line_text.proofs.put_length.Statement.{statement}
+use Rattle.line_text.proofs.put_length.Tie as tie
 
 returns : tie.Need-returns
 unfolding ascii

@@ -1,11 +1,11 @@
--- `printed::put_record` meets its contract: its pieces one after the other.
+-- `line_text::put_record` meets its contract: its pieces one after the other.
 -- Assumes nothing.
 use borrow.Author.Needs.{needs}
 use Rattle.text.specs.Text.{ascii}
 use Rattle.text.specs.PageLaws.{and-one, and-all}
-use Rattle.printed.specs.PrintedLaws.{record-fits}
-use Rattle.printed.proofs.put_record.Statement.{statement}
-use Rattle.printed.proofs.put_record.Tie as tie
+use Rattle.line_text.specs.LineTextLaws.{record-fits}
+use Rattle.line_text.proofs.put_record.Statement.{statement}
+use Rattle.line_text.proofs.put_record.Tie as tie
 
 returns : tie.Need-returns
 unfolding ascii

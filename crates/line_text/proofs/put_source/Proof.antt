@@ -1,11 +1,11 @@
--- `printed::put_source` meets its contract: its pieces one after the other.
+-- `line_text::put_source` meets its contract: its pieces one after the other.
 -- Assumes nothing.
 use borrow.Author.Needs.{needs}
 use native.Mathlib.Omega.{arith}
 use Rattle.text.specs.Text.{ascii}
 use Rattle.text.specs.PageLaws.{and-all}
-use Rattle.printed.proofs.put_source.Statement.{statement}
-use Rattle.printed.proofs.put_source.Tie as tie
+use Rattle.line_text.proofs.put_source.Statement.{statement}
+use Rattle.line_text.proofs.put_source.Tie as tie
 
 returns : tie.Need-returns
 unfolding ascii
