@@ -11,9 +11,10 @@ use Rattle.refusal.specs.Told.{Told}
 use Rattle.area.specs.Kind.{ruled}
 use Rattle.given.specs.Given.{given, Gives, stepGiven}
 use Rattle.given.specs.GivenLaws.{gives-put, gives-as, room-changes, room-keeps}
+use Rattle.given.specs.PiecesLaws.{put-join}
 use Rattle.turns.specs.declared.LineWalk.{LineWalk}
 use Rattle.line_words.specs.LineWords.{lineWalkIn, lineWalkWords}
-use Rattle.line_words.specs.LineWordsLaws.{walk-length, put-join}
+use Rattle.line_words.specs.LineWordsLaws.{walk-length}
 use Rattle.many_lines.specs.Lines.{linesOf, counted, filled}
 use Rattle.export_many.specs.Lines.{countWords, linesGiven, recordsLeft}
 

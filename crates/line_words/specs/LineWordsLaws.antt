@@ -1,12 +1,10 @@
 -- Laws of a line walk in words: reading its state, and putting it piece by piece.
 use Prim.Native.Nat.{ℕ, _+_, _≤_}
 use mathlib.Core.Path.{_≡_, refl, sym, ap, _∙_}
-use mathlib.Core.List.{List, [], _∷_, _++_, append-assoc}
+use mathlib.Core.List.{List, [], _∷_, _++_}
 use native.Mathlib.Omega.{arith}
-use native.Mathlib.Nat.{add-assoc}
-use lib.ListN.{length, getD, take, drop, length-append}
-use lib.Seq.{length-take-le, take-at, drop-drop, drop-append-add}
-use borrow.Author.Tests.{le-leb, eq-eqb, ne-eqb}
+use lib.ListN.{length, getD, length-append}
+use borrow.Author.Tests.{eq-eqb, ne-eqb}
 use Rattle.line_record.specs.declared.Length.{Length}
 use Rattle.line_record.specs.declared.Length.the-variants as len
 use Rattle.line_record.specs.declared.Column.{Column}
@@ -20,8 +18,6 @@ use Rattle.turns.specs.declared.LineWalk.{LineWalk}
 use Rattle.turns.specs.declared.LineWalk.the-variants as walk
 use Rattle.word.specs.Word.{put, store}
 use Rattle.word.specs.WordLaws.{store-put}
-use Rattle.given.specs.Given.{given, Gives}
-use Rattle.given.specs.GivenLaws.{gives-put}
 use Rattle.line_words.specs.LineWords.{lengthWords, columnWords, kindWord, recordWords, heldWords, restWords, lineWalkWords, lineWords, recordIn, heldIn, restIn, placeIn, lineWalkIn}
 
 -- ---- read back
@@ -87,45 +83,6 @@ pub record-words : (r : LineRecord) {l₀ l₁ s₀ s₁ e₀ e₁ k : ℕ} → 
 record-words r l s e k =
     λ i. r .section ∷ r .offset ∷ (l i ++ (r .file ∷ r .«start_line» ∷ r .«end_line» ∷ (s i ++ (e i ++ (k i ∷ [])))))
 
--- a put that fits
-pub gives-is : {o left : List ℕ} {r : ℕ} (status at : ℕ) (ws : List ℕ) → Gives o (given status at ws) r left → at + length ws ≤ length o → left ≡ put o at ws
-unfolding store
-gives-is {o} status at ws h l = h .words ∙ rw (le-leb (at + length ws) (length o) l)
-
 -- a record that fits
 pub record-is : (o left : List ℕ) (at : ℕ) (r : LineRecord) → left ≡ store o at (recordWords r) → at + 12 ≤ length o → left ≡ put o at (recordWords r)
 record-is o left at r e h = e ∙ sym (store-put o at (recordWords r) 12 (record-length r) h)
-
--- a piece behind a piece
-module _ (o : List ℕ) (at : ℕ) (a b : List ℕ) (fits : at + length a ≤ length o) where
-  front : length (take at o ++ a) ≡ at + length a
-  front = length-append (take at o) a ∙ ap (λ (k : ℕ). k + length a) (length-take-le at o (omega arith))
-
-  shape : put o at a ≡ (take at o ++ a) ++ drop (at + length a) o
-  shape = sym (append-assoc (take at o) a (drop (at + length a) o))
-
-  taken : take (at + length a) (put o at a) ≡ take at o ++ a
-  taken = ap (take (at + length a)) shape ∙ take-at (take at o ++ a) (drop (at + length a) o) (at + length a) front
-
-  dropped : (n : ℕ) → drop (at + length a + n) (put o at a) ≡ drop (at + length a + n) o
-  dropped n =
-      ap (drop (at + length a + n)) shape
-      ∙ ap (λ (k : ℕ). drop (k + n) ((take at o ++ a) ++ drop (at + length a) o)) (sym front)
-      ∙ drop-append-add (take at o ++ a) (drop (at + length a) o) n
-      ∙ drop-drop n (at + length a) o
-
-  pub put-join : put (put o at a) (at + length a) b ≡ put o at (a ++ b)
-  put-join =
-      ap (λ (l : List ℕ). l ++ (b ++ drop (at + length a + length b) (put o at a))) taken
-      ∙ ap (λ (l : List ℕ). (take at o ++ a) ++ (b ++ l)) (dropped (length b))
-      ∙ append-assoc (take at o) a (b ++ drop (at + length a + length b) o)
-      ∙ ap (λ (l : List ℕ). take at o ++ l) (sym (append-assoc a b (drop (at + length a + length b) o)))
-      ∙ ap (λ (k : ℕ). take at o ++ ((a ++ b) ++ drop k o)) (add-assoc at (length a) (length b) ∙ ap (λ (k : ℕ). at + k) (sym (length-append a b)))
-
-pub two-pieces : (o o′ o″ : List ℕ) (at n : ℕ) (a b : List ℕ) → o′ ≡ put o at a → o″ ≡ put o′ n b → n ≡ at + length a → at + length a ≤ length o → o″ ≡ put o at (a ++ b)
-two-pieces o o′ o″ at n a b e q m fits =
-    q ∙ (λ i. put (e i) (m i) b) ∙ put-join o at a b fits
-
--- all pieces together are the answer
-pub gives-pieces : (o left ws : List ℕ) → left ≡ put o 0 ws → length ws ≤ length o → Gives o (given 1 0 ws) 1 left
-gives-pieces o left ws e fits = rw e (gives-put o (given 1 0 ws) (omega arith))

@@ -7,7 +7,8 @@ use mathlib.Core.Path.{refl, sym, ap, _∙_}
 use Rattle.turns.specs.declared.Held.{Held}
 use Rattle.word.specs.Word.{put}
 use Rattle.line_words.specs.LineWords.{recordWords, heldWords}
-use Rattle.line_words.specs.LineWordsLaws.{gives-is, record-is, two-pieces}
+use Rattle.given.specs.PiecesLaws.{gives-is, two-pieces}
+use Rattle.line_words.specs.LineWordsLaws.{record-is}
 use Rattle.line_words.proofs.put_held.Statement.{statement}
 use Rattle.line_words.proofs.put_held.Tie as tie
 

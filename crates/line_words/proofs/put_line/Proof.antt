@@ -4,7 +4,8 @@ use borrow.Author.Needs.{needs}
 use native.Mathlib.Omega.{arith}
 use Rattle.given.specs.GivenLaws.{gives-short}
 use Rattle.line_words.specs.LineWords.{recordWords, lineWalkWords, lineWords}
-use Rattle.line_words.specs.LineWordsLaws.{record-is, two-pieces, gives-pieces, walk-length, line-length}
+use Rattle.given.specs.PiecesLaws.{two-pieces, gives-pieces}
+use Rattle.line_words.specs.LineWordsLaws.{record-is, walk-length, line-length}
 use Rattle.line_words.proofs.put_line.Statement.{statement}
 use Rattle.line_words.proofs.put_line.Tie as tie
 

@@ -4,7 +4,8 @@ use borrow.Author.Needs.{needs}
 use native.Mathlib.Omega.{arith}
 use Rattle.given.specs.GivenLaws.{gives-short}
 use Rattle.line_words.specs.LineWords.{lineWalkWords}
-use Rattle.line_words.specs.LineWordsLaws.{gives-pieces, walk-length}
+use Rattle.given.specs.PiecesLaws.{gives-pieces}
+use Rattle.line_words.specs.LineWordsLaws.{walk-length}
 use Rattle.line_words.proofs.put_line_walk.Statement.{statement}
 use Rattle.line_words.proofs.put_line_walk.Tie as tie
 

@@ -2,7 +2,7 @@
 -- Assumes nothing.
 use borrow.Author.Needs.{needs}
 use native.Mathlib.Omega.{arith}
-use Rattle.line_words.specs.LineWordsLaws.{gives-is}
+use Rattle.given.specs.PiecesLaws.{gives-is}
 use Rattle.line_words.proofs.put_place.Statement.{statement}
 use Rattle.line_words.proofs.put_place.Tie as tie
 

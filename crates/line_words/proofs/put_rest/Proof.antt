@@ -5,7 +5,7 @@ use native.Mathlib.Omega.{arith}
 use mathlib.Core.List.{[], _∷_}
 use mathlib.Core.Path.{refl}
 use Rattle.line_words.specs.LineWords.{heldWords}
-use Rattle.line_words.specs.LineWordsLaws.{gives-is, two-pieces}
+use Rattle.given.specs.PiecesLaws.{gives-is, two-pieces}
 use Rattle.line_words.proofs.put_rest.Statement.{statement}
 use Rattle.line_words.proofs.put_rest.Tie as tie
 

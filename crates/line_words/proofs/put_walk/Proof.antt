@@ -7,7 +7,8 @@ use mathlib.Core.Path.{sym, ap, _∙_}
 use Rattle.turns.specs.declared.LineWalk.{LineWalk}
 use Rattle.word.specs.Word.{put}
 use Rattle.line_words.specs.LineWords.{restWords, placeWords, noPlace, lineWalkWords}
-use Rattle.line_words.specs.LineWordsLaws.{gives-is, two-pieces, rest-length}
+use Rattle.given.specs.PiecesLaws.{gives-is, two-pieces}
+use Rattle.line_words.specs.LineWordsLaws.{rest-length}
 use Rattle.line_words.proofs.put_walk.Statement.{statement}
 use Rattle.line_words.proofs.put_walk.Tie as tie
 
