@@ -10,7 +10,9 @@ ghost use lib.ListN.{length};
 ghost use Rattle.reading.specs.Reading.{openChecksums, openInlinees, openImports, openExports, opaque};
 ghost use Rattle.calls.specs.Calls.{callLines, callBlock, callChecksum, callInlinee, callModule, callPair};
 ghost use Rattle.given.specs.Given.{Gives};
-ghost use Rattle.export.specs.Calls.{subGiven, fileGiven, infoGiven, wordGiven, inlineeGiven, moduleGiven, refGiven, exportGiven, countGiven, globalGiven, namesGiven, nameGiven, symbolsGiven, linesPartGiven, tablesPartGiven};
+ghost use Rattle.export_parts.specs.Calls.{subGiven, namesGiven, nameGiven, symbolsGiven, linesPartGiven, tablesPartGiven};
+ghost use Rattle.export_files.specs.Calls.{fileGiven, infoGiven};
+ghost use Rattle.export_tables.specs.Calls.{wordGiven, inlineeGiven, moduleGiven, refGiven, exportGiven, countGiven, globalGiven};
 ghost use Rattle.export_many.specs.Lines.{linesGiven, recordsLeft};
 ghost use Rattle.export_lines.specs.Calls.{orderGiven, slotsLeft, lineGiven, symbolGiven};
 ghost use Rattle.export_write.specs.Calls.{wroteGiven, bufferLeft, plainGiven};
@@ -19,21 +21,21 @@ ghost use Rattle.export_write.specs.Calls.{wroteGiven, bufferLeft, plainGiven};
 pub extern "C" fn c13_next_sub(area: &[u8], out: &mut [u64]) -> u32
     ensures { λ r. ⌜ Gives (now (out .entry)) (subGiven (now (area .entry)) (now (out .entry))) r (now (out .exit)) ⌝ }
 {
-    export::next_sub(area, out)
+    export_parts::next_sub(area, out)
 }
 
 #[no_mangle]
 pub extern "C" fn c13_next_file(area: &[u8], out: &mut [u64]) -> u32
     ensures { λ r. ⌜ Gives (now (out .entry)) (fileGiven (now (area .entry)) (now (out .entry))) r (now (out .exit)) ⌝ }
 {
-    export::next_file(area, out)
+    export_files::next_file(area, out)
 }
 
 #[no_mangle]
 pub extern "C" fn c13_file_at(area: &[u8], index: u32, out: &mut [u64]) -> u32
     ensures { λ r. ⌜ Gives (now (out .entry)) (infoGiven (now (area .entry)) index) r (now (out .exit)) ⌝ }
 {
-    export::file_at(area, index, out)
+    export_files::file_at(area, index, out)
 }
 
 #[no_mangle]
@@ -46,63 +48,63 @@ pub extern "C" fn c13_word(
 ) -> u32
     ensures { λ r. ⌜ Gives (now (out .entry)) (wordGiven (now (area .entry)) words count i) r (now (out .exit)) ⌝ }
 {
-    export::word(area, words, count, i, out)
+    export_tables::word(area, words, count, i, out)
 }
 
 #[no_mangle]
 pub extern "C" fn c13_next_inlinee(area: &[u8], out: &mut [u64]) -> u32
     ensures { λ r. ⌜ Gives (now (out .entry)) (inlineeGiven (now (area .entry)) (now (out .entry))) r (now (out .exit)) ⌝ }
 {
-    export::next_inlinee(area, out)
+    export_tables::next_inlinee(area, out)
 }
 
 #[no_mangle]
 pub extern "C" fn c13_next_import(area: &[u8], out: &mut [u64]) -> u32
     ensures { λ r. ⌜ Gives (now (out .entry)) (moduleGiven (now (area .entry)) (now (out .entry))) r (now (out .exit)) ⌝ }
 {
-    export::next_import(area, out)
+    export_tables::next_import(area, out)
 }
 
 #[no_mangle]
 pub extern "C" fn c13_resolve_import(area: &[u8], index: u32, out: &mut [u64]) -> u32
     ensures { λ r. ⌜ Gives (now (out .entry)) (refGiven (now (area .entry)) index) r (now (out .exit)) ⌝ }
 {
-    export::resolve_import(area, index, out)
+    export_tables::resolve_import(area, index, out)
 }
 
 #[no_mangle]
 pub extern "C" fn c13_next_export(area: &[u8], out: &mut [u64]) -> u32
     ensures { λ r. ⌜ Gives (now (out .entry)) (exportGiven (now (area .entry)) (now (out .entry))) r (now (out .exit)) ⌝ }
 {
-    export::next_export(area, out)
+    export_tables::next_export(area, out)
 }
 
 #[no_mangle]
 pub extern "C" fn c13_export_count(area: &[u8], out: &mut [u64]) -> u32
     ensures { λ r. ⌜ Gives (now (out .entry)) (countGiven (now (area .entry))) r (now (out .exit)) ⌝ }
 {
-    export::export_count(area, out)
+    export_tables::export_count(area, out)
 }
 
 #[no_mangle]
 pub extern "C" fn c13_resolve_export(area: &[u8], local: u32, out: &mut [u64]) -> u32
     ensures { λ r. ⌜ Gives (now (out .entry)) (globalGiven (now (area .entry)) local) r (now (out .exit)) ⌝ }
 {
-    export::resolve_export(area, local, out)
+    export_tables::resolve_export(area, local, out)
 }
 
 #[no_mangle]
 pub extern "C" fn c13_string_table(stream: &[u8], out: &mut [u64]) -> u32
     ensures { λ r. ⌜ Gives (now (out .entry)) (namesGiven (now (stream .entry))) r (now (out .exit)) ⌝ }
 {
-    export::string_table(stream, out)
+    export_parts::string_table(stream, out)
 }
 
 #[no_mangle]
 pub extern "C" fn c13_name(stream: &[u8], offset: u32, out: &mut [u64]) -> u32
     ensures { λ r. ⌜ Gives (now (out .entry)) (nameGiven (now (stream .entry)) offset) r (now (out .exit)) ⌝ }
 {
-    export::name(stream, offset, out)
+    export_parts::name(stream, offset, out)
 }
 
 #[no_mangle]
@@ -115,7 +117,7 @@ pub extern "C" fn c13_module_symbols(
 ) -> u32
     ensures { λ r. ⌜ Gives (now (out .entry)) (symbolsGiven (now (stream .entry)) symbols c11 c13) r (now (out .exit)) ⌝ }
 {
-    export::module_symbols(stream, symbols, c11, c13, out)
+    export_parts::module_symbols(stream, symbols, c11, c13, out)
 }
 
 #[no_mangle]
@@ -128,7 +130,7 @@ pub extern "C" fn c13_lines_part(
 ) -> u32
     ensures { λ r. ⌜ Gives (now (out .entry)) (linesPartGiven (now (stream .entry)) symbols c11 c13) r (now (out .exit)) ⌝ }
 {
-    export::lines_part(stream, symbols, c11, c13, out)
+    export_parts::lines_part(stream, symbols, c11, c13, out)
 }
 
 #[no_mangle]
@@ -141,7 +143,7 @@ pub extern "C" fn c13_tables_part(
 ) -> u32
     ensures { λ r. ⌜ Gives (now (out .entry)) (tablesPartGiven (now (stream .entry)) symbols c11 c13) r (now (out .exit)) ⌝ }
 {
-    export::tables_part(stream, symbols, c11, c13, out)
+    export_parts::tables_part(stream, symbols, c11, c13, out)
 }
 
 #[no_mangle]

@@ -1,0 +1,12 @@
+-- The words of each answer.
+-- Definitions only; a reader must believe them.
+use Prim.Native.Nat.{ℕ}
+use mathlib.Core.List.{List, [], _∷_}
+use Rattle.files.specs.Files.{Info, File}
+
+-- a file: its name, its checksum's kind, and the place and the length of the bytes; in front of these its index
+abbrev pub infoWords : Info → List ℕ
+infoWords f = f .name ∷ f .kind ∷ f .start ∷ f .len ∷ []
+
+abbrev pub fileWords : File → List ℕ
+fileWords f = f .index ∷ infoWords (f .info)

@@ -1,0 +1,68 @@
+// The calls on files, for programs in other languages: the walk one file at a time, and the file at an index. A call answers a status, and the words of the
+// answer as the crate `given` puts them. The crate `c13` gives each its C name.
+ghost use Rattle.given.specs.Given.{Gives};
+ghost use Rattle.export_files.specs.Calls.{fileGiven, infoGiven};
+use checksums::number;
+use files::FileAnswer;
+use files::FileStep;
+use given::GIVEN;
+use given::NONE;
+use given::put;
+use given::put_refusal;
+use given::walk_in;
+use given::walk_words;
+
+// The next file. State: four words. Words: its index, its name, its checksum's kind, and the place and the length of the bytes.
+pub fn next_file(area: &[u8], out: &mut [u64]) -> u32
+    ensures { λ r. ⌜ Gives (now (out .entry)) (fileGiven (now (area .entry)) (now (out .entry))) r (now (out .exit)) ⌝ }
+{
+    match files::next_file(area, walk_in(out)) {
+        FileStep::File {
+            index,
+            name,
+            kind,
+            start,
+            len,
+            next,
+        } => {
+            let w = walk_words(next);
+            let k = number(kind) as u64;
+            put(
+                out,
+                0,
+                &[
+                    w.0,
+                    w.1,
+                    w.2,
+                    w.3,
+                    index as u64,
+                    name as u64,
+                    k,
+                    start as u64,
+                    len as u64,
+                ],
+                GIVEN,
+            )
+        }
+        FileStep::None => NONE,
+        FileStep::Refused(why) => put_refusal(out, 4, why),
+    }
+}
+
+// The file at an index. Words: as above, without the index.
+pub fn file_at(area: &[u8], index: u32, out: &mut [u64]) -> u32
+    ensures { λ r. ⌜ Gives (now (out .entry)) (infoGiven (now (area .entry)) index) r (now (out .exit)) ⌝ }
+{
+    match files::file_at(area, index) {
+        FileAnswer::File {
+            name,
+            kind,
+            start,
+            len,
+        } => {
+            let k = number(kind) as u64;
+            put(out, 0, &[name as u64, k, start as u64, len as u64], GIVEN)
+        }
+        FileAnswer::Refused(why) => put_refusal(out, 0, why),
+    }
+}

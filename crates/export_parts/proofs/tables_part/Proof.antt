@@ -1,0 +1,35 @@
+-- `export_parts::tables_part` meets its contract: the words of what `tables_part` tells.
+-- Assumes nothing.
+use borrow.Author.Needs.{needs}
+use mathlib.Core.Path.{sym, ap, _∙_}
+use Rattle.modi.specs.Told.{toldPart}
+use Rattle.given.specs.Given.{replyGiven}
+use Rattle.given.specs.GivenLaws.{gives-as}
+use Rattle.export_parts.specs.Words.{spanWords}
+use Rattle.export_parts.proofs.tables_part.Statement.{statement}
+use Rattle.export_parts.proofs.tables_part.Tie as tie
+
+returns : tie.Need-returns
+returns c =
+    let e = ap toldPart (sym (c .before .before .before .before .before .before .start .given .1)) ∙ c .before .before .before .before .before .before .before .before .tables-part .ensures in
+    gives-as (replyGiven spanWords) e (c .before .before .put .ensures)
+
+returns-2 : tie.Need-returns-2
+returns-2 c =
+    let e = ap toldPart (sym (c .before .before .before .before .before .why .given .1)) ∙ c .before .before .before .before .before .before .before .tables-part .ensures in
+    gives-as (replyGiven spanWords) e (c .before .before .put-refusal .ensures)
+
+pub tables-part-spec : {M : Type 1} → statement M
+tables-part-spec =
+    tie.close
+    (tie.spec
+    (λ c κs. search needs)
+    (λ c. search needs)
+    (λ c. search needs)
+    (λ c κs. search needs)
+    (λ c. search needs)
+    (λ c κs. search needs)
+    (λ c. search needs)
+    returns
+    (λ c. search needs)
+    returns-2)

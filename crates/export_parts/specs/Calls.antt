@@ -1,0 +1,30 @@
+-- What each call on parts gives. s is the area or the stream, and o the lent words, whose first is the place of the next subsection.
+-- Definitions only; a reader must believe them.
+use Prim.Native.Nat.{ℕ}
+use mathlib.Core.List.{List}
+use lib.ListN.{getD}
+use Rattle.area.specs.Kind.{ruled}
+use Rattle.area.specs.Subs.{stepAt}
+use Rattle.strings.specs.Strings.{namesOf, nameAt}
+use Rattle.modi.specs.Modi.{moduleSymbols, linesSpan, tablesSpan}
+use Rattle.given.specs.Given.{Given, stepGiven, replyGiven}
+use Rattle.export_parts.specs.Words.{subWords, yes, spanWords, outcomeGiven}
+
+abbrev pub subGiven : List ℕ → List ℕ → Given
+subGiven s o = stepGiven 1 subWords (stepAt ruled s (getD o 0 0))
+
+abbrev pub namesGiven : List ℕ → Given
+namesGiven s = outcomeGiven (namesOf s)
+
+abbrev pub nameGiven : List ℕ → ℕ → Given
+nameGiven s offset = outcomeGiven (nameAt s offset)
+
+-- a module's sizes: of its symbols, of its C11 lines and of its area
+abbrev pub symbolsGiven : List ℕ → ℕ → ℕ → ℕ → Given
+symbolsGiven s symbols c11 c13 = replyGiven yes (moduleSymbols (record { symbols = symbols; c11 = c11; c13 = c13 }) s)
+
+abbrev pub linesPartGiven : List ℕ → ℕ → ℕ → ℕ → Given
+linesPartGiven s symbols c11 c13 = replyGiven spanWords (linesSpan (record { symbols = symbols; c11 = c11; c13 = c13 }) s)
+
+abbrev pub tablesPartGiven : List ℕ → ℕ → ℕ → ℕ → Given
+tablesPartGiven s symbols c11 c13 = replyGiven spanWords (tablesSpan (record { symbols = symbols; c11 = c11; c13 = c13 }) s)

@@ -1,0 +1,153 @@
+// The calls on inlinees, imports and exports, for programs in other languages: a status, and the words of the answer as the crate `given` puts them. The
+// crate `c13` gives each its C name.
+ghost use mathlib.Core.Path.{_≡_};
+ghost use mathlib.Core.List.{[], _∷_};
+ghost use Rattle.exports.specs.Told.{toldExport};
+ghost use Rattle.given.specs.Given.{Gives};
+ghost use Rattle.export_tables.specs.Words.{exportWords};
+ghost use Rattle.export_tables.specs.Calls.{wordGiven, inlineeGiven, moduleGiven, refGiven, exportGiven, countGiven, globalGiven};
+use exports::Count;
+use exports::CrossModuleExport;
+use exports::ExportStep;
+use exports::Lookup;
+use given::GIVEN;
+use given::NONE;
+use given::put;
+use given::put_refusal;
+use given::walk_in;
+use given::walk_words;
+use imports::ImportStep;
+use imports::Resolved;
+use inlinees::InlineeStep;
+use rows::WordAnswer;
+use rows::word_in;
+
+// One of the words that a record says by their place and their number.
+pub fn word(area: &[u8], words: usize, count: usize, i: usize, out: &mut [u64]) -> u32
+    ensures { λ r. ⌜ Gives (now (out .entry)) (wordGiven (now (area .entry)) words count i) r (now (out .exit)) ⌝ }
+{
+    match word_in(area, words, count, i) {
+        WordAnswer::Word(word) => put(out, 0, &[word as u64], GIVEN),
+        WordAnswer::None => NONE,
+        WordAnswer::Refused(why) => put_refusal(out, 0, why),
+    }
+}
+
+// The next inlinee. State: four words. Words: the inlinee, its file and line, the place of its extra files, their number.
+pub fn next_inlinee(area: &[u8], out: &mut [u64]) -> u32
+    ensures { λ r. ⌜ Gives (now (out .entry)) (inlineeGiven (now (area .entry)) (now (out .entry))) r (now (out .exit)) ⌝ }
+{
+    match inlinees::next_inlinee(area, walk_in(out)) {
+        InlineeStep::Inlinee {
+            inlinee,
+            file,
+            line,
+            extra,
+            count,
+            next,
+        } => {
+            let w = walk_words(next);
+            put(
+                out,
+                0,
+                &[
+                    w.0,
+                    w.1,
+                    w.2,
+                    w.3,
+                    inlinee as u64,
+                    file as u64,
+                    line as u64,
+                    extra as u64,
+                    count as u64,
+                ],
+                GIVEN,
+            )
+        }
+        InlineeStep::None => NONE,
+        InlineeStep::Refused(why) => put_refusal(out, 4, why),
+    }
+}
+
+// The next module of the imports. State: four words. Words: its name, the place of its words, their number.
+pub fn next_import(area: &[u8], out: &mut [u64]) -> u32
+    ensures { λ r. ⌜ Gives (now (out .entry)) (moduleGiven (now (area .entry)) (now (out .entry))) r (now (out .exit)) ⌝ }
+{
+    match imports::next_import(area, walk_in(out)) {
+        ImportStep::Module {
+            name,
+            words,
+            count,
+            next,
+        } => {
+            let w = walk_words(next);
+            put(
+                out,
+                0,
+                &[w.0, w.1, w.2, w.3, name as u64, words as u64, count as u64],
+                GIVEN,
+            )
+        }
+        ImportStep::None => NONE,
+        ImportStep::Refused(why) => put_refusal(out, 4, why),
+    }
+}
+
+// A reference resolved. Words: the name of its module, and its word there.
+pub fn resolve_import(area: &[u8], index: u32, out: &mut [u64]) -> u32
+    ensures { λ r. ⌜ Gives (now (out .entry)) (refGiven (now (area .entry)) index) r (now (out .exit)) ⌝ }
+{
+    match imports::resolve_import(area, index) {
+        Resolved::Ref { name, word } => put(out, 0, &[name as u64, word as u64], GIVEN),
+        Resolved::Refused(why) => put_refusal(out, 0, why),
+    }
+}
+
+// Three words of a record.
+struct Three(u64, u64, u64);
+
+// An export in words: 0 for a type or 1 for an id, the local and the global index.
+fn export_words(export: CrossModuleExport) -> Three
+    ensures { λ r. ⌜ exportWords (toldExport export) ≡ r .0 ∷ r .1 ∷ r .2 ∷ [] ⌝ }
+{
+    match export {
+        CrossModuleExport::Type { local, global } => Three(0, local as u64, global as u64),
+        CrossModuleExport::Id { local, global } => Three(1, local as u64, global as u64),
+    }
+}
+
+// The next export. State: four words. Words: 0 for a type or 1 for an id, the local and the global index.
+pub fn next_export(area: &[u8], out: &mut [u64]) -> u32
+    ensures { λ r. ⌜ Gives (now (out .entry)) (exportGiven (now (area .entry)) (now (out .entry))) r (now (out .exit)) ⌝ }
+{
+    match exports::next_export(area, walk_in(out)) {
+        ExportStep::Export { export, next } => {
+            let w = walk_words(next);
+            let e = export_words(export);
+            put(out, 0, &[w.0, w.1, w.2, w.3, e.0, e.1, e.2], GIVEN)
+        }
+        ExportStep::None => NONE,
+        ExportStep::Refused(why) => put_refusal(out, 4, why),
+    }
+}
+
+// The number of exports.
+pub fn export_count(area: &[u8], out: &mut [u64]) -> u32
+    ensures { λ r. ⌜ Gives (now (out .entry)) (countGiven (now (area .entry))) r (now (out .exit)) ⌝ }
+{
+    match exports::export_count(area) {
+        Count::Exports(n) => put(out, 0, &[n as u64], GIVEN),
+        Count::Refused(why) => put_refusal(out, 0, why),
+    }
+}
+
+// The global index of a local one.
+pub fn resolve_export(area: &[u8], local: u32, out: &mut [u64]) -> u32
+    ensures { λ r. ⌜ Gives (now (out .entry)) (globalGiven (now (area .entry)) local) r (now (out .exit)) ⌝ }
+{
+    match exports::resolve_export(area, local) {
+        Lookup::Global(global) => put(out, 0, &[global as u64], GIVEN),
+        Lookup::None => NONE,
+        Lookup::Refused(why) => put_refusal(out, 0, why),
+    }
+}
