@@ -5,7 +5,7 @@
 //! INPUT: a file (an area, or a string table X.names), or one that is made: sorted:N, reversed:N or random:N, an area of N line subsections in that
 //! order of their offsets; exports:N, imports:N, an area of one table of N exports or import words; names:N, a string table of N names.
 
-use c13::calls::{self, GIVEN, LINE_STATE, NONE, RECORD, TABLE_STATE};
+use c13::calls::{self, FILE_RECORD, GIVEN, LINE_STATE, NONE, RECORD, TABLE_STATE};
 use pdb::{
     oracle_module, oracle_strings, CrossModuleExport, FallibleIterator, FileChecksum, FileIndex, FileInfo, LineInfo, LineInfoKind, LineIterator,
     Local, ModuleInfo, OracleProbe, PdbInternalSectionOffset, StringRef, TypeIndex, C13,
@@ -241,8 +241,9 @@ impl Input {
     }
 }
 
-/// How many records one call of `c13_lines` has room for.
+/// How many records one call of `c13_lines` has room for, and how many files one of `c13_files`.
 const ROOM: usize = 1 << 18;
+const FILES: usize = 64;
 
 /// The cases through the library.
 mod rattle {
@@ -293,7 +294,12 @@ mod rattle {
     }
     pub fn files(i: &Input, t: &mut impl Taker) {
         let area = black_box(i.bytes.as_slice());
-        steps(&mut [0; 9], |out| calls::c13_next_file(area, out), |out| file(area, &out[TABLE_STATE + 1..], t));
+        let (mut out, records) = ([0; TABLE_STATE + 2], RefCell::new([0; FILES * FILE_RECORD]));
+        steps(
+            &mut out,
+            |out| calls::c13_files(area, &mut *records.borrow_mut(), out),
+            |out| records.borrow().chunks_exact(FILE_RECORD).take(out[TABLE_STATE] as usize).for_each(|r| file(area, &r[1..], t)),
+        );
     }
     pub fn file_at(i: &Input, indices: &[u32], t: &mut impl Taker) {
         let area = black_box(i.bytes.as_slice());

@@ -1,6 +1,7 @@
-//! ours < CASES: answers cases through the static library of the crate `c13`, in the oracle's form (oracle/README.md).
+//! ours < CASES: answers cases through the static library of the crate `c13`, in the oracle's form (oracle/README.md). Lines and files are asked one a
+//! call and again many a call; an answer of the second kind that is another one is written out, and so differs from the crate's.
 
-use c13::calls::{self, LINE_STATE, SUB_STATE, TABLE_STATE};
+use c13::calls::{self, FILE_RECORD, LINE_STATE, RECORD, SUB_STATE, TABLE_STATE};
 use std::collections::HashMap;
 use std::fmt::Write as _;
 use std::io::{BufRead, BufReader, BufWriter, Write};
@@ -21,6 +22,11 @@ impl Words {
         Words([0; 40])
     }
 
+    /// The same state again.
+    fn again(&self) -> Words {
+        Words(self.0)
+    }
+
     /// `state` is the number of words of a walk's state, behind which a refusal stands.
     fn said(&self, state: usize, status: u32) -> Said {
         match status {
@@ -34,6 +40,18 @@ impl Words {
         }
     }
 }
+
+/// A call that gives many records: the words lent for them, and the others.
+struct Many<'a> {
+    /// The words of one record.
+    size: usize,
+    /// By how much more room is lent than for 1, 2 and 7 records in turn.
+    times: usize,
+    call: &'a dyn Fn(&mut [u64], &mut Words) -> u32,
+}
+
+/// What stands in words that nothing is put into.
+const FREE: u64 = 0xdead_beef_dead_beef;
 
 struct Block {
     text: String,
@@ -73,6 +91,37 @@ impl Block {
                 writeln!(self.text, "{name} ANOTHER-ANSWER-AGAIN {again}").unwrap();
             }
             return;
+        }
+    }
+
+    /// The same in calls that give many records, after the walk one record a call has been written from `start` on: it must give the same.
+    fn walk_many(&mut self, mut words: Words, start: usize, name: &str, state: usize, many: Many, mut show: impl FnMut(&[u64]) -> String) {
+        let mut text = String::new();
+        let mut records = vec![0; 7 * many.times * many.size];
+        for room in [1, 2, 7].into_iter().cycle() {
+            let lent = &mut records[..room * many.times * many.size];
+            lent.fill(FREE);
+            let status = (many.call)(lent, &mut words);
+            let said = words.said(state, status);
+            let count = if let Said::Given = said { words.0[state] as usize } else { 0 };
+            if count > room * many.times || lent[count * many.size..].iter().any(|w| *w != FREE) {
+                text.push_str("A-RECORD-TOO-MANY\n");
+                break;
+            }
+            for record in lent.chunks_exact(many.size).take(count) {
+                writeln!(text, "{name} {}", show(record)).unwrap();
+            }
+            match said {
+                Said::Given if count > 0 => continue,
+                Said::Given => text.push_str("NO-RECORD\n"),
+                Said::None => writeln!(text, "{name} end").unwrap(),
+                Said::Refused(why) => writeln!(text, "{name} {why}").unwrap(),
+            }
+            break;
+        }
+        if self.text[start..] != text {
+            let first = self.text[start..].lines().zip(text.lines()).find(|(a, b)| a != b).map_or("ENDS-ELSEWHERE", |(_, b)| b);
+            writeln!(self.text, "{name} ANOTHER-ANSWER-IN-ONE-CALL {first}").unwrap();
         }
     }
 
@@ -207,14 +256,23 @@ fn lines(b: &mut Block, case: &Case, area: &[u8]) {
     match order(area) {
         Ok(slots) => {
             let step = |w: &mut Words| calls::c13_next_line(area, &slots, &mut w.0);
+            // A list that goes back often is tested in each call, so a long one is asked in fewer.
+            let call = |records: &mut [u64], w: &mut Words| calls::c13_lines(area, &slots, records, &mut w.0);
+            let many = || Many { size: RECORD, times: 1 + slots.len() / 16, call: &call };
+            let start = b.text.len();
             b.walk("line", LINE_STATE, step, line_text);
+            b.walk_many(Words::new(), start, "line", LINE_STATE, many(), line_text);
             for symbol in case.list("syms") {
                 let (section, offset) = symbol.split_once(':').expect("section:offset");
                 let (section, offset) = (section.parse().expect("section"), u32::from_str_radix(offset, 16).expect("offset in hex"));
                 let mut words = Words::new();
                 let status = calls::c13_lines_for_symbol(area, &slots, section, offset, &mut words.0);
                 match words.said(0, status) {
-                    Said::Given => b.walk_from(words, &format!("sym {symbol}"), LINE_STATE, step, line_text),
+                    Said::Given => {
+                        let (name, start) = (format!("sym {symbol}"), b.text.len());
+                        b.walk_from(words.again(), &name, LINE_STATE, step, line_text);
+                        b.walk_many(words, start, &name, LINE_STATE, many(), line_text);
+                    }
                     Said::None => panic!("no walk"),
                     Said::Refused(why) => b.put(&format!("sym {symbol} {why}")),
                 }
@@ -222,7 +280,10 @@ fn lines(b: &mut Block, case: &Case, area: &[u8]) {
         }
         // There is no list: the walk repeats its tests, with any slots.
         Err(_) => {
+            let call = |records: &mut [u64], w: &mut Words| calls::c13_lines(area, &[], records, &mut w.0);
+            let start = b.text.len();
             b.walk("line", LINE_STATE, |w| calls::c13_next_line(area, &[], &mut w.0), line_text);
+            b.walk_many(Words::new(), start, "line", LINE_STATE, Many { size: RECORD, times: 1, call: &call }, line_text);
             for symbol in case.list("syms") {
                 let mut words = Words::new();
                 let status = calls::c13_lines_for_symbol(area, &[], 1, 0, &mut words.0);
@@ -233,7 +294,11 @@ fn lines(b: &mut Block, case: &Case, area: &[u8]) {
             }
         }
     }
-    b.walk("file", TABLE_STATE, |w| calls::c13_next_file(area, &mut w.0), |r| format!("{} {}", r[0], file_text(area, &r[1..])));
+    let show = |r: &[u64]| format!("{} {}", r[0], file_text(area, &r[1..]));
+    let call = |records: &mut [u64], w: &mut Words| calls::c13_files(area, records, &mut w.0);
+    let start = b.text.len();
+    b.walk("file", TABLE_STATE, |w| calls::c13_next_file(area, &mut w.0), show);
+    b.walk_many(Words::new(), start, "file", TABLE_STATE, Many { size: FILE_RECORD, times: 1, call: &call }, show);
     for index in case.list("files") {
         let i: u32 = index.parse().expect("index");
         b.one(&format!("info {index}"), |w| calls::c13_file_at(area, i, &mut w.0), |r| file_text(area, r), "");

@@ -4,8 +4,8 @@
  * Each is proved to meet its contract in crates/; this header says the same in words. "Document 01" is docs/01-scope.md.
  *
  * WHAT A CALL IS LENT. Memory is lent as a pointer and a number of elements. A pointer must be valid for that number of elements and aligned to
- * its type; with the number 0 nothing is read through it, and it may be null. What may be written (`out`, `slots` of c13_order_list, `buf` of the
- * writer) must be no part of anything else that is lent. That is all that is asked: any bytes, any numbers and any state of a walk are taken. The library keeps nothing
+ * its type; with the number 0 nothing is read through it, and it may be null. What may be written (`out`, `slots` of c13_order_list,
+ * `records` of c13_lines and c13_files, `buf` of the writer) must be no part of anything else that is lent. That is all that is asked: any bytes, any numbers and any state of a walk are taken. The library keeps nothing
  * between calls, allocates nothing, and calls nothing; calls on different memory may run at the same time.
  *
  * WHAT A CALL ANSWERS. A status, and words that it puts into `out`:
@@ -15,7 +15,7 @@
  *   C13_REFUSED    a refusal: its number (enum c13_refusal) and what it carries, or 0. The words stand at out[0] and out[1], or behind the state if the
  *                  call steps a walk: at out[1], out[4] or out[27].
  *   C13_TOO_SHORT  the words of the answer do not fit in `out`. `out` is left as it was. C13_MOST words are always enough. A call that writes to other
- *                  memory asks for two words before it does anything.
+ *                  memory asks for two words, behind the state if it steps a walk, before it does anything.
  *
  * Words that are not named are left as they were. A call that is refused, or has too few words, changes no other lent memory.
  *
@@ -60,8 +60,8 @@ enum c13_refusal {
     C13_WRONG_SLOT = 19                  /* an order list slot is missing or names no line subsection body of the area */
 };
 
-/* Lengths in words: the states of walks, a line record, and what is always enough for `out`. */
-enum { C13_SUB_STATE = 1, C13_TABLE_STATE = 4, C13_LINE_STATE = 27, C13_RECORD = 12, C13_MOST = 39 };
+/* Lengths in words: the states of walks, a line record, a file of c13_files, and what is always enough for `out`. */
+enum { C13_SUB_STATE = 1, C13_TABLE_STATE = 4, C13_LINE_STATE = 27, C13_RECORD = 12, C13_FILE_RECORD = 5, C13_MOST = 39 };
 
 /* ---- subsections */
 
@@ -126,6 +126,12 @@ enum c13_checksum_kind { C13_CHECKSUM_NONE = 0, C13_CHECKSUM_MD5 = 1, C13_CHECKS
  * The bytes of a checksum of no kind are not given: their length is 0.
  *   out[4] the file's index   out[5] its name's offset, for c13_name   out[6] checksum kind   out[7] start of its bytes in the area   out[8] their length */
 uint32_t c13_next_file(const uint8_t *area, size_t area_len, uint64_t *out, size_t out_len);
+
+/* Many files in one call: those from the walk on, as many as `records` has room for, 5 words each: what c13_next_file gives at out[4] .. out[8].
+ * State as above, 4 words. Given: the state behind the last of them, and at out[4] how many there are. The files before an end or a refusal are given
+ * first; the next call tells it, as c13_next_file would. With room for no file C13_NO_ROOM; with fewer than 6 words of `out` too short, and nothing
+ * changes. */
+uint32_t c13_files(const uint8_t *area, size_t area_len, uint64_t *records, size_t records_len, uint64_t *out, size_t out_len);
 
 /* The file at an index, as line records name it. The index is a place in the checksum data: at its end C13_NO_FILE, behind it C13_CUT.
  *   out[0] its name's offset   out[1] checksum kind   out[2] start of its bytes   out[3] their length */

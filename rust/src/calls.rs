@@ -16,8 +16,9 @@ pub const TOO_SHORT: u32 = 3;
 pub const SUB_STATE: usize = 1;
 pub const TABLE_STATE: usize = 4;
 pub const LINE_STATE: usize = 27;
-/// The words of a line record.
+/// The words of a line record, and of a file of `c13_files`.
 pub const RECORD: usize = 12;
+pub const FILE_RECORD: usize = 5;
 
 /// Declares a call and wraps it. In its list of parameters a slice is written `[name: element]`, one that is written to `[mut name: element]`, and a
 /// number `(name: type)`. Sound: each pointer is valid for its length and aligned, and what is written to is no part of anything else, since slices
@@ -60,6 +61,7 @@ calls! {
     c13_lines([area: u8] [slots: u32] [mut records: u64]);
     c13_lines_for_symbol([area: u8] [slots: u32] (section: u16) (offset: u32));
     c13_next_file([area: u8]);
+    c13_files([area: u8] [mut records: u64]);
     c13_file_at([area: u8] (index: u32));
     c13_next_inlinee([area: u8]);
     c13_next_import([area: u8]);

@@ -1,6 +1,6 @@
 //! Lines and files.
 
-use crate::calls::{self, LINE_STATE, RECORD, TABLE_STATE};
+use crate::calls::{self, FILE_RECORD, LINE_STATE, RECORD, TABLE_STATE};
 use crate::words::{one, part, size, word, word32, Walk};
 use crate::{Refusal, StringRef};
 
@@ -192,7 +192,7 @@ impl<'a> LineProgram<'a> {
 
     /// All files.
     pub fn files(&self) -> FileIterator<'a> {
-        FileIterator { area: self.area, walk: Walk::new() }
+        FileIterator { area: self.area, walk: Walk::new(), records: [0; FILES_AT_ONCE * FILE_RECORD], given: 0, taken: 0 }
     }
 
     /// The file at an index.
@@ -229,19 +229,34 @@ impl Iterator for LineIterator<'_> {
     }
 }
 
+/// How many files one call is asked for.
+const FILES_AT_ONCE: usize = 16;
+
 /// Files, each with its index.
 #[derive(Clone, Debug)]
 pub struct FileIterator<'a> {
     area: &'a [u8],
-    walk: Walk<9>,
+    walk: Walk<{ TABLE_STATE + 2 }>,
+    /// The files that the last call gave, in words; how many, and how many of them were taken.
+    records: [u64; FILES_AT_ONCE * FILE_RECORD],
+    given: usize,
+    taken: usize,
 }
 
 impl<'a> Iterator for FileIterator<'a> {
     type Item = Result<(FileIndex, FileInfo<'a>), Refusal>;
 
     fn next(&mut self) -> Option<Self::Item> {
-        let area = self.area;
-        let step = self.walk.next(TABLE_STATE, |out| calls::c13_next_file(area, out))?;
-        Some(step.map(|w| (FileIndex(word32(w, 0)), FileInfo::of(area, w, 1))))
+        let (area, records) = (self.area, &mut self.records);
+        if self.taken >= self.given {
+            match self.walk.next(TABLE_STATE, |out| calls::c13_files(area, records, out))? {
+                Ok(count) => self.given = size(count, 0),
+                Err(why) => return Some(Err(why)),
+            }
+            self.taken = 0;
+        }
+        let w = self.records.chunks_exact(FILE_RECORD).nth(self.taken).unwrap_or(&[]);
+        self.taken += 1;
+        Some(Ok((FileIndex(word32(w, 0)), FileInfo::of(area, w, 1))))
     }
 }

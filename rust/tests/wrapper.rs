@@ -66,6 +66,21 @@ fn files_are_listed_and_found() {
 }
 
 #[test]
+fn many_files_are_all_given() {
+    // More than one call gives, each of 8 bytes without a checksum; the last is cut.
+    for whole in [0, 1, 15, 16, 17, 32, 40] {
+        let entries: Vec<u32> = (0..whole).flat_map(|i| [100 + i, 0]).collect();
+        for cut in [false, true] {
+            let area = subsection(0xf4, &[entries.clone(), if cut { vec![1] } else { vec![] }].concat());
+            let program = Area::new(&area).line_program().expect("program");
+            let (files, refused) = all(program.files(), area.len());
+            assert_eq!(refused, cut.then_some(Refusal::Cut));
+            assert_eq!(files.iter().map(|(index, file)| (index.0, file.name.0)).collect::<Vec<_>>(), (0..whole).map(|i| (8 * i, 100 + i)).collect::<Vec<_>>());
+        }
+    }
+}
+
+#[test]
 fn no_checksum_is_no_md5() {
     let area = subsection(0xf4, &[5, 16, 1, 2, 3, 4, 0]);
     let program = Area::new(&area).line_program().expect("program");

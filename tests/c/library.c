@@ -10,7 +10,7 @@
 #include <string.h>
 #include <sys/mman.h>
 
-enum { ROOM = 1 << 20, WORDS = 64 };
+enum { ROOM = 1 << 20, WORDS = 64, RECORDS = 2 * C13_RECORD };
 
 /* ---- memory that ends where a page ends */
 
@@ -23,6 +23,7 @@ static uint8_t *page_end(void) {
 static uint8_t *bytes_end;  /* where lent bytes end */
 static uint64_t *words_end; /* where lent words end */
 static uint32_t *slots_end; /* where lent slots end */
+static uint64_t *records_end; /* where words lent for records end */
 
 /* Copies bytes to where they end with their page. */
 static const uint8_t *lent(const void *bytes, size_t n) { return n ? memcpy(bytes_end - n, bytes, n) : bytes_end; }
@@ -38,8 +39,12 @@ typedef uint32_t call(const uint8_t *, size_t, uint64_t *, size_t);
 
 static uint32_t order_list(const uint8_t *a, size_t n, uint64_t *o, size_t m) { return c13_order_list(a, n, slots_end - 16, 16, o, m); }
 static uint32_t next_line(const uint8_t *a, size_t n, uint64_t *o, size_t m) { return c13_next_line(a, n, slots, slots_used, o, m); }
-static uint64_t records[2 * C13_RECORD];
-static uint32_t lines(const uint8_t *a, size_t n, uint64_t *o, size_t m) { return c13_lines(a, n, slots, slots_used, records, 2 * C13_RECORD, o, m); }
+static uint32_t lines(const uint8_t *a, size_t n, uint64_t *o, size_t m) {
+    return c13_lines(a, n, slots, slots_used, records_end - 2 * C13_RECORD, 2 * C13_RECORD, o, m);
+}
+static uint32_t files(const uint8_t *a, size_t n, uint64_t *o, size_t m) {
+    return c13_files(a, n, records_end - 2 * C13_FILE_RECORD, 2 * C13_FILE_RECORD, o, m);
+}
 static uint32_t symbol(const uint8_t *a, size_t n, uint64_t *o, size_t m) { return c13_lines_for_symbol(a, n, slots, slots_used, 1, number, o, m); }
 static uint32_t file_at(const uint8_t *a, size_t n, uint64_t *o, size_t m) { return c13_file_at(a, n, number, o, m); }
 static uint32_t resolve_import(const uint8_t *a, size_t n, uint64_t *o, size_t m) { return c13_resolve_import(a, n, number, o, m); }
@@ -78,6 +83,7 @@ static const struct function {
     {"c13_tables_part", tables_part, 0, 2, A_MODULE},
     {"c13_plain", c13_plain, 0, 3, AN_AREA},
     {"c13_lines", lines, C13_LINE_STATE, C13_LINE_STATE + 2, AN_AREA},
+    {"c13_files", files, C13_TABLE_STATE, C13_TABLE_STATE + 2, AN_AREA},
 };
 enum { FUNCTIONS = sizeof functions / sizeof *functions };
 
@@ -191,9 +197,14 @@ static void examples(const uint8_t *area, size_t n, const uint8_t *names, size_t
     for (size_t i = 0; i < slots_used; i++) printf("  slot %u\n", slots[i]);
     ask("c13_next_line", area, n);
     ask("c13_lines", area, n);
-    printf("  the last two: line %llu, line %llu\n", (unsigned long long)records[C13_START_LINE], (unsigned long long)records[C13_RECORD + C13_START_LINE]);
+    const uint64_t *two = records_end - 2 * C13_RECORD;
+    printf("  the last two: line %llu, line %llu\n", (unsigned long long)two[C13_START_LINE], (unsigned long long)two[C13_RECORD + C13_START_LINE]);
     number = 0x71, ask("c13_lines_for_symbol", area, n);
     ask("c13_next_file", area, n);
+    ask("c13_files", area, n);
+    printf("  the file:");
+    for (const uint64_t *w = records_end - 2 * C13_FILE_RECORD; w < records_end - C13_FILE_RECORD; w++) printf(" %llu", (unsigned long long)*w);
+    printf("\n");
     ask("c13_string_table", names, k);
     number = 2, ask("c13_name", names, k);
     printf("  %.*s\n", 16, names + 14);
@@ -272,15 +283,18 @@ static void fail(const struct function *f, const char *why) {
 /* A call with m words lent that hold `state`: what must hold of every answer. */
 static uint32_t try(const struct function *f, const uint8_t *bytes, size_t n, const uint64_t *state, size_t m) {
     static uint8_t before[4096];
-    uint64_t *out = words_end - m, first[WORDS];
+    uint64_t *out = words_end - m, *records = records_end - RECORDS, first[WORDS], kept[RECORDS];
     uint32_t status, again;
     if (n <= sizeof before) memcpy(before, bytes, n);
     memcpy(out, state, 8 * m);
+    memset(kept, 0xee, sizeof kept), memcpy(records, kept, sizeof kept);
     again = f->f(bytes, n, out, m);
+    if (again != C13_GIVEN && memcmp(kept, records, sizeof kept)) fail(f, "records without an answer");
+    memcpy(kept, records, sizeof kept);
     memcpy(first, out, 8 * m);
     memcpy(out, state, 8 * m);
     status = f->f(bytes, n, out, m);
-    if (status != again || memcmp(first, out, 8 * m)) fail(f, "another answer to the same");
+    if (status != again || memcmp(first, out, 8 * m) || memcmp(kept, records, sizeof kept)) fail(f, "another answer to the same");
     if (n <= sizeof before && memcmp(before, bytes, n)) fail(f, "lent bytes changed");
     size_t from = status == C13_REFUSED ? f->state : 0, to = status == C13_GIVEN ? f->words : status == C13_REFUSED ? f->state + 2 : 0;
     if (status > C13_TOO_SHORT || to > m) fail(f, "no such status");
@@ -289,6 +303,7 @@ static uint32_t try(const struct function *f, const uint8_t *bytes, size_t n, co
     if (status == C13_REFUSED && (out[from] < 1 || out[from] > 19)) fail(f, "no such refusal");
     sum_up(status);
     for (size_t i = from; i < to; i++) sum_up(out[i]);
+    for (size_t i = 0; i < RECORDS; i++) sum_up(records[i]);
     return status;
 }
 
@@ -447,6 +462,7 @@ int main(int argc, char **argv) {
     if (argc != 3) return 2;
     size_t n = read_file(argv[1], area), k = read_file(argv[2], names);
     bytes_end = page_end(), words_end = (uint64_t *)page_end(), slots_end = (uint32_t *)page_end();
+    records_end = (uint64_t *)page_end();
     static uint8_t module[4 + sizeof every] = {4};
     examples(area, n, names, k);
     writing();

@@ -3,15 +3,15 @@
 //
 // A call answers a status and puts its words into `out`, its last slice. 0: none. 1: an answer. 2: a refusal; its words are the number of document 01 and
 // what is carried, or 0. 3: the words do not fit, and nothing is changed. A walk's state is the first words of `out`, all 0 for a new walk, and a refusal
-// is put behind it. A call that changes other lent memory than `out` asks for two words there before it does anything. A slice is two C parameters: its
-// pointer and its length.
+// is put behind it. A call that changes other lent memory than `out` asks for two words there, behind the state if it steps a walk, before it does
+// anything. A slice is two C parameters: its pointer and its length.
 ghost use mathlib.Core.Path.{_≡_};
 ghost use lib.ListN.{length};
 ghost use Rattle.reading.specs.Reading.{openChecksums, openInlinees, openImports, openExports, opaque};
 ghost use Rattle.calls.specs.Calls.{callLines, callBlock, callChecksum, callInlinee, callModule, callPair};
 ghost use Rattle.given.specs.Given.{Gives};
 ghost use Rattle.export_parts.specs.Calls.{subGiven, namesGiven, nameGiven, symbolsGiven, linesPartGiven, tablesPartGiven};
-ghost use Rattle.export_files.specs.Calls.{fileGiven, infoGiven};
+ghost use Rattle.export_files.specs.Calls.{fileGiven, filesGiven, filesLeft, infoGiven};
 ghost use Rattle.export_tables.specs.Calls.{wordGiven, inlineeGiven, moduleGiven, refGiven, exportGiven, countGiven, globalGiven};
 ghost use Rattle.export_many.specs.Lines.{linesGiven, recordsLeft};
 ghost use Rattle.export_lines.specs.Calls.{orderGiven, slotsLeft, lineGiven, symbolGiven};
@@ -29,6 +29,14 @@ pub extern "C" fn c13_next_file(area: &[u8], out: &mut [u64]) -> u32
     ensures { λ r. ⌜ Gives (now (out .entry)) (fileGiven (now (area .entry)) (now (out .entry))) r (now (out .exit)) ⌝ }
 {
     export_files::next_file(area, out)
+}
+
+#[no_mangle]
+pub extern "C" fn c13_files(area: &[u8], records: &mut [u64], out: &mut [u64]) -> u32
+    ensures { λ r. ⌜ Gives (now (out .entry)) (filesGiven (now (area .entry)) (length (now (records .entry))) (now (out .entry))) r (now (out .exit)) ⌝ }
+    ensures { λ _. ⌜ now (records .exit) ≡ filesLeft (now (area .entry)) (now (records .entry)) (now (out .entry)) ⌝ }
+{
+    export_files::files(area, records, out)
 }
 
 #[no_mangle]

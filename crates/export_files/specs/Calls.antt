@@ -2,14 +2,25 @@
 -- Definitions only; a reader must believe them.
 use Prim.Native.Nat.{ℕ}
 use mathlib.Core.List.{List}
+use lib.ListN.{length}
 use Rattle.area.specs.Kind.{ruled}
 use Rattle.files.specs.Files.{fileStep, fileAt}
 use Rattle.given.specs.Given.{Given, stepGiven, replyGiven}
-use Rattle.given.specs.TableWords.{walkIn, tableWords}
-use Rattle.export_files.specs.Words.{infoWords, fileWords}
+use Rattle.given.specs.TableWords.{walkIn, walkWords, tableWords}
+use Rattle.given.specs.FillGiven.{fillGiven, fillLeft}
+use Rattle.many_files.specs.FileWords.{infoWords, fileWords}
+use Rattle.many_files.specs.Files.{filesOf}
 
 abbrev pub fileGiven : List ℕ → List ℕ → Given
 fileGiven s o = stepGiven 4 (tableWords fileWords) (fileStep ruled s (walkIn o))
+
+-- with n words lent for records
+abbrev pub filesGiven : List ℕ → ℕ → List ℕ → Given
+filesGiven s n o = fillGiven 4 walkWords o (filesOf ruled s n (walkIn o))
+
+-- the words x lent for records, after it
+abbrev pub filesLeft : List ℕ → List ℕ → List ℕ → List ℕ
+filesLeft s x o = fillLeft 4 fileWords o x (filesOf ruled s (length x) (walkIn o))
 
 abbrev pub infoGiven : List ℕ → ℕ → Given
 infoGiven s index = replyGiven infoWords (fileAt ruled s index)

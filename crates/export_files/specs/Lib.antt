@@ -1,3 +1,2 @@
-pub mod Words
-pub mod WordsLaws
 pub mod Calls
+pub mod CallsLaws

@@ -1,16 +1,24 @@
-// The calls on files, for programs in other languages: the walk one file at a time, and the file at an index. A call answers a status, and the words of the
-// answer as the crate `given` puts them. The crate `c13` gives each its C name.
+// The calls on files, for programs in other languages: the walk one file at a time, many files in one call, and the file at an index. A call answers a
+// status, and the words of the answer as the crate `given` puts them. The crate `c13` gives each its C name.
+ghost use mathlib.Core.Path.{_≡_};
+ghost use lib.ListN.{length};
 ghost use Rattle.given.specs.Given.{Gives};
-ghost use Rattle.export_files.specs.Calls.{fileGiven, infoGiven};
+ghost use Rattle.export_files.specs.Calls.{fileGiven, filesGiven, filesLeft, infoGiven};
 use checksums::number;
 use files::FileAnswer;
 use files::FileStep;
 use given::GIVEN;
 use given::NONE;
+use given::TOO_SHORT;
 use given::put;
 use given::put_refusal;
 use given::walk_in;
 use given::walk_words;
+use many_files::FilesStep;
+use many_files::next_files;
+
+// The words of `out` that a call for many files asks for: a walk's state, and those of a refusal.
+const ASKED: usize = 6;
 
 // The next file. State: four words. Words: its index, its name, its checksum's kind, and the place and the length of the bytes.
 pub fn next_file(area: &[u8], out: &mut [u64]) -> u32
@@ -49,7 +57,26 @@ pub fn next_file(area: &[u8], out: &mut [u64]) -> u32
     }
 }
 
-// The file at an index. Words: as above, without the index.
+// The files from the walk in `out` on, 5 words each, into `records`. Words: the next state, and how many files there are. Where there is none to give the
+// answer is that of `next_file`; without room for one it is number 10.
+pub fn files(area: &[u8], records: &mut [u64], out: &mut [u64]) -> u32
+    ensures { λ r. ⌜ Gives (now (out .entry)) (filesGiven (now (area .entry)) (length (now (records .entry))) (now (out .entry))) r (now (out .exit)) ⌝ }
+    ensures { λ _. ⌜ now (records .exit) ≡ filesLeft (now (area .entry)) (now (records .entry)) (now (out .entry)) ⌝ }
+{
+    if out.len() < ASKED {
+        return TOO_SHORT;
+    }
+    match next_files(area, walk_in(out), records) {
+        FilesStep::Files { count, next } => {
+            let w = walk_words(next);
+            put(out, 0, &[w.0, w.1, w.2, w.3, count as u64], GIVEN)
+        }
+        FilesStep::None => NONE,
+        FilesStep::Refused(why) => put_refusal(out, 4, why),
+    }
+}
+
+// The file at an index. Words: as of the next file, without the index.
 pub fn file_at(area: &[u8], index: u32, out: &mut [u64]) -> u32
     ensures { λ r. ⌜ Gives (now (out .entry)) (infoGiven (now (area .entry)) index) r (now (out .exit)) ⌝ }
 {

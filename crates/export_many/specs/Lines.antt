@@ -2,21 +2,17 @@
 -- 27 are a walk's state. With fewer than 29 of these nothing changes.
 -- Definitions only; a reader must believe them.
 use Prim.Native.Nat.{ℕ}
-use mathlib.Core.List.{List, [], _∷_, _++_}
+use mathlib.Core.List.{List}
 use lib.ListN.{length}
 use Rattle.area.specs.Kind.{ruled}
-use Rattle.turns.specs.declared.LineWalk.{LineWalk}
-use Rattle.given.specs.Given.{Given, stepGiven, ifRoom, shortGiven}
-use Rattle.line_words.specs.LineWords.{lineWalkIn, lineWalkWords}
-use Rattle.many_lines.specs.Lines.{linesOf, counted, filled}
-
--- the next state, and behind it how many records there are
-abbrev pub countWords : ℕ → LineWalk → List ℕ
-countWords n w = lineWalkWords w ++ (n ∷ [])
+use Rattle.given.specs.Given.{Given}
+use Rattle.given.specs.FillGiven.{fillGiven, fillLeft}
+use Rattle.line_words.specs.LineWords.{lineWalkIn, lineWalkWords, recordWords}
+use Rattle.many_lines.specs.Lines.{linesOf}
 
 abbrev pub linesGiven : List ℕ → List ℕ → ℕ → List ℕ → Given
-linesGiven s v n o = ifRoom 29 o (stepGiven 27 countWords (counted (linesOf ruled s v n (lineWalkIn o)))) shortGiven
+linesGiven s v n o = fillGiven 27 lineWalkWords o (linesOf ruled s v n (lineWalkIn o))
 
 -- the words x lent for records, after it
 abbrev pub recordsLeft : List ℕ → List ℕ → List ℕ → List ℕ → List ℕ
-recordsLeft s v x o = ifRoom 29 o (filled x (linesOf ruled s v (length x) (lineWalkIn o))) x
+recordsLeft s v x o = fillLeft 27 recordWords o x (linesOf ruled s v (length x) (lineWalkIn o))

@@ -8,6 +8,7 @@ use native.Mathlib.Numerals.{add-one}
 use lib.ListN.{length, take, drop, set, getD}
 use lib.Seq.{paste, paste-suc, take-length}
 use mathlib.Core.Bool.{Bool, true, false, cond}
+use mathlib.Core.Logic.{_⊎_, inl, inr, ⊎-elim}
 use lib.Dec.{leb}
 use borrow.Author.Tests.{le-leb, lt-leb, leb-true}
 use Rattle.walk.specs.Cases.{by-cases}
@@ -84,20 +85,27 @@ module _ {M : Type 0} (k : ℕ) (o : List ℕ) (g : Given) (m n : M) where
   pub room-keeps : length o < k → Gives o (ifRoom k o g shortGiven) 3 o × (m ≡ ifRoom k o n m)
   room-keeps h = rw (lt-leb k (length o) h) (gives-nothing 3 o, refl)
 
+-- THE LAW: with any status but 1 such a call changes nothing, if with room it has an answer or leaves m
+pub room-still : {M : Type 0} (k : ℕ) (o : List ℕ) (g : Given) (m n : M) {r : ℕ} {left : List ℕ}
+    → (k ≤ length o → (statusIn o g ≡ 1) ⊎ (n ≡ m)) → Gives o (ifRoom k o g shortGiven) r left → (r ≡ 1 → ⊥) → ifRoom k o n m ≡ m
+room-still {M} k o g m n {r} h q z = go (leb k (length o)) refl (q .status)
+  where
+    go : (t : Bool) → leb k (length o) ≡ t → r ≡ statusIn o (cond t g shortGiven) → cond t n m ≡ m
+    go true e s = ⊎-elim (λ a. absurd (z (s ∙ a))) (λ b. b) (h (omega (arith, leb-true k (length o) e)))
+    go false e s = refl
+
 -- what it leaves of m where it has no answer: m
 abbrev pub Still : {M : Type 0} → Reply ℕ Told → M → M → Type 0
 Still (gave k) m n = Unit {0}
 Still nothing m n = n ≡ m
 Still (refused t) m n = n ≡ m
 
--- THE LAW: with any status but 1 such a call changes nothing
+-- THE LAW for a call of one answer
 pub room-careful : {M : Type 0} (o : List ℕ) (x : Reply ℕ Told) (m n : M) {r : ℕ} {left : List ℕ}
     → Still x m n → Gives o (ifRoom 2 o (replyGiven one x) shortGiven) r left → (r ≡ 1 → ⊥) → ifRoom 2 o n m ≡ m
-unfolding statusIn
-room-careful {M} o x m n {r} h g z = go (leb 2 (length o)) refl x h (g .status)
+room-careful o x m n h g z = room-still 2 o (replyGiven one x) m n (by x h) g z
   where
-    go : (t : Bool) → leb 2 (length o) ≡ t → (y : Reply ℕ Told) → Still y m n → r ≡ statusIn o (cond t (replyGiven one y) shortGiven) → cond t n m ≡ m
-    go true e (gave k) q s = absurd (z (s ∙ rw (le-leb 1 (length o) (omega (arith, leb-true 2 (length o) e)))))
-    go true e nothing q s = q
-    go true e (refused t) q s = q
-    go false e y q s = refl
+    by : (y : Reply ℕ Told) → Still y m n → 2 ≤ length o → (statusIn o (replyGiven one y) ≡ 1) ⊎ (n ≡ m)
+    by (gave k) q l = inl (sym (gives-put o (given 1 0 (one k)) (omega arith) .status))
+    by nothing q l = inr q
+    by (refused t) q l = inr q

@@ -5,3 +5,5 @@ pub mod Fill
 pub mod FillLaws
 pub mod TableWords
 pub mod TableWordsLaws
+pub mod FillGiven
+pub mod FillGivenLaws

@@ -1,8 +1,8 @@
 -- Laws of a walk over a table in words: reading its state, and what is given of its step.
 use Prim.Native.Nat.{ℕ}
-use mathlib.Core.Path.{_≡_, sym, ap, _∙_}
+use mathlib.Core.Path.{_≡_, refl, sym, ap, _∙_}
 use mathlib.Core.List.{List, [], _∷_, _++_}
-use lib.ListN.{getD}
+use lib.ListN.{length, getD}
 use borrow.Author.Tests.{eq-eqb, ne-eqb}
 use Rattle.table.specs.declared.TableWalk.{TableWalk}
 use Rattle.table.specs.declared.TableWalk.the-variants as walk
@@ -18,6 +18,10 @@ module _ (o : List ℕ) (n : ℕ) (e : n ≡ getD o 0 0) where
   pub walk-goes : (n ≡ 0 → ⊥) → (a b d : ℕ) → a ≡ getD o 1 0 → b ≡ getD o 2 0 → d ≡ getD o 3 0 → walk.In a b d ≡ walkIn o
   unfolding walkIn
   walk-goes z a b d ea eb ed = rw (ne-eqb (getD o 0 0) 0 (λ q. z (e ∙ q)), ea, eb, ed)
+
+pub walk-length : (w : TableWalk) → length (walkWords w) ≡ 4
+walk-length walk.New = refl
+walk-length (walk.In start len at) = refl
 
 pub walk-is : {w v : TableWalk} → w ≡ v → walkWords w ≡ walkWords v
 walk-is e = ap walkWords e

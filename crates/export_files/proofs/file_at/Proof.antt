@@ -5,8 +5,8 @@ use mathlib.Core.Path.{sym, ap, _∙_}
 use Rattle.files.specs.Told.{toldInfo}
 use Rattle.given.specs.Given.{given, replyGiven}
 use Rattle.given.specs.GivenLaws.{gives-as}
-use Rattle.export_files.specs.Words.{infoWords}
-use Rattle.export_files.specs.WordsLaws.{info-words}
+use Rattle.many_files.specs.FileWords.{infoWords}
+use Rattle.many_files.specs.FileWordsLaws.{info-words}
 use Rattle.export_files.proofs.file_at.Statement.{statement}
 use Rattle.export_files.proofs.file_at.Tie as tie
 

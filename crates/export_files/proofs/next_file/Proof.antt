@@ -9,8 +9,8 @@ use Rattle.given.specs.Given.{stepGiven}
 use Rattle.given.specs.GivenLaws.{gives-as, gives-none}
 use Rattle.given.specs.TableWords.{tableWords}
 use Rattle.given.specs.TableWordsLaws.{gives-table}
-use Rattle.export_files.specs.Words.{fileWords}
-use Rattle.export_files.specs.WordsLaws.{file-words}
+use Rattle.many_files.specs.FileWords.{fileWords}
+use Rattle.many_files.specs.FileWordsLaws.{file-words}
 use Rattle.export_files.proofs.next_file.Statement.{statement}
 use Rattle.export_files.proofs.next_file.Tie as tie
 

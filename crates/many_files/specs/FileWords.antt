@@ -1,10 +1,10 @@
--- The words of each answer.
+-- A file in words.
 -- Definitions only; a reader must believe them.
 use Prim.Native.Nat.{ℕ}
 use mathlib.Core.List.{List, [], _∷_}
 use Rattle.files.specs.Files.{Info, File}
 
--- a file: its name, its checksum's kind, and the place and the length of the bytes; in front of these its index
+-- what is known of it: its name, its checksum's kind, and the place and the length of the bytes; in front of these its index
 abbrev pub infoWords : Info → List ℕ
 infoWords f = f .name ∷ f .kind ∷ f .start ∷ f .len ∷ []
 

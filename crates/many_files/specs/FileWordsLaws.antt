@@ -1,8 +1,13 @@
--- Laws of the words of answers: words that are equal to those of an answer's parts.
+-- Laws of a file in words: how many they are, and words that are equal to those of its parts.
 use Prim.Native.Nat.{ℕ}
-use mathlib.Core.Path.{_≡_, sym, ap}
+use mathlib.Core.Path.{_≡_, refl, sym, ap}
 use mathlib.Core.List.{List, [], _∷_}
-use Rattle.export_files.specs.Words.{infoWords, fileWords}
+use lib.ListN.{length}
+use Rattle.files.specs.Files.{File}
+use Rattle.many_files.specs.FileWords.{infoWords, fileWords}
+
+pub file-length : (f : File) → length (fileWords f) ≡ 5
+file-length f = refl
 
 -- j is the number of the checksum's kind k
 module _ (name start len j k : ℕ) (e : j ≡ k) where

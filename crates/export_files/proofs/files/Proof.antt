@@ -1,0 +1,76 @@
+-- `export_files::files` meets its contract: the words of what `next_files` tells, and the records as that leaves them; without room nothing.
+-- Assumes nothing.
+use borrow.Author.Needs.{needs}
+use mathlib.Core.Path.{refl, sym, ap, _∙_}
+use native.Mathlib.Omega.{arith}
+use lib.ListN.{length}
+use Rattle.area.specs.Kind.{ruled}
+use Rattle.given.specs.Given.{one}
+use Rattle.given.specs.GivenLaws.{gives-none}
+use Rattle.given.specs.TableWords.{walkIn, walkWords}
+use Rattle.given.specs.TableWordsLaws.{gives-table}
+use Rattle.given.specs.FillGivenLaws.{fill-short, fill-given}
+use Rattle.many_files.specs.FileWords.{fileWords}
+use Rattle.many_files.specs.Files.{filesOf}
+use Rattle.many_files.specs.Told.{toldFiles}
+use Rattle.export_files.proofs.files.Statement.{statement}
+use Rattle.export_files.proofs.files.Tie as tie
+
+returns : tie.Need-returns
+returns c =
+    let at = c .before .before .before .before .args in
+    fill-short 4 walkWords fileWords (at .out .now) (at .records .now) (filesOf ruled (at .area .now) (length (at .records .now)) (walkIn (at .out .now))) (omega arith)
+
+returns-2 : tie.Need-returns-2
+returns-2 c =
+    let h = c .before .before .before .before .before .before .before .before .before .before .before in
+    let at = h .before .before .before .before .before .before .before .before .args in
+    let w = h .before .before .walk-in .ensures in
+    let l = h .next-files .ensures in
+    let e = ap toldFiles (sym (c .before .before .before .before .before .before .before .count .given .1)) ∙ l .0 in
+    fill-given 4 walkWords fileWords (at .out .now) (at .records .now) (filesOf ruled (at .area .now) (length (at .records .now))) (omega arith) w e (l .1)
+    (gives-table one (c .before .before .before .before .before .before .before .count .given .0 .0) (c .before .before .before .before .before .before .before .count .given .0 .1 .0) (c .before .before .before .before .before .walk-words .ensures) refl (c .before .before .put .ensures))
+
+returns-3 : tie.Need-returns-3
+returns-3 c =
+    let h = c .before .before .before .before in
+    let at = h .before .before .before .before .before .before .before .before .args in
+    let w = h .before .before .walk-in .ensures in
+    let l = h .next-files .ensures in
+    let e = ap toldFiles (sym (c .enum-told .given .1)) ∙ l .0 in
+    fill-given 4 walkWords fileWords (at .out .now) (at .records .now) (filesOf ruled (at .area .now) (length (at .records .now))) (omega arith) w e (l .1)
+    (gives-none _)
+
+returns-4 : tie.Need-returns-4
+returns-4 c =
+    let h = c .before .before .before .before .before .before .before .before .before in
+    let at = h .before .before .before .before .before .before .before .before .args in
+    let w = h .before .before .walk-in .ensures in
+    let l = h .next-files .ensures in
+    let e = ap toldFiles (sym (c .before .before .before .before .before .why .given .1)) ∙ l .0 in
+    fill-given 4 walkWords fileWords (at .out .now) (at .records .now) (filesOf ruled (at .area .now) (length (at .records .now))) (omega arith) w e (l .1)
+    (c .before .before .put-refusal .ensures)
+
+pub files-spec : {M : Type 1} → statement M
+files-spec =
+    tie.close
+    (tie.spec
+    returns
+    (λ c κs. search needs)
+    (λ c κs. search needs)
+    (λ c. search needs)
+    (λ c κs. search needs)
+    (λ c. search needs)
+    (λ c κs. search needs)
+    (λ c. search needs)
+    (λ c. search needs)
+    (λ c κs. search needs)
+    (λ c. search needs)
+    (λ c. search needs)
+    returns-2
+    (λ c. search needs)
+    (λ c. search needs)
+    returns-3
+    (λ c. search needs)
+    (λ c. search needs)
+    returns-4)

@@ -1,0 +1,17 @@
+-- Laws of the call for many files: only an answer changes the words lent for records.
+use Prim.Native.Nat.{ℕ}
+use mathlib.Core.Path.{_≡_}
+use mathlib.Core.List.{List}
+use lib.ListN.{length}
+use Rattle.area.specs.Kind.{ruled}
+use Rattle.given.specs.Given.{Gives}
+use Rattle.given.specs.TableWords.{walkIn, walkWords}
+use Rattle.given.specs.TableWordsLaws.{walk-length}
+use Rattle.given.specs.FillGivenLaws.{fill-careful}
+use Rattle.many_files.specs.FileWords.{fileWords}
+use Rattle.many_files.specs.Files.{filesOf}
+use Rattle.export_files.specs.Calls.{filesGiven, filesLeft}
+
+-- THE LAW: with any status but 1 the words lent for records are as they were
+pub files-careful : (s x o : List ℕ) {r : ℕ} {left : List ℕ} → Gives o (filesGiven s (length x) o) r left → (r ≡ 1 → ⊥) → filesLeft s x o ≡ x
+files-careful s x o = fill-careful 4 walkWords fileWords o x (filesOf ruled s (length x) (walkIn o)) walk-length

@@ -1,0 +1,103 @@
+-- `many_files::fill` meets its contract. The invariant: n files are put, and the walk behind them is w (`Put`). The measure is the room that is left.
+-- Assumes nothing.
+use borrow.Author.Needs.{needs}
+use native.Mathlib.Omega.{arith}
+use mathlib.Core.Path.{_≡_, refl, sym, ap, _∙_}
+use Prim.Native.Nat.{_/_, _-_}
+use lib.ListN.{length}
+use Rattle.area.specs.Kind.{ruled}
+use Rattle.walk.specs.Listing.{none, refuses}
+use Rattle.files.specs.Files.{fileStep}
+use Rattle.files.specs.Told.{toldFile}
+use Rattle.given.specs.FillLaws.{fill-start, fill-full, fill-stop, fill-none}
+use Rattle.many_files.specs.FileWords.{fileWords}
+use Rattle.many_files.specs.FileWordsLaws.{file-length, file-words}
+use Rattle.many_files.specs.FilesLaws.{Put, put-file}
+use Rattle.many_files.proofs.fill.Statement.{statement}
+use Rattle.many_files.proofs.fill.Tie as tie
+
+abbrev Inv-loop : tie.InvT-loop
+Inv-loop area out₀ room n₀ w₀ out n w = Put ruled area w₀ out₀ n w out × (room ≡ length out₀ / 5)
+
+abbrev μ-loop : tie.MeasureT-loop
+μ-loop area out₀ room n₀ w₀ out n w = room - n
+
+loop-holds : tie.Need-loop-holds Inv-loop μ-loop
+loop-holds c = (fill-start 5 fileWords file-length (fileStep ruled _) _ _, refl)
+
+mul-put : tie.Need-mul-put Inv-loop μ-loop
+mul-put c = search needs
+
+add-n : tie.Need-add-n Inv-loop μ-loop
+add-n c = search needs
+
+loop-less : tie.Need-loop-less Inv-loop μ-loop
+loop-less c = omega arith
+
+loop-again : tie.Need-loop-again Inv-loop μ-loop
+loop-again c =
+    let m = c .before .before .before .before .before .before .before in
+    let h = m .before .before in
+    let l = h .before .before .loop in
+    let e = ap toldFile (sym (m .index .given .1)) ∙ h .next-file .ensures in
+    let ws = file-words _ _ _ _ _ (c .before .before .before .before .before .number .ensures) _ in
+    (put-file ruled _ _ _ (l .inv .0) _ _ e (omega arith) ws (c .before .before .put .ensures), l .inv .1)
+
+returns : tie.Need-returns Inv-loop μ-loop
+returns c =
+    let h = c .before .before .before in
+    let e = ap toldFile (sym (c .before .enum-told .given .1)) ∙ h .next-file .ensures in
+    fill-none 5 fileWords file-length (fileStep ruled _) _ _ (h .before .before .loop .inv .0) (omega arith) none e tt (c .if1 .taken)
+
+returns-2 : tie.Need-returns-2 Inv-loop μ-loop
+returns-2 c =
+    let h = c .before .before .before in
+    let e = ap toldFile (sym (c .before .enum-told .given .1)) ∙ h .next-file .ensures in
+    fill-stop 5 fileWords file-length (fileStep ruled _) _ _ (h .before .before .loop .inv .0) (omega arith) none e tt (c .if1 .left)
+
+returns-3 : tie.Need-returns-3 Inv-loop μ-loop
+returns-3 c =
+    let h = c .before .before .before .before in
+    let e = ap toldFile (sym (c .before .before .why .given .1)) ∙ h .next-file .ensures in
+    fill-none 5 fileWords file-length (fileStep ruled _) _ _ (h .before .before .loop .inv .0) (omega arith) (refuses _) e tt (c .if2 .taken)
+
+returns-4 : tie.Need-returns-4 Inv-loop μ-loop
+returns-4 c =
+    let h = c .before .before .before .before in
+    let e = ap toldFile (sym (c .before .before .why .given .1)) ∙ h .next-file .ensures in
+    fill-stop 5 fileWords file-length (fileStep ruled _) _ _ (h .before .before .loop .inv .0) (omega arith) (refuses _) e tt (c .if2 .left)
+
+returns-5 : tie.Need-returns-5 Inv-loop μ-loop
+returns-5 c = fill-full 5 fileWords file-length (fileStep ruled _) _ _ (c .before .loop .inv .0) (omega arith) (omega arith) (omega arith)
+
+pub fill-spec : {M : Type 1} → statement M
+fill-spec =
+    tie.close
+    (tie.spec
+    Inv-loop
+    μ-loop
+    loop-holds
+    (λ c κs. search needs)
+    (λ c. search needs)
+    (λ c κs. search needs)
+    (λ c. search needs)
+    mul-put
+    (λ c. search needs)
+    (λ c. search needs)
+    (λ c. search needs)
+    (λ c κs. search needs)
+    add-n
+    loop-less
+    loop-again
+    (λ c. search needs)
+    (λ c. search needs)
+    returns
+    (λ c. search needs)
+    returns-2
+    (λ c. search needs)
+    (λ c. search needs)
+    returns-3
+    (λ c. search needs)
+    returns-4
+    (λ c. search needs)
+    returns-5)

@@ -1,0 +1,35 @@
+-- Laws of many files at once: a turn of the loop that puts a file, and that the files given, and the steps behind them, are the files of the area.
+use Prim.Native.Nat.{ℕ, _+_, _*_, _/_, _<_}
+use mathlib.Core.Path.{_≡_, sym, ap, _∙_}
+use mathlib.Core.List.{List}
+use lib.ListN.{length}
+use Rattle.word.specs.Word.{store}
+use Rattle.walk.specs.Listing.{gives, calls, replies}
+use Rattle.walk.specs.Many.{many}
+use Rattle.walk.specs.ManyLaws.{gaveAll, many-calls}
+use Rattle.area.specs.Kind.{Sort}
+use Rattle.table.specs.declared.TableWalk.{TableWalk}
+use Rattle.table.specs.declared.TableWalk.the-variants as walk
+use Rattle.files.specs.Files.{File, fileStep, filesIn}
+use Rattle.files.specs.FilesLaws.{files-walk}
+use Rattle.given.specs.Given.{given, Gives}
+use Rattle.given.specs.FillLaws.{Filling, fill-stored}
+use Rattle.many_files.specs.FileWords.{fileWords}
+use Rattle.many_files.specs.FileWordsLaws.{file-length}
+
+module _ (rule : ℕ → Sort) (s : List ℕ) (w₀ : TableWalk) (o₀ : List ℕ) where
+  -- n files are put into o, and the walk behind them is w
+  abbrev pub Put : ℕ → TableWalk → List ℕ → Type 0
+  Put n w o = Filling 5 fileWords file-length (fileStep rule s) w₀ o₀ n w w o
+
+  -- a turn
+  pub put-file : {n : ℕ} {w : TableWalk} {o : List ℕ} → Put n w o → (f : File) (t : TableWalk) {o′ ws : List ℕ} {status r : ℕ} → gives f t ≡ fileStep rule s w
+      → n < length o₀ / 5 → fileWords f ≡ ws → Gives o (given status (5 * n) ws) r o′ → Put (n + 1) t o′
+  put-file {n} {w} {o} h f t {o′} e l q g =
+      fill-stored 5 fileWords file-length (fileStep rule s) w₀ o₀ h f t o′ e l (g .words ∙ ap (store o (5 * n)) (sym q))
+
+-- THE LAW: k files at once, and j steps behind them, answer what the files of the area ask
+pub many-files : (rule : ℕ → Sort) (s : List ℕ) (k j : ℕ)
+    → gaveAll (many (fileStep rule s) k walk.New .records) (calls (fileStep rule s) j (many (fileStep rule s) k walk.New .next))
+    ≡ replies (length (many (fileStep rule s) k walk.New .records) + j) (filesIn rule s)
+many-files rule s k j = sym (many-calls (fileStep rule s) k j walk.New) ∙ files-walk rule s (length (many (fileStep rule s) k walk.New .records) + j)

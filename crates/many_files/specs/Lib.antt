@@ -1,0 +1,5 @@
+pub mod FileWords
+pub mod FileWordsLaws
+pub mod Files
+pub mod Told
+pub mod FilesLaws

@@ -1,0 +1,104 @@
+// Many files of an area at once, in words (crate: `LineProgram::files`, a whole `FileIterator` in coarse calls): as many as the lent words have room for,
+// and the walk behind the last. The first step of a new walk finds the checksum body, which the others know.
+//
+// The files before an end or a refusal are given first, and the next call, from the walk answered, tells it.
+ghost use mathlib.Core.Path.{_≡_};
+ghost use Prim.Native.Nat.{_≤_};
+ghost use lib.ListN.{length};
+ghost use Rattle.area.specs.Kind.{ruled};
+ghost use Rattle.files.specs.Told.{toldFile};
+ghost use Rattle.given.specs.Fill.{noRoom, counted, filled};
+ghost use Rattle.many_files.specs.FileWords.{fileWords};
+ghost use Rattle.many_files.specs.Files.{filesOf};
+ghost use Rattle.many_files.specs.Told.{toldFiles};
+use checksums::number;
+use files::FileStep;
+use files::next_file;
+use given::GIVEN;
+use given::put;
+use refusal::Refusal;
+use table::TableWalk;
+
+// The words of a file.
+pub const FILE: usize = 5;
+
+pub enum FilesStep {
+    Files { count: usize, next: TableWalk },
+    None,
+    Refused(Refusal),
+}
+
+// What there is to answer where no file fits.
+fn no_room(step: FileStep) -> FilesStep
+    ensures { λ r. ⌜ toldFiles r ≡ counted (noRoom (toldFile step)) ⌝ }
+{
+    match step {
+        FileStep::File {
+            index: _,
+            name: _,
+            kind: _,
+            start: _,
+            len: _,
+            next: _,
+        } => FilesStep::Refused(Refusal::NoRoom),
+        FileStep::None => FilesStep::None,
+        FileStep::Refused(why) => FilesStep::Refused(why),
+    }
+}
+
+// Step after step; `w` is the walk behind the last file.
+fn fill(area: &[u8], walk: TableWalk, out: &mut [u64]) -> FilesStep
+    requires { ⌜ 5 ≤ length (now out) ⌝ }
+    ensures { λ r. ⌜ toldFiles r ≡ counted (filesOf ruled (now (area .entry)) (length (now (out .entry))) walk) ⌝ }
+    ensures { λ _. ⌜ now (out .exit) ≡ filled fileWords (now (out .entry)) (filesOf ruled (now (area .entry)) (length (now (out .entry))) walk) ⌝ }
+{
+    let room = out.len() / FILE;
+    let mut n: usize = 0;
+    let mut w = walk;
+    while n < room {
+        match next_file(area, w) {
+            FileStep::File {
+                index,
+                name,
+                kind,
+                start,
+                len,
+                next,
+            } => {
+                let k = number(kind) as u64;
+                put(
+                    out,
+                    FILE * n,
+                    &[index as u64, name as u64, k, start as u64, len as u64],
+                    GIVEN,
+                );
+                n += 1;
+                w = next;
+            }
+            FileStep::None => {
+                if n == 0 {
+                    return FilesStep::None;
+                }
+                return FilesStep::Files { count: n, next: w };
+            }
+            FileStep::Refused(why) => {
+                if n == 0 {
+                    return FilesStep::Refused(why);
+                }
+                return FilesStep::Files { count: n, next: w };
+            }
+        }
+    }
+    FilesStep::Files { count: n, next: w }
+}
+
+// The files from a walk on, as many as `out` has room for, 5 words each.
+pub fn next_files(area: &[u8], walk: TableWalk, out: &mut [u64]) -> FilesStep
+    ensures { λ r. ⌜ toldFiles r ≡ counted (filesOf ruled (now (area .entry)) (length (now (out .entry))) walk) ⌝ }
+    ensures { λ _. ⌜ now (out .exit) ≡ filled fileWords (now (out .entry)) (filesOf ruled (now (area .entry)) (length (now (out .entry))) walk) ⌝ }
+{
+    if out.len() < FILE {
+        return no_room(next_file(area, walk));
+    }
+    fill(area, walk, out)
+}
