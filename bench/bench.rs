@@ -243,7 +243,7 @@ impl Input {
 
 /// How many records one call of `c13_lines` has room for, and how many files one of `c13_files`.
 const ROOM: usize = 1 << 18;
-const FILES: usize = 64;
+const FILES: usize = 16;
 
 /// The cases through the library.
 mod rattle {
