@@ -1,9 +1,10 @@
--- The bytes of subsections: what a writer makes. `parts` undoes it (`parts-whole` of JoinLaws).
+-- The bytes of subsections: what a writer makes. `parts` undoes it (`parts-whole` of JoinLaws). Source: cvinfo.h, `CV_DebugSSubsectionHeader_t`;
+-- document 01, "Area and subsections": a subsection is kind u32, length u32, body.
 -- Definitions only; a reader must believe them.
 use mathlib.Core.List.{List, [], _∷_, _++_}
 use Prim.Native.Nat.{ℕ}
 use lib.ListN.{length}
-use Rattle.word.specs.WordLaws.{header}
+use Rattle.word.specs.Word.{header}
 use Rattle.area.specs.Parts.{Raw}
 
 -- the bytes of a subsection, and of several

@@ -6,8 +6,8 @@ use native.Mathlib.Omega.{arith}
 use lib.ListN.{length, take, drop, length-append, take-append-drop}
 use lib.Seq.{drop-drop, drop-at, take-add, take-append-seam, drop-append-seam}
 use borrow.Author.Tests.{le-ltb, ne-eqb}
-use Rattle.word.specs.Word.{u32At}
-use Rattle.word.specs.WordLaws.{header, header-length, header-first, header-second, header-u32, Bytes, bytes-drop}
+use Rattle.word.specs.Word.{u32At, header, Bytes}
+use Rattle.word.specs.WordLaws.{header-length, header-first, header-second, header-u32, bytes-drop}
 use Rattle.walk.specs.Listing.{Move, item, pass, over, fail, more, ends, onMove, before}
 use Rattle.area.specs.Parts.{Raw, Lack, Parts, bite, parts}
 use Rattle.area.specs.PartsLaws.{parts-step, Bitten, bitten}

@@ -7,3 +7,4 @@ pub mod Kind
 pub mod Subs
 pub mod SubsLaws
 pub mod Told
+pub mod Untold

@@ -12,14 +12,16 @@ use borrow.Author.Tests.{ltb-true, ltb-false}
 use Rattle.word.specs.Word.{u32At}
 use Rattle.word.specs.WordLaws.{u32-drop}
 use Rattle.walk.specs.Cases.{by-cases, tests}
-use Rattle.walk.specs.Listing.{Move, item, pass, over, fail, Listing, more, ends, fails, gives, none, refuses, onMove, mapped, moved, all, calls, replies}
+use Rattle.walk.specs.Listing.{Move, item, pass, over, fail, Listing, more, ends, fails, gives, none, refuses, onMove, mapped, moved, all, calls, replies, Answer}
 use Rattle.walk.specs.ListingLaws.{To, Every, all-ind, all-unique, calls-are}
 use Rattle.refusal.specs.Told.{Told, told, longest, numberOf}
 use Rattle.refusal.specs.declared.Refusal.the-variants as why
 use Rattle.area.specs.Parts.{Raw, Lack, Parts, bite, parts}
 use Rattle.area.specs.PartsLaws.{parts-step, parts-ind, Bitten, bitten}
 use Rattle.area.specs.Kind.{Sort, known, skipped, unknown, onSort, ruled}
-use Rattle.area.specs.Subs.{Sub, subOf, placed, subsFrom, firstOf, stepAt, bodiesIn, bodies}
+use Rattle.area.specs.Subs.{Sub, subOf, placed, subsFrom, firstOf, stepAt, bodiesIn, bodies, after}
+use Rattle.area.specs.declared.SubStep.{SubStep}
+use Rattle.area.specs.Told.{toldStep}
 
 -- a whole subsection of kind k at p with n bytes of body
 unfoldable pub wholeAs : (ℕ → Sort) → ℕ → ℕ → ℕ → Move ℕ Sub Told
@@ -353,3 +355,9 @@ step-right rule s p = by (subsFrom rule s p) (subs-chained rule s p)
 
 pub steps-are : (rule : ℕ → Sort) (s : List ℕ) (n p : ℕ) → calls (stepAt rule s) n p ≡ replies n (subsFrom rule s p)
 steps-are rule s = calls-are (stepAt rule s) (subsFrom rule s) (step-right rule s)
+
+-- what an answer h that tells m says of a walk's step, read off the case g that h is
+pub stepped : (h g : SubStep) (m : Answer ℕ Sub Told) (p : ℕ) → toldStep h ≡ m → h ≡ g → (toldStep g ≡ m) × (after (toldStep g) p ≡ after m p)
+stepped h g m p e q =
+    let f : toldStep g ≡ m = ap toldStep (sym q) ∙ e in
+    (f, ap (λ (x : Answer ℕ Sub Told). after x p) f)

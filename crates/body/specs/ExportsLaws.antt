@@ -7,8 +7,8 @@ use lib.ListN.{length, drop, length-append}
 use lib.Seq.{drop-at}
 use lib.Dec.{ltb, eqb}
 use borrow.Author.Tests.{ltb-false, eqb-true, eq-eqb, ne-eqb, le-ltb}
-use Rattle.word.specs.Word.{u32At, le32}
-use Rattle.word.specs.WordLaws.{Bytes, header-length, header-first, header-second}
+use Rattle.word.specs.Word.{u32At, le32, Bytes}
+use Rattle.word.specs.WordLaws.{header-length, header-first, header-second}
 use Rattle.walk.specs.Cases.{by-cases}
 use Rattle.walk.specs.Listing.{Move, item, over, ends, before}
 use Rattle.refusal.specs.Told.{Told}

@@ -8,8 +8,8 @@ use lib.ListN.{length, drop, length-append}
 use lib.Seq.{drop-at}
 use lib.Dec.{ltb, eqb}
 use borrow.Author.Tests.{ltb-false, eqb-true, ne-eqb, le-ltb}
-use Rattle.word.specs.Word.{u32At, le32}
-use Rattle.word.specs.WordLaws.{Bytes, le32-length, header-length, u32-first}
+use Rattle.word.specs.Word.{u32At, le32, Bytes}
+use Rattle.word.specs.WordLaws.{le32-length, header-length, u32-first}
 use Rattle.walk.specs.Cases.{by-cases}
 use Rattle.walk.specs.Listing.{Move, item, over}
 use Rattle.refusal.specs.Told.{Told}

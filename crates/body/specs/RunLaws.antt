@@ -4,7 +4,7 @@ use mathlib.Core.Path.{_≡_, refl, sym, ap, _∙_}
 use mathlib.Core.List.{List, [], _∷_, _++_, append-assoc, append-nil}
 use native.Mathlib.Omega.{arith}
 use lib.ListN.{length, drop, length-drop}
-use Rattle.word.specs.WordLaws.{Bytes}
+use Rattle.word.specs.Word.{Bytes}
 use Rattle.walk.specs.Listing.{Move, item, pass, over, fail, more, ends, onMove, before, all}
 use Rattle.walk.specs.ListingLaws.{To, all-step, all-ind}
 use Rattle.refusal.specs.Told.{Told}

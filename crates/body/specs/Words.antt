@@ -1,4 +1,5 @@
--- Runs of words of four bytes: as bytes spell them, and as bytes are made of them.
+-- Runs of words of four bytes: as bytes spell them, and as bytes are made of them. Source: document 01, "Area and subsections": words are
+-- little-endian.
 -- Definitions only; a reader must believe them.
 use Prim.Native.Nat.{ℕ, zero, suc}
 use mathlib.Core.List.{List, [], _∷_, _++_}

@@ -7,8 +7,8 @@ use native.Mathlib.Nat.{add-zero}
 use native.Mathlib.Numerals.{add-one}
 use lib.ListN.{length, take, drop, getD, length-append, length-drop, take-append-drop}
 use lib.Seq.{drop-drop, drop-at, drop-cons}
-use Rattle.word.specs.Word.{u16At, u32At, le16, le32}
-use Rattle.word.specs.WordLaws.{Bytes, bytes-drop, u16-drop, u32-drop, u16-first, u32-first, le16-u16, le32-u32, le32-length}
+use Rattle.word.specs.Word.{u16At, u32At, le16, le32, Bytes}
+use Rattle.word.specs.WordLaws.{bytes-drop, u16-drop, u32-drop, u16-first, u32-first, le16-u16, le32-u32, le32-length}
 use Rattle.body.specs.Words.{wordsIn, wordBytes}
 
 pub word-length : (ws : List ℕ) → length (wordBytes ws) ≡ 4 * length ws

@@ -9,8 +9,8 @@ use lib.ListN.{length, take}
 use lib.Seq.{length-take-le}
 use lib.Dec.{leb, eqb}
 use borrow.Author.Tests.{leb-true, eqb-true, le-leb, lt-leb, eq-eqb, ne-eqb}
-use Rattle.word.specs.Word.{put}
-use Rattle.word.specs.WordLaws.{header, header-length}
+use Rattle.word.specs.Word.{put, header}
+use Rattle.word.specs.WordLaws.{header-length}
 use Rattle.walk.specs.Listing.{Reply, gave, refused}
 use Rattle.refusal.specs.Told.{Told, told}
 use Rattle.refusal.specs.declared.Refusal.the-variants as why

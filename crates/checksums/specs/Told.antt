@@ -1,13 +1,8 @@
--- What each answer of this crate tells: document 01's numbers and values. Nothing is lost on the way (`untold-..`), so no second answer tells
--- the same.
+-- What the answers of this crate tell. Source: document 01, "Refusal numbers", and the values that it names for each.
+-- Definitions only; a reader must believe them.
 use Prim.Native.Nat.{ℕ}
-use mathlib.Core.Path.{_≡_, refl, ap}
-use mathlib.Core.List.{List, [], _∷_}
-use lib.ListN.{getD}
-use Rattle.walk.specs.Listing.{Answer, gives, none, refuses, Reply, gave, nothing, refused}
+use Rattle.walk.specs.Listing.{Answer, gives, none, refuses, Reply, gave, refused}
 use Rattle.refusal.specs.Told.{Told, told}
-use Rattle.refusal.specs.Untold.{untold, untold-told}
-use Rattle.refusal.specs.declared.Refusal.the-variants as why
 use Rattle.checksums.specs.Entry.{Entry}
 use Rattle.checksums.specs.declared.ChecksumKind.{ChecksumKind}
 use Rattle.checksums.specs.declared.ChecksumKind.the-variants as kind
@@ -23,43 +18,11 @@ toldKind kind.Md5 = 1
 toldKind kind.Sha1 = 2
 toldKind kind.Sha256 = 3
 
-abbrev kinds : List ChecksumKind
-kinds = kind.None ∷ kind.Md5 ∷ kind.Sha1 ∷ kind.Sha256 ∷ []
-
-abbrev pub untoldKind : ℕ → ChecksumKind
-untoldKind k = getD kinds k kind.None
-
-pub untold-kind : (k : ChecksumKind) → untoldKind (toldKind k) ≡ k
-untold-kind kind.None = refl
-untold-kind kind.Md5 = refl
-untold-kind kind.Sha1 = refl
-untold-kind kind.Sha256 = refl
-
 abbrev pub toldParsed : ParsedKind → Reply ℕ Told
 toldParsed (parsed.Kind k) = gave (toldKind k)
 toldParsed (parsed.Refused r) = refused (told r)
-
--- no answer tells `nothing`
-abbrev pub untoldParsed : Reply ℕ Told → ParsedKind
-untoldParsed (gave k) = parsed.Kind (untoldKind k)
-untoldParsed nothing = parsed.Refused why.Cut
-untoldParsed (refused t) = parsed.Refused (untold t)
-
-pub untold-parsed : (p : ParsedKind) → untoldParsed (toldParsed p) ≡ p
-untold-parsed (parsed.Kind k) = ap parsed.Kind (untold-kind k)
-untold-parsed (parsed.Refused r) = ap parsed.Refused (untold-told r)
 
 abbrev pub toldEntry : EntryStep → Answer ℕ Entry Told
 toldEntry (step.Entry i k a n x) = gives (record { name = i; kind = toldKind k; start = a; len = n }) x
 toldEntry step.None = none
 toldEntry (step.Refused r) = refuses (told r)
-
-abbrev pub untoldEntry : Answer ℕ Entry Told → EntryStep
-untoldEntry (gives e x) = step.Entry (e .name) (untoldKind (e .kind)) (e .start) (e .len) x
-untoldEntry none = step.None
-untoldEntry (refuses t) = step.Refused (untold t)
-
-pub untold-entry : (h : EntryStep) → untoldEntry (toldEntry h) ≡ h
-untold-entry (step.Entry i k a n x) = ap (λ (j : ChecksumKind). step.Entry i j a n x) (untold-kind k)
-untold-entry step.None = refl
-untold-entry (step.Refused r) = ap step.Refused (untold-told r)

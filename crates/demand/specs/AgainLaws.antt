@@ -8,8 +8,8 @@ use native.Mathlib.Omega.{arith}
 use lib.ListN.{length, length-append}
 use lib.Dec.{eqb}
 use borrow.Author.Tests.{le-leb, eq-eqb}
-use Rattle.word.specs.Word.{le32, put}
-use Rattle.word.specs.WordLaws.{header, header-length, le32-length, put-length, Bytes}
+use Rattle.word.specs.Word.{le32, put, header, Bytes}
+use Rattle.word.specs.WordLaws.{header-length, le32-length, put-length}
 use Rattle.walk.specs.Listing.{ends, before}
 use Rattle.refusal.specs.Told.{told, longest}
 use Rattle.refusal.specs.declared.Refusal.the-variants as why

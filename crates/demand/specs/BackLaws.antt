@@ -8,8 +8,8 @@ use native.Mathlib.Omega.{arith}
 use lib.ListN.{length, take, drop, getD, length-drop}
 use lib.Dec.{ltb, leb, eqb}
 use borrow.Author.Tests.{ltb-false, leb-true, eqb-true}
-use Rattle.word.specs.Word.{u16At, u32At, le16, le32}
-use Rattle.word.specs.WordLaws.{Bytes, bytes-drop, u16-drop, le16-u16, header}
+use Rattle.word.specs.Word.{u16At, u32At, le16, le32, Bytes, header}
+use Rattle.word.specs.WordLaws.{bytes-drop, u16-drop, le16-u16}
 use Rattle.walk.specs.Cases.{and-true}
 use Rattle.walk.specs.Listing.{Move, item, pass, over, fail, Listing, more, ends, fails, before, all}
 use Rattle.refusal.specs.Told.{Told, told}

@@ -13,7 +13,7 @@ use native.Mathlib.Omega.{arith}
 use lib.ListN.{length, drop}
 use lib.Dec.{ltb}
 use borrow.Author.Tests.{ltb-false}
-use Rattle.word.specs.WordLaws.{Bytes}
+use Rattle.word.specs.Word.{Bytes}
 use Rattle.walk.specs.Listing.{gave, refused, ends, before}
 use Rattle.refusal.specs.Told.{Told, longest}
 use Rattle.area.specs.Parts.{parts}

@@ -8,8 +8,8 @@ use native.Mathlib.Omega.{arith}
 use lib.ListN.{length, take, drop, length-append}
 use lib.Dec.{leb}
 use lib.Seq.{length-take-le, drop-at, drop-drop}
-use Rattle.word.specs.Word.{le32, put}
-use Rattle.word.specs.WordLaws.{header, header-length, le32-length, put-length}
+use Rattle.word.specs.Word.{le32, put, header}
+use Rattle.word.specs.WordLaws.{header-length, le32-length, put-length}
 use Rattle.walk.specs.Listing.{Reply, gave, refused}
 use Rattle.refusal.specs.Told.{Told, told}
 use Rattle.refusal.specs.declared.Refusal.the-variants as why

@@ -9,8 +9,8 @@ use lib.ListN.{length, take, drop, length-append}
 use lib.Seq.{length-take-le, take-at, drop-at}
 use lib.Dec.{eqb}
 use borrow.Author.Tests.{leb-true, eqb-true}
-use Rattle.word.specs.Word.{le32, put}
-use Rattle.word.specs.WordLaws.{header, header-length, le32-length}
+use Rattle.word.specs.Word.{le32, put, header}
+use Rattle.word.specs.WordLaws.{header-length, le32-length}
 use Rattle.area.specs.Parts.{Raw}
 use Rattle.area.specs.Join.{bytesOf, join}
 use Rattle.area.specs.JoinLaws.{appended}

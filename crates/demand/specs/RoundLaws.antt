@@ -8,8 +8,8 @@ use mathlib.Core.Option.{some}
 use native.Mathlib.Omega.{arith}
 use lib.ListN.{length, take, length-append}
 use lib.Seq.{length-take-le}
-use Rattle.word.specs.Word.{le32, put}
-use Rattle.word.specs.WordLaws.{header, header-length, le32-length, put-length}
+use Rattle.word.specs.Word.{le32, put, header}
+use Rattle.word.specs.WordLaws.{header-length, le32-length, put-length}
 use Rattle.walk.specs.Listing.{Listing, ends, before}
 use Rattle.refusal.specs.Told.{Told, told}
 use Rattle.refusal.specs.declared.Refusal.the-variants as why

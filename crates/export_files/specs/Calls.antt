@@ -1,4 +1,4 @@
--- What each call on files gives. s is the area, and o the lent words, whose first four are a walk's state.
+-- What each call on files gives. s is the area, and o the lent words, whose first four are a walk's state. Source: docs/DECISIONS.md, 32.
 -- Definitions only; a reader must believe them.
 use Prim.Native.Nat.{ℕ}
 use mathlib.Core.List.{List}

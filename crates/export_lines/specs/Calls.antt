@@ -1,5 +1,6 @@
 -- What each call on lines gives. s is the area, v the slots, and o the lent words, whose first 27 are a walk's state. The order list changes the slots
 -- only with two words to answer into.
+-- Source: docs/DECISIONS.md, 32.
 -- Definitions only; a reader must believe them.
 use Prim.Native.Nat.{ℕ}
 use mathlib.Core.List.{List}

@@ -1,5 +1,6 @@
 -- What the call for many line records gives. s is the area, v the slots, n the number of words lent for records, and o the other lent words, whose first
 -- 27 are a walk's state. With fewer than 29 of these nothing changes.
+-- Source: docs/DECISIONS.md, 32.
 -- Definitions only; a reader must believe them.
 use Prim.Native.Nat.{ℕ}
 use mathlib.Core.List.{List}

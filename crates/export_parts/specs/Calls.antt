@@ -1,4 +1,5 @@
 -- What each call on parts gives. s is the area or the stream, and o the lent words, whose first is the place of the next subsection.
+-- Source: docs/DECISIONS.md, 32.
 -- Definitions only; a reader must believe them.
 use Prim.Native.Nat.{ℕ}
 use mathlib.Core.List.{List}

@@ -1,4 +1,4 @@
--- The words of each answer: of a subsection first the place behind it, which is the next state.
+-- The words of each answer: of a subsection first the place behind it, which is the next state. Source: docs/DECISIONS.md, 32.
 -- Definitions only; a reader must believe them.
 use Prim.Native.Nat.{ℕ}
 use mathlib.Core.List.{List, [], _∷_}

@@ -1,4 +1,4 @@
--- The words of each record.
+-- The words of each record. Source: docs/DECISIONS.md, 32.
 -- Definitions only; a reader must believe them.
 use Prim.Native.Nat.{ℕ}
 use mathlib.Core.List.{List, [], _∷_}

@@ -1,5 +1,6 @@
 -- What each writer call gives, and the buffer after it. The call is an item of the full reading, b the buffer, w the place behind what is written, and o
 -- the lent words. A call changes the buffer only with two words to answer into.
+-- Source: docs/DECISIONS.md, 32.
 -- Definitions only; a reader must believe them.
 use Prim.Native.Nat.{ℕ}
 use mathlib.Core.List.{List, [], _∷_}

@@ -1,3 +1,4 @@
 pub mod Exports
 pub mod Told
+pub mod Untold
 pub mod ExportsLaws

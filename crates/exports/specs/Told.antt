@@ -1,10 +1,8 @@
--- What each answer of this crate tells: document 01's numbers and values. Nothing is lost on the way (`untold-..`), so no second answer tells
--- the same.
+-- What the answers of this crate tell. Source: document 01, "Refusal numbers", and the values that it names for each.
+-- Definitions only; a reader must believe them.
 use Prim.Native.Nat.{ℕ}
-use mathlib.Core.Path.{_≡_, refl, ap}
 use Rattle.walk.specs.Listing.{Answer, gives, none, refuses, Reply, gave, nothing, refused}
 use Rattle.refusal.specs.Told.{Told, told}
-use Rattle.refusal.specs.Untold.{untold, untold-told}
 use Rattle.body.specs.Exports.{Pair}
 use Rattle.table.specs.declared.TableWalk.{TableWalk}
 use Rattle.exports.specs.Exports.{Export, aType, anId}
@@ -23,69 +21,21 @@ abbrev pub toldExport : CrossModuleExport → Export
 toldExport (export.Type l g) = aType l g
 toldExport (export.Id l g) = anId l g
 
-abbrev pub untoldExport : Export → CrossModuleExport
-untoldExport (aType l g) = export.Type l g
-untoldExport (anId l g) = export.Id l g
-
-pub untold-export : (e : CrossModuleExport) → untoldExport (toldExport e) ≡ e
-untold-export (export.Type l g) = refl
-untold-export (export.Id l g) = refl
-
 abbrev pub toldPair : PairStep → Answer ℕ Pair Told
 toldPair (pair.Pair l g x) = gives (record { local = l; global = g }) x
 toldPair pair.None = none
 toldPair (pair.Refused r) = refuses (told r)
-
-abbrev pub untoldPair : Answer ℕ Pair Told → PairStep
-untoldPair (gives p x) = pair.Pair (p .local) (p .global) x
-untoldPair none = pair.None
-untoldPair (refuses t) = pair.Refused (untold t)
-
-pub untold-pair : (h : PairStep) → untoldPair (toldPair h) ≡ h
-untold-pair (pair.Pair l g x) = refl
-untold-pair pair.None = refl
-untold-pair (pair.Refused r) = ap pair.Refused (untold-told r)
 
 abbrev pub toldStep : ExportStep → Answer TableWalk Export Told
 toldStep (step.Export e w) = gives (toldExport e) w
 toldStep step.None = none
 toldStep (step.Refused r) = refuses (told r)
 
-abbrev pub untoldStep : Answer TableWalk Export Told → ExportStep
-untoldStep (gives e w) = step.Export (untoldExport e) w
-untoldStep none = step.None
-untoldStep (refuses t) = step.Refused (untold t)
-
-pub untold-step : (h : ExportStep) → untoldStep (toldStep h) ≡ h
-untold-step (step.Export e w) = ap (λ (x : CrossModuleExport). step.Export x w) (untold-export e)
-untold-step step.None = refl
-untold-step (step.Refused r) = ap step.Refused (untold-told r)
-
 abbrev pub toldCount : Count → Reply ℕ Told
 toldCount (count.Exports n) = gave n
 toldCount (count.Refused r) = refused (told r)
-
--- a count is never `nothing`
-abbrev pub untoldCount : Reply ℕ Told → Count
-untoldCount (gave n) = count.Exports n
-untoldCount nothing = count.Exports 0
-untoldCount (refused t) = count.Refused (untold t)
-
-pub untold-count : (h : Count) → untoldCount (toldCount h) ≡ h
-untold-count (count.Exports n) = refl
-untold-count (count.Refused r) = ap count.Refused (untold-told r)
 
 abbrev pub toldLookup : Lookup → Reply ℕ Told
 toldLookup (found.Global g) = gave g
 toldLookup found.None = nothing
 toldLookup (found.Refused r) = refused (told r)
-
-abbrev pub untoldLookup : Reply ℕ Told → Lookup
-untoldLookup (gave g) = found.Global g
-untoldLookup nothing = found.None
-untoldLookup (refused t) = found.Refused (untold t)
-
-pub untold-lookup : (h : Lookup) → untoldLookup (toldLookup h) ≡ h
-untold-lookup (found.Global g) = refl
-untold-lookup found.None = refl
-untold-lookup (found.Refused r) = ap found.Refused (untold-told r)

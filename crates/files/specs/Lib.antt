@@ -1,3 +1,4 @@
 pub mod Files
 pub mod Told
+pub mod Untold
 pub mod FilesLaws

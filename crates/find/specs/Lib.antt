@@ -1,3 +1,4 @@
 pub mod Find
 pub mod Told
+pub mod Untold
 pub mod FindLaws

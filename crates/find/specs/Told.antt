@@ -1,8 +1,7 @@
--- What the answer of this crate tells: document 01's numbers and values. Nothing is lost on the way.
-use mathlib.Core.Path.{_≡_, refl, ap}
+-- What the answer of this crate tells. Source: document 01, "Refusal numbers", and the values that it names for each.
+-- Definitions only; a reader must believe them.
 use Rattle.walk.specs.Listing.{Reply, gave, nothing, refused}
 use Rattle.refusal.specs.Told.{Told, told}
-use Rattle.refusal.specs.Untold.{untold, untold-told}
 use Rattle.find.specs.Find.{Span}
 use Rattle.find.specs.declared.Found.{Found}
 use Rattle.find.specs.declared.Found.the-variants as found
@@ -11,13 +10,3 @@ abbrev pub toldFound : Found → Reply Span Told
 toldFound (found.At a n) = gave (record { start = a; len = n })
 toldFound found.None = nothing
 toldFound (found.Refused r) = refused (told r)
-
-abbrev pub untoldFound : Reply Span Told → Found
-untoldFound (gave a) = found.At (a .start) (a .len)
-untoldFound nothing = found.None
-untoldFound (refused t) = found.Refused (untold t)
-
-pub untold-found : (f : Found) → untoldFound (toldFound f) ≡ f
-untold-found (found.At a n) = refl
-untold-found found.None = refl
-untold-found (found.Refused r) = ap found.Refused (untold-told r)

@@ -1,5 +1,5 @@
 -- Many records at once, in words: as many as the lent words have room for, k words each, at their start. Where the first step gives no record the
--- answer is that step's, and nothing is put. Where there is a record and no room for one it is refused with 10.
+-- answer is that step's, and nothing is put. Where there is a record and no room for one it is refused with 10. Source: docs/DECISIONS.md, 36.
 -- Definitions only; a reader must believe them.
 use Prim.Native.Nat.{ℕ, _/_}
 use mathlib.Core.List.{List, [], _∷_, _++_}

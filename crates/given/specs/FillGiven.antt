@@ -1,5 +1,6 @@
 -- What a call that gives many records gives, over any walk. Its state is the first k words of the lent words o, g having the words of a state; the
 -- records go into other lent words x, f having the words of one; a is the answer in records. With fewer than k + 2 words in o nothing changes.
+-- Source: docs/DECISIONS.md, 36.
 -- Definitions only; a reader must believe them.
 use Prim.Native.Nat.{ℕ, _+_}
 use mathlib.Core.List.{List, [], _∷_, _++_}

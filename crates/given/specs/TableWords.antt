@@ -1,5 +1,5 @@
 -- A walk over a table in four words: 0 and whatever behind it for a new one; else any other number, where the body starts, how long it is, and
--- the place in it. A word that is not there is 0.
+-- the place in it. A word that is not there is 0. Source: docs/DECISIONS.md, 32.
 -- Definitions only; a reader must believe them.
 use Prim.Native.Nat.{ℕ}
 use mathlib.Core.List.{List, [], _∷_, _++_}

@@ -1,3 +1,4 @@
 pub mod Imports
 pub mod Told
+pub mod Untold
 pub mod ImportsLaws

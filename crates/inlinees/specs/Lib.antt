@@ -1,4 +1,5 @@
 pub mod Inlinees
 pub mod Told
+pub mod Untold
 pub mod SourceLineLaws
 pub mod InlineesLaws

@@ -1,10 +1,8 @@
--- What each answer of this crate tells: document 01's numbers and values. Nothing is lost on the way (`untold-..`), so no second answer tells
--- the same.
+-- What the answers of this crate tell. Source: document 01, "Refusal numbers", and the values that it names for each.
+-- Definitions only; a reader must believe them.
 use Prim.Native.Nat.{ℕ}
-use mathlib.Core.Path.{_≡_, refl, ap}
 use Rattle.walk.specs.Listing.{Answer, gives, none, refuses}
 use Rattle.refusal.specs.Told.{Told, told}
-use Rattle.refusal.specs.Untold.{untold, untold-told}
 use Rattle.table.specs.declared.TableWalk.{TableWalk}
 use Rattle.inlinees.specs.Inlinees.{SourceLine}
 use Rattle.inlinees.specs.declared.SourceLineStep.{SourceLineStep}
@@ -17,27 +15,7 @@ toldLine (line.SourceLine i f l a n x) = gives (record { inlinee = i; file = f; 
 toldLine line.None = none
 toldLine (line.Refused r) = refuses (told r)
 
-abbrev pub untoldLine : Answer ℕ SourceLine Told → SourceLineStep
-untoldLine (gives e x) = line.SourceLine (e .inlinee) (e .file) (e .line) (e .extra) (e .count) x
-untoldLine none = line.None
-untoldLine (refuses t) = line.Refused (untold t)
-
-pub untold-line : (h : SourceLineStep) → untoldLine (toldLine h) ≡ h
-untold-line (line.SourceLine i f l a n x) = refl
-untold-line line.None = refl
-untold-line (line.Refused r) = ap line.Refused (untold-told r)
-
 abbrev pub toldInlinee : InlineeStep → Answer TableWalk SourceLine Told
 toldInlinee (step.Inlinee i f l a n w) = gives (record { inlinee = i; file = f; line = l; extra = a; count = n }) w
 toldInlinee step.None = none
 toldInlinee (step.Refused r) = refuses (told r)
-
-abbrev pub untoldInlinee : Answer TableWalk SourceLine Told → InlineeStep
-untoldInlinee (gives e w) = step.Inlinee (e .inlinee) (e .file) (e .line) (e .extra) (e .count) w
-untoldInlinee none = step.None
-untoldInlinee (refuses t) = step.Refused (untold t)
-
-pub untold-inlinee : (h : InlineeStep) → untoldInlinee (toldInlinee h) ≡ h
-untold-inlinee (step.Inlinee i f l a n w) = refl
-untold-inlinee step.None = refl
-untold-inlinee (step.Refused r) = ap step.Refused (untold-told r)

@@ -1,5 +1,6 @@
 pub mod Item
 pub mod Record
 pub mod Told
+pub mod Untold
 pub mod RecordLaws
 pub mod RecordsLaws

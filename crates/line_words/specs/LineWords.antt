@@ -2,6 +2,7 @@
 -- subsections are left, how far the area has been searched, 1 and the record held back or 0; and of the place the header's four fields, its end,
 -- the next block, the file, the lines left, the next line and the next column. Where a state lacks a part its words are 0.
 -- Read back, a word too large for its field counts modulo the field's size, and a tag above the last is the last.
+-- Source: docs/DECISIONS.md, 32.
 -- Definitions only; a reader must believe them.
 use Prim.Native.Nat.{ℕ, _%_}
 use mathlib.Core.List.{List, [], _∷_, _++_}

@@ -1,9 +1,8 @@
--- What the answers of this crate tell: document 01's numbers and values. Nothing is lost on the way.
+-- What the answers of this crate tell. Source: document 01, "Refusal numbers", and the values that it names for each.
+-- Definitions only; a reader must believe them.
 use Prim.Native.Nat.{ℕ}
-use mathlib.Core.Path.{_≡_, refl, ap}
-use Rattle.walk.specs.Listing.{Answer, gives, none, refuses, Reply, gave, nothing, refused}
+use Rattle.walk.specs.Listing.{Answer, gives, none, refuses, Reply, gave, refused}
 use Rattle.refusal.specs.Told.{Told, told}
-use Rattle.refusal.specs.Untold.{untold, untold-told}
 use Rattle.body.specs.Lines.{LineHead}
 use Rattle.find.specs.Find.{Span}
 use Rattle.lines.specs.Blocks.{LineBlock}
@@ -18,49 +17,15 @@ use Rattle.lines.specs.declared.Named.the-variants as name
 abbrev pub toldHeader : LineHeader → LineHead
 toldHeader h = record { offset = h .offset; section = h .section; flags = h .flags; code = h .code }
 
-abbrev pub untoldHeader : LineHead → LineHeader
-untoldHeader h = record { offset = h .offset; section = h .section; flags = h .flags; code = h .code }
-
-pub untold-header : (h : LineHeader) → untoldHeader (toldHeader h) ≡ h
-untold-header h = refl
-
 abbrev pub toldBlock : BlockStep → Answer ℕ LineBlock Told
 toldBlock (block.Block f n a x) = gives (record { file = f; count = n; start = a }) x
 toldBlock block.None = none
 toldBlock (block.Refused r) = refuses (told r)
 
-abbrev pub untoldBlock : Answer ℕ LineBlock Told → BlockStep
-untoldBlock (gives k x) = block.Block (k .file) (k .count) (k .start) x
-untoldBlock none = block.None
-untoldBlock (refuses t) = block.Refused (untold t)
-
-pub untold-block : (k : BlockStep) → untoldBlock (toldBlock k) ≡ k
-untold-block (block.Block f n a x) = refl
-untold-block block.None = refl
-untold-block (block.Refused r) = ap block.Refused (untold-told r)
-
 abbrev pub toldCounted : Counted → Reply ℕ Told
 toldCounted (counted.Lines n) = gave n
 toldCounted (counted.Refused r) = refused (told r)
 
-abbrev pub untoldCounted : Reply ℕ Told → Counted
-untoldCounted (gave n) = counted.Lines n
-untoldCounted nothing = counted.Lines 0
-untoldCounted (refused t) = counted.Refused (untold t)
-
-pub untold-counted : (k : Counted) → untoldCounted (toldCounted k) ≡ k
-untold-counted (counted.Lines n) = refl
-untold-counted (counted.Refused r) = ap counted.Refused (untold-told r)
-
 abbrev pub toldNamed : Named → Reply Span Told
 toldNamed (name.Body a n) = gave (record { start = a; len = n })
 toldNamed (name.Refused r) = refused (told r)
-
-abbrev pub untoldNamed : Reply Span Told → Named
-untoldNamed (gave a) = name.Body (a .start) (a .len)
-untoldNamed nothing = name.Body 0 0
-untoldNamed (refused t) = name.Refused (untold t)
-
-pub untold-named : (k : Named) → untoldNamed (toldNamed k) ≡ k
-untold-named (name.Body a n) = refl
-untold-named (name.Refused r) = ap name.Refused (untold-told r)

@@ -1,6 +1,7 @@
 pub mod Dump
 pub mod Step
 pub mod Told
+pub mod Untold
 pub mod StepLaws
 pub mod DumpLaws
 pub mod RoomLaws

@@ -8,8 +8,8 @@ use lib.ListN.{length, take, drop, getD, length-take, List·getD-eq-default}
 use lib.Seq.{getD-take}
 use lib.Dec.{ltb, eqb}
 use borrow.Author.Tests.{lt-ltb, le-ltb}
-use Rattle.word.specs.Word.{u32At, put}
-use Rattle.word.specs.WordLaws.{Bytes, bytes-drop}
+use Rattle.word.specs.Word.{u32At, put, Bytes}
+use Rattle.word.specs.WordLaws.{bytes-drop}
 use Rattle.walk.specs.Cases.{by-cases, le-or-gt}
 use Rattle.walk.specs.Listing.{Answer, gives, none, refuses, Reply, gave, nothing, refused}
 use Rattle.refusal.specs.Told.{Told, told, longest}

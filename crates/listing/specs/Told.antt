@@ -1,9 +1,8 @@
--- What a step tells: document 01's numbers and values. Nothing is lost on the way.
+-- What the answer of this crate tells. Source: document 01, "Refusal numbers", and the values that it names for each.
+-- Definitions only; a reader must believe them.
 use Prim.Native.Nat.{ℕ}
-use mathlib.Core.Path.{_≡_, refl, ap}
 use Rattle.walk.specs.Listing.{Answer, gives, none, refuses}
 use Rattle.refusal.specs.Told.{Told, told}
-use Rattle.refusal.specs.Untold.{untold, untold-told}
 use Rattle.listing.specs.declared.TextWalk.{TextWalk}
 use Rattle.listing.specs.declared.TextStep.{TextStep}
 use Rattle.listing.specs.declared.TextStep.the-variants as step
@@ -12,13 +11,3 @@ abbrev pub toldText : TextStep → Answer TextWalk ℕ Told
 toldText (step.Line n t) = gives n t
 toldText step.None = none
 toldText (step.Refused r) = refuses (told r)
-
-abbrev pub untoldText : Answer TextWalk ℕ Told → TextStep
-untoldText (gives n t) = step.Line n t
-untoldText none = step.None
-untoldText (refuses t) = step.Refused (untold t)
-
-pub untold-text : (x : TextStep) → untoldText (toldText x) ≡ x
-untold-text (step.Line n t) = refl
-untold-text step.None = refl
-untold-text (step.Refused r) = ap step.Refused (untold-told r)

@@ -1,5 +1,5 @@
 -- Many files of an area at once, in words: as many as the lent words have room for, 5 words each, at their start. Where the first step gives no file
--- the answer is that step's, and nothing is put. Where there is a file and no room for one it is refused with 10.
+-- the answer is that step's, and nothing is put. Where there is a file and no room for one it is refused with 10. Source: docs/DECISIONS.md, 36.
 -- Definitions only; a reader must believe them.
 use Prim.Native.Nat.{ℕ}
 use mathlib.Core.List.{List}

@@ -2,4 +2,5 @@ pub mod FileWords
 pub mod FileWordsLaws
 pub mod Files
 pub mod Told
+pub mod Untold
 pub mod FilesLaws

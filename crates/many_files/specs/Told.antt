@@ -1,9 +1,8 @@
--- What a call tells: document 01's numbers and values. Nothing is lost on the way.
+-- What the answer of this crate tells. Source: document 01, "Refusal numbers", and the values that it names for each.
+-- Definitions only; a reader must believe them.
 use Prim.Native.Nat.{ℕ}
-use mathlib.Core.Path.{_≡_, refl, ap}
 use Rattle.walk.specs.Listing.{Answer, gives, none, refuses}
 use Rattle.refusal.specs.Told.{Told, told}
-use Rattle.refusal.specs.Untold.{untold, untold-told}
 use Rattle.table.specs.declared.TableWalk.{TableWalk}
 use Rattle.many_files.specs.declared.FilesStep.{FilesStep}
 use Rattle.many_files.specs.declared.FilesStep.the-variants as step
@@ -12,13 +11,3 @@ abbrev pub toldFiles : FilesStep → Answer TableWalk ℕ Told
 toldFiles (step.Files n w) = gives n w
 toldFiles step.None = none
 toldFiles (step.Refused r) = refuses (told r)
-
-abbrev pub untoldFiles : Answer TableWalk ℕ Told → FilesStep
-untoldFiles (gives n w) = step.Files n w
-untoldFiles none = step.None
-untoldFiles (refuses t) = step.Refused (untold t)
-
-pub untold-files : (x : FilesStep) → untoldFiles (toldFiles x) ≡ x
-untold-files (step.Files n w) = refl
-untold-files step.None = refl
-untold-files (step.Refused r) = ap step.Refused (untold-told r)

@@ -1,5 +1,6 @@
 pub mod Lines
 pub mod Told
+pub mod Untold
 pub mod Led
 pub mod LedLaws
 pub mod FillLaws

@@ -1,5 +1,6 @@
 -- Many records of the line walk at once, in words: as many as the lent words have room for, 12 words each, at their start. Where the first step gives
 -- no record the answer is that step's, and nothing is put. Where there is a record and no room for one it is refused with 10.
+-- Source: docs/DECISIONS.md, 36.
 -- Definitions only; a reader must believe them.
 use Prim.Native.Nat.{ℕ}
 use mathlib.Core.List.{List}

@@ -1,3 +1,4 @@
 pub mod Modi
 pub mod Told
+pub mod Untold
 pub mod ModiLaws

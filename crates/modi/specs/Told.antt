@@ -1,9 +1,7 @@
--- What each answer of this crate tells: document 01's numbers and values. Nothing is lost on the way (`untold-..`), so no second answer tells
--- the same.
-use mathlib.Core.Path.{_≡_, refl, ap}
-use Rattle.walk.specs.Listing.{Reply, gave, nothing, refused}
+-- What the answers of this crate tell. Source: document 01, "Refusal numbers", and the values that it names for each.
+-- Definitions only; a reader must believe them.
+use Rattle.walk.specs.Listing.{Reply, gave, refused}
 use Rattle.refusal.specs.Told.{Told, told}
-use Rattle.refusal.specs.Untold.{untold, untold-told}
 use Rattle.find.specs.Find.{Span}
 use Rattle.modi.specs.declared.SymbolsAnswer.{SymbolsAnswer}
 use Rattle.modi.specs.declared.SymbolsAnswer.the-variants as symbols
@@ -14,26 +12,6 @@ abbrev pub toldSymbols : SymbolsAnswer → Reply (Unit {0}) Told
 toldSymbols symbols.Yes = gave tt
 toldSymbols (symbols.Refused r) = refused (told r)
 
--- the answer is never `nothing`
-abbrev pub untoldSymbols : Reply (Unit {0}) Told → SymbolsAnswer
-untoldSymbols (gave u) = symbols.Yes
-untoldSymbols nothing = symbols.Yes
-untoldSymbols (refused t) = symbols.Refused (untold t)
-
-pub untold-symbols : (h : SymbolsAnswer) → untoldSymbols (toldSymbols h) ≡ h
-untold-symbols symbols.Yes = refl
-untold-symbols (symbols.Refused r) = ap symbols.Refused (untold-told r)
-
 abbrev pub toldPart : Part → Reply Span Told
 toldPart (part.At a n) = gave (record { start = a; len = n })
 toldPart (part.Refused r) = refused (told r)
-
--- the answer is never `nothing`
-abbrev pub untoldPart : Reply Span Told → Part
-untoldPart (gave a) = part.At (a .start) (a .len)
-untoldPart nothing = part.At 0 0
-untoldPart (refused t) = part.Refused (untold t)
-
-pub untold-part : (h : Part) → untoldPart (toldPart h) ≡ h
-untold-part (part.At a n) = refl
-untold-part (part.Refused r) = ap part.Refused (untold-told r)

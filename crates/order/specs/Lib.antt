@@ -1,4 +1,5 @@
 pub mod Order
 pub mod Told
+pub mod Untold
 pub mod OrderLaws
 pub mod BuiltLaws

@@ -1,5 +1,6 @@
 pub mod Plain
 pub mod Told
+pub mod Untold
 pub mod WalkLaws
 pub mod RecordLaws
 pub mod PlainLaws

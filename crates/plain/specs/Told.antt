@@ -1,6 +1,6 @@
--- What the answers of this crate tell. Nothing is lost on the way.
+-- What the answers of this crate tell. Source: document 01, "Refusal numbers", and the values that it names for each.
+-- Definitions only; a reader must believe them.
 use Prim.Native.Nat.{ℕ}
-use mathlib.Core.Path.{_≡_, refl}
 use mathlib.Core.Option.{Option, none, some}
 use Rattle.plain.specs.Plain.{Last}
 use Rattle.plain.specs.declared.Mark.{Mark}
@@ -15,11 +15,3 @@ toldMark (mark.Fine m) = some m
 abbrev pub toldPlain : PlainAnswer → Option Last
 toldPlain (answer.Yes h k m) = some (record { header = h; kind = k; mark = m })
 toldPlain answer.No = none
-
-abbrev pub untoldPlain : Option Last → PlainAnswer
-untoldPlain (some l) = answer.Yes (l .header) (l .kind) (l .mark)
-untoldPlain none = answer.No
-
-pub untold-plain : (a : PlainAnswer) → untoldPlain (toldPlain a) ≡ a
-untold-plain (answer.Yes h k m) = refl
-untold-plain answer.No = refl

@@ -8,7 +8,7 @@ use native.Mathlib.Omega.{arith}
 use lib.ListN.{length, take, drop}
 use lib.Dec.{ltb, eqb}
 use borrow.Author.Tests.{eqb-true, lt-ltb}
-use Rattle.word.specs.WordLaws.{Bytes}
+use Rattle.word.specs.Word.{Bytes}
 use Rattle.walk.specs.Cases.{by-cases}
 use Rattle.walk.specs.Listing.{Listing, more, ends, fails, mapped, before, Reply, gave, nothing, refused}
 use Rattle.walk.specs.ListingLaws.{Every}

@@ -1,8 +1,7 @@
--- What a step tells: document 01's numbers and values. Nothing is lost on the way.
-use mathlib.Core.Path.{_≡_, refl, ap}
+-- What the answer of this crate tells. Source: document 01, "Refusal numbers", and the values that it names for each.
+-- Definitions only; a reader must believe them.
 use Rattle.walk.specs.Listing.{Answer, gives, none, refuses}
 use Rattle.refusal.specs.Told.{Told, told}
-use Rattle.refusal.specs.Untold.{untold, untold-told}
 use Rattle.line_record.specs.declared.LineRecord.{LineRecord}
 use Rattle.turns.specs.declared.LineWalk.{LineWalk}
 use Rattle.records.specs.declared.LineStep.{LineStep}
@@ -12,13 +11,3 @@ abbrev pub toldLine : LineStep → Answer LineWalk LineRecord Told
 toldLine (step.Line r w) = gives r w
 toldLine step.None = none
 toldLine (step.Refused r) = refuses (told r)
-
-abbrev pub untoldLine : Answer LineWalk LineRecord Told → LineStep
-untoldLine (gives r w) = step.Line r w
-untoldLine none = step.None
-untoldLine (refuses t) = step.Refused (untold t)
-
-pub untold-line : (x : LineStep) → untoldLine (toldLine x) ≡ x
-untold-line (step.Line r w) = refl
-untold-line step.None = refl
-untold-line (step.Refused r) = ap step.Refused (untold-told r)

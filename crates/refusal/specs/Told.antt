@@ -1,4 +1,5 @@
--- Document 01's table of refusals: the number of each, and what it carries. Definitions only; a reader must believe them.
+-- The number of each refusal, and what it carries. Source: document 01, "Refusal numbers".
+-- Definitions only; a reader must believe them.
 use Prim.Native.Nat.{ℕ}
 use mathlib.Core.List.{List, [], _∷_}
 use lib.ListN.{getD}

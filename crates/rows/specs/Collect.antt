@@ -1,4 +1,5 @@
 -- All records of a listing in a list, as the crate collects a table before it looks into it: a refusal anywhere in the listing comes first.
+-- Source: document 01, "Cross-module tables": resolving reads the whole body first, and a lookup tests all pairs.
 -- Definitions only; a reader must believe them.
 use Prim.Native.Nat.{ℕ, zero, suc}
 use mathlib.Core.List.{List, [], _∷_}

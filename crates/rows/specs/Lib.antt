@@ -5,3 +5,4 @@ pub mod CollectLaws
 pub mod Words
 pub mod WordsLaws
 pub mod Told
+pub mod Untold

@@ -1,3 +1,4 @@
 pub mod Strings
 pub mod StringsLaws
 pub mod Told
+pub mod Untold

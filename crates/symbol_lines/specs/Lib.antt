@@ -1,4 +1,5 @@
 pub mod Symbol
 pub mod Told
+pub mod Untold
 pub mod SymbolLaws
 pub mod RecordsLaws

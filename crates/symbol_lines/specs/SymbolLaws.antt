@@ -1,6 +1,6 @@
 -- Laws of the search for a symbol's slot: one for each way of the loop over the slots.
 use Prim.Native.Nat.{ℕ, _+_, _-_, _<_, _≤_}
-use mathlib.Core.Path.{_≡_, sym, ap, _∙_}
+use mathlib.Core.Path.{_≡_, sym, ap, _∙_, refl}
 use mathlib.Core.List.{List}
 use mathlib.Core.Bool.{Bool, true, false, cond}
 use native.Mathlib.Omega.{arith}
@@ -17,7 +17,10 @@ use Rattle.find.specs.Find.{same, Span, bytesAt}
 use Rattle.lines.specs.Lines.{countLines}
 use Rattle.lines.specs.Slots.{bodyAt, nameThen, named, slotAt, listIn}
 use Rattle.lines.specs.SlotsLaws.{Scans, named-slot}
-use Rattle.symbol_lines.specs.Symbol.{headIs, isAt, isBefore, Numbered, numbered, slotOf, atSlot, beforeSlot, slotIn, better, walkTo, symbolWalk}
+use Rattle.symbol_lines.specs.Symbol.{headIs, isAt, isBefore, Numbered, numbered, slotOf, atSlot, beforeSlot, slotIn, better, walkTo, symbolWalk, walkOf}
+use Rattle.symbol_lines.specs.declared.Best.{Best}
+use Rattle.symbol_lines.specs.declared.Best.the-variants as best
+use Rattle.symbol_lines.specs.Told.{toldBest}
 
 -- ---- the tests of the code
 
@@ -150,3 +153,7 @@ module _ (rule : ℕ → Sort) (s v : List ℕ) (section offset : ℕ) where
   pub symbol-refused : (t : Told) → refused t ≡ countLines rule s → refused t ≡ symbolWalk rule s v section offset
   unfolding numbered firstBy
   symbol-refused t e = ap (λ k. walkTo (slotIn section offset (listIn rule s v k))) e
+
+pub walk-best : (b : Best) → gave (walkOf (toldBest b)) ≡ walkTo (toldBest b)
+walk-best best.None = refl
+walk-best (best.Slot i) = refl

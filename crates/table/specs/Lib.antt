@@ -1,5 +1,6 @@
 pub mod Table
 pub mod Told
+pub mod Untold
 pub mod TableLaws
 pub mod StepLaws
 pub mod HandLaws

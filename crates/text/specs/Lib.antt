@@ -2,3 +2,4 @@ pub mod Text
 pub mod TextLaws
 pub mod PageLaws
 pub mod Told
+pub mod Untold

@@ -1,3 +1,4 @@
 pub mod Turn
 pub mod Told
+pub mod Untold
 pub mod TurnLaws

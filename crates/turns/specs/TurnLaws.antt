@@ -19,7 +19,8 @@ use Rattle.line_record.specs.declared.Column.{Column}
 use Rattle.line_record.specs.declared.LineRecord.{LineRecord}
 use Rattle.lines.specs.Blocks.{LineBlock, blockAt}
 use Rattle.lines.specs.Slots.{slotAt}
-use Rattle.lines.specs.Told.{toldHeader, untoldHeader}
+use Rattle.lines.specs.Told.{toldHeader}
+use Rattle.lines.specs.Untold.{untoldHeader}
 use Rattle.lines.specs.declared.LineHeader.{LineHeader}
 use Rattle.turns.specs.declared.Held.{Held}
 use Rattle.turns.specs.declared.Held.the-variants.{Nothing, One}

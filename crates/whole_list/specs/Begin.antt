@@ -1,5 +1,6 @@
 -- When a list is tested as a whole, and where the search for a slot's body begins then. No answer of the library depends on these definitions: they
 -- only say when a call may begin its searches elsewhere, and what that rests on is proved of them (BeginLaws). The number 16 is a matter of cost.
+-- Source: docs/DECISIONS.md, 33 and 35.
 -- Definitions only; a reader must believe them.
 use Prim.Native.Nat.{ℕ, _+_, _-_}
 use mathlib.Core.List.{List, [], _∷_}

@@ -9,7 +9,8 @@ use mathlib.Core.List.{List, [], _∷_}
 use types.Run.{OneOf, miss}
 use denote.Enum.Declared.{tagOf}
 use Rattle.walk.specs.Listing.{none}
-use Rattle.item.specs.Told.{toldItem, untoldItem, untold-item}
+use Rattle.item.specs.Told.{toldItem}
+use Rattle.item.specs.Untold.{untoldItem, untold-item}
 use Rattle.item.specs.declared.ItemStep.{ItemStep}
 use Rattle.item.proofs.ItemStep as item-step
 use Rattle.items.specs.StepLaws.{between-is, record-passes, record-ends, end-lies}

@@ -3,7 +3,7 @@
 use borrow.Author.Needs.{needs}
 use native.Mathlib.Omega.{arith}
 use mathlib.Core.Path.{sym, ap, _∙_}
-use Rattle.word.specs.WordLaws.{Bytes}
+use Rattle.word.specs.Word.{Bytes}
 use Rattle.printed.specs.PrintedLaws.{refused-fits}
 use Rattle.files.specs.Told.{toldFile}
 use Rattle.listing.specs.StepLaws.{stage-none, stage-refuses, file-line}

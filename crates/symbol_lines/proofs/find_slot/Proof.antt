@@ -13,8 +13,8 @@ use Rattle.lines.specs.SlotsLaws.{Scans, scans-start, slot-inside, slot-scans}
 use Rattle.lines.specs.Told.{toldNamed}
 use Rattle.whole_list.specs.BeginLaws.{begin-scans}
 use Rattle.symbol_lines.specs.Symbol.{slotIn, walkTo}
-use Rattle.symbol_lines.specs.Told.{toldBest, walk-best}
-use Rattle.symbol_lines.specs.SymbolLaws.{slotFrom, bestOf, best-start, turn-hit, turn-on, turn-refused, turn-end}
+use Rattle.symbol_lines.specs.Told.{toldBest}
+use Rattle.symbol_lines.specs.SymbolLaws.{walk-best, slotFrom, bestOf, best-start, turn-hit, turn-on, turn-refused, turn-end}
 use Rattle.symbol_lines.proofs.find_slot.Statement.{statement}
 use Rattle.symbol_lines.proofs.find_slot.Tie as tie
 

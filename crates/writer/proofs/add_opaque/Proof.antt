@@ -6,8 +6,7 @@ use mathlib.Core.Path.{ap, _∙_}
 use Prim.Native.Nat.{_+_}
 use mathlib.Core.List.{_++_}
 use lib.ListN.{length}
-use Rattle.word.specs.Word.{put}
-use Rattle.word.specs.WordLaws.{header}
+use Rattle.word.specs.Word.{put, header}
 use Rattle.calls.specs.Calls.{wrote, kept, openAct}
 use Rattle.writer.proofs.add_opaque.Statement.{statement}
 use Rattle.writer.proofs.add_opaque.Tie as tie

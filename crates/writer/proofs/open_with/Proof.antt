@@ -6,8 +6,7 @@ use mathlib.Core.Path.{refl, sym, ap, _∙_}
 use mathlib.Core.List.{_++_}
 use native.Mathlib.Omega.{arith}
 use lib.ListN.{length}
-use Rattle.word.specs.Word.{put}
-use Rattle.word.specs.WordLaws.{header}
+use Rattle.word.specs.Word.{put, header}
 use Rattle.calls.specs.Calls.{place, openAct}
 use Rattle.calls.specs.Told.{toldAct}
 use Rattle.calls.specs.CallLaws.{Goes, open-goes, kept-go, kept-stop}

@@ -5,8 +5,8 @@ use Prim.Native.Nat.{ℕ}
 use mathlib.Core.List.{List, append-assoc}
 use mathlib.Core.Path.{ap, _∙_}
 use lib.ListN.{length}
-use Rattle.word.specs.Word.{le32}
-use Rattle.word.specs.WordLaws.{header, header-length}
+use Rattle.word.specs.Word.{le32, header}
+use Rattle.word.specs.WordLaws.{header-length}
 use Rattle.body.specs.Words.{wordBytes}
 use Rattle.writer.specs.LentLaws.{over, lent-behind}
 use Rattle.writer.proofs.put_module.Statement.{statement}

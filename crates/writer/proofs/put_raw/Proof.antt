@@ -2,7 +2,8 @@
 -- Assumes nothing.
 use borrow.Author.Needs.{needs}
 use lib.ListN.{length}
-use Rattle.word.specs.WordLaws.{header, header-length}
+use Rattle.word.specs.Word.{header}
+use Rattle.word.specs.WordLaws.{header-length}
 use Rattle.writer.specs.LentLaws.{lent-copy}
 use Rattle.writer.proofs.put_raw.Statement.{statement}
 use Rattle.writer.proofs.put_raw.Tie as tie

@@ -1,7 +1,7 @@
 -- `area::SubWalk::step` meets its contract: it hands on what `sub_at` answers, and goes to the place behind it.
 -- Assumes nothing.
 use borrow.Author.Needs.{needs}
-use Rattle.area.specs.Told.{stepped}
+use Rattle.area.specs.SubsLaws.{stepped}
 use Rattle.area.proofs.SubWalk.step.Statement.{statement}
 use Rattle.area.proofs.SubWalk.step.Tie as tie
 

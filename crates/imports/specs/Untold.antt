@@ -1,0 +1,45 @@
+-- Nothing is lost in what the answers of this crate tell: no second one tells the same.
+use Prim.Native.Nat.{ℕ}
+use mathlib.Core.Path.{_≡_, refl, ap}
+use Rattle.walk.specs.Listing.{Answer, gives, none, refuses, Reply, gave, nothing, refused}
+use Rattle.refusal.specs.Told.{Told}
+use Rattle.refusal.specs.Untold.{untold, untold-told}
+use Rattle.table.specs.declared.TableWalk.{TableWalk}
+use Rattle.imports.specs.Imports.{ModuleAt, Ref}
+use Rattle.imports.specs.declared.ModuleStep.{ModuleStep}
+use Rattle.imports.specs.declared.ModuleStep.the-variants as row
+use Rattle.imports.specs.declared.ImportStep.{ImportStep}
+use Rattle.imports.specs.declared.ImportStep.the-variants as step
+use Rattle.imports.specs.declared.Resolved.{Resolved}
+use Rattle.imports.specs.declared.Resolved.the-variants as resolved
+use Rattle.imports.specs.Told.{toldModule, toldStep, toldResolved}
+
+abbrev pub untoldModule : Answer ℕ ModuleAt Told → ModuleStep
+untoldModule (gives m x) = row.Module (m .name) (m .words) (m .count) x
+untoldModule none = row.None
+untoldModule (refuses t) = row.Refused (untold t)
+
+pub untold-module : (h : ModuleStep) → untoldModule (toldModule h) ≡ h
+untold-module (row.Module name words count x) = refl
+untold-module row.None = refl
+untold-module (row.Refused r) = ap row.Refused (untold-told r)
+
+abbrev pub untoldStep : Answer TableWalk ModuleAt Told → ImportStep
+untoldStep (gives m w) = step.Module (m .name) (m .words) (m .count) w
+untoldStep none = step.None
+untoldStep (refuses t) = step.Refused (untold t)
+
+pub untold-step : (h : ImportStep) → untoldStep (toldStep h) ≡ h
+untold-step (step.Module name words count w) = refl
+untold-step step.None = refl
+untold-step (step.Refused r) = ap step.Refused (untold-told r)
+
+-- a reference is never resolved to `nothing`
+abbrev pub untoldResolved : Reply Ref Told → Resolved
+untoldResolved (gave r) = resolved.Ref (r .name) (r .word)
+untoldResolved nothing = resolved.Ref 0 0
+untoldResolved (refused t) = resolved.Refused (untold t)
+
+pub untold-resolved : (h : Resolved) → untoldResolved (toldResolved h) ≡ h
+untold-resolved (resolved.Ref name w) = refl
+untold-resolved (resolved.Refused r) = ap resolved.Refused (untold-told r)

@@ -1,0 +1,14 @@
+-- Nothing is lost in what the answer of this crate tells: no second one tells the same.
+use mathlib.Core.Path.{_≡_, refl}
+use Rattle.text.specs.Text.{Next, at, full}
+use Rattle.text.specs.declared.Place.{Place}
+use Rattle.text.specs.declared.Place.the-variants as place
+use Rattle.text.specs.Told.{toldPlace}
+
+abbrev pub untoldPlace : Next → Place
+untoldPlace (at p) = place.At p
+untoldPlace full = place.Full
+
+pub untold-place : (x : Place) → untoldPlace (toldPlace x) ≡ x
+untold-place (place.At p) = refl
+untold-place place.Full = refl
