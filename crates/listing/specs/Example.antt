@@ -14,7 +14,7 @@ use Rattle.table.specs.Table.{spotIn}
 use Rattle.checksums.specs.Entry.{keptOf, closedAs, entryAt, entriesFrom}
 use Rattle.lines.specs.Lines.{headed, countOf}
 use Rattle.files.specs.Files.{filesSub, partOf}
-use Rattle.sort.specs.Sort.{insBy, sortBy}
+use Rattle.rank.specs.Sort.{insBy, sortBy}
 use Rattle.order.specs.Order.{listed, keyOf}
 use Rattle.line_record.specs.Flags.{kindOf, isMarker}
 use Rattle.line_record.specs.Record.{entryOf, shorterOf, closedAt}

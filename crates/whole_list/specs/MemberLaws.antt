@@ -10,7 +10,7 @@ use lib.ListN.{length, getD}
 use lib.Dec.{eqb}
 use borrow.Author.Tests.{eqb-true, eqb-false}
 use Rattle.walk.specs.Cases.{by-cases, eq-or-ne}
-use Rattle.sort.specs.SortLaws.{Each}
+use Rattle.rank.specs.SortLaws.{Each}
 
 abbrev pub In : ℕ → List ℕ → Type 0
 In v [] = ⊥

@@ -18,7 +18,7 @@ use Rattle.area.specs.SubsLaws.{Within, Chained, subs-ind, subs-chained}
 use Rattle.find.specs.Find.{is}
 use Rattle.lines.specs.Slots.{bodyIn, bodyFrom}
 use Rattle.lines.specs.SlotsLaws.{body-passed}
-use Rattle.sort.specs.SortLaws.{Each, each-map}
+use Rattle.rank.specs.SortLaws.{Each, each-map}
 use Rattle.order.specs.Order.{listed, startOf}
 use Rattle.whole_list.specs.WholeList.{comesBy}
 

@@ -14,7 +14,7 @@ use Rattle.area.specs.Kind.{Sort}
 use Rattle.area.specs.Subs.{Sub, subsFrom, stepAt}
 use Rattle.area.specs.SubsLaws.{sub-next, sub-end, sub-refused}
 use Rattle.lines.specs.Lines.{countLines}
-use Rattle.sort.specs.Rank.{rank}
+use Rattle.rank.specs.Rank.{rank}
 use Rattle.order.specs.Order.{startsFrom}
 use Rattle.whole_list.specs.WholeList.{middle, lookAt, halvedIn, halved, slotBehind, allFound, comesBy, comesTo, wholeIn, wholeList}
 

@@ -12,7 +12,7 @@ use Rattle.refusal.specs.Told.{Told}
 use Rattle.area.specs.Kind.{Sort}
 use Rattle.area.specs.Subs.{Sub, subsFrom}
 use Rattle.lines.specs.Lines.{countLines}
-use Rattle.sort.specs.Rank.{rank}
+use Rattle.rank.specs.Rank.{rank}
 use Rattle.order.specs.Order.{startsFrom}
 
 -- a look for v at the middle of the slots from a to e, w being their order, and then f of the half that is left. Where v is found the answer is the

@@ -20,9 +20,9 @@ use Rattle.lines.specs.Lines.{countLines}
 use Rattle.lines.specs.LinesLaws.{counted-short}
 use Rattle.lines.specs.Slots.{slotAt}
 use Rattle.lines.specs.SlotsLaws.{Scans, slot-same}
-use Rattle.sort.specs.SortLaws.{Each}
-use Rattle.sort.specs.Rank.{rank}
-use Rattle.sort.specs.RankLaws.{After, Ascends}
+use Rattle.rank.specs.SortLaws.{Each}
+use Rattle.rank.specs.Rank.{rank}
+use Rattle.rank.specs.RankLaws.{After, Ascends}
 use Rattle.order.specs.Order.{startsFrom}
 use Rattle.order.specs.OrderLaws.{counted-starts}
 use Rattle.order.specs.BuiltLaws.{ascends}

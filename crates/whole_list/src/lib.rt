@@ -7,14 +7,14 @@ ghost use Prim.Native.Nat.{_≤_};
 ghost use lib.ListN.{length};
 ghost use Rattle.area.specs.Kind.{ruled};
 ghost use Rattle.order.specs.Order.{startsFrom};
-ghost use Rattle.sort.specs.Rank.{rank};
+ghost use Rattle.rank.specs.Rank.{rank};
 ghost use Rattle.whole_list.specs.WholeList.{halved, slotBehind, allFound, comesTo, wholeList};
 ghost use Rattle.whole_list.specs.Begin.{goesBack, backs, tested, beginAt};
 use area::SubStep;
 use area::sub_at;
 use lines::Counted;
 use lines::count_lines;
-use sort::less;
+use rank::less;
 
 // The place behind the slot that holds `start`, among those from `from` to `to`, or 0. Each look at the middle leaves a shorter span. In a list that
 // is not in order a slot may be missed.

@@ -10,7 +10,7 @@ use Rattle.whole_list.specs.StepLaws.{halved-none, halved-here, halved-b
 use Rattle.whole_list.proofs.halved.Reads as halved
 use Rattle.whole_list.proofs.halved.Kinds as halved-kinds
 use Rattle.whole_list.proofs.+halved.Lts-halved as halved-lts
-use Rattle.sort.proofs.less.Reads as less-reads
+use Rattle.rank.proofs.less.Reads as less-reads
 use Rattle.whole_list.proofs.+halved.{statement}
 use Rattle.whole_list.proofs.+halved.Tie.{close}
 

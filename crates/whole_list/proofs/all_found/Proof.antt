@@ -9,7 +9,7 @@ use lib.ListN.{length}
 use Rattle.area.specs.Kind.{ruled}
 use Rattle.area.specs.Told.{toldStep}
 use Rattle.area.specs.SubsLaws.{sub-next}
-use Rattle.sort.specs.Rank.{rank}
+use Rattle.rank.specs.Rank.{rank}
 use Rattle.order.specs.Order.{startsFrom}
 use Rattle.order.specs.OrderLaws.{sub-short, starts-line, starts-other, starts-end, starts-refused}
 use Rattle.whole_list.specs.WholeList.{allFound}
