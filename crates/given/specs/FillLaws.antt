@@ -12,7 +12,7 @@ use Rattle.word.specs.Word.{put, store}
 use Rattle.word.specs.WordLaws.{put-length, store-put}
 use Rattle.walk.specs.Cases.{tests}
 use Rattle.walk.specs.Listing.{Answer, gives, none, refuses}
-use Rattle.walk.specs.Many.{Many, noMore, asMany, many, manyOf}
+use Rattle.walk.specs.Many.{Many, noMore, thenMany, asMany, many, manyOf}
 use Rattle.walk.specs.ManyLaws.{NoRecord, many-step, many-none, many-zero, many-some}
 use Rattle.refusal.specs.Told.{Told}
 use Rattle.given.specs.PiecesLaws.{put-nothing, put-join}
@@ -56,6 +56,26 @@ record Done (S : Type 0) : Type 0 where
 
 abbrev done : {S B : Type 0} → ℕ → (B → List ℕ) → ℕ → List ℕ → Many S B → Done S
 done k f n o m = record { count = n + length (m .records); next = m .next; words = putFrom k f n o (m .records) }
+
+-- fewer are enough where no more are given
+module _ {S B R : Type 0} (next : S → Answer S B R) where
+  many-fewer : (k j : ℕ) (w : S) → length (many next k w .records) ≤ j → j ≤ k → many next j w ≡ many next k w
+  unfolding many
+  many-fewer zero zero w h l = refl
+  many-fewer zero (suc j) w h l = absurd (omega arith)
+  many-fewer (suc k) zero w h l = by (next w) h
+    where
+      by : (a : Answer S B R) → length (thenMany (many next k) w a .records) ≤ 0 → noMore w ≡ thenMany (many next k) w a
+      by (gives b t) h = absurd (omega arith)
+      by none h = refl
+      by (refuses r) h = refl
+  many-fewer (suc k) (suc j) w h l = by (many-fewer k j) (next w) h
+    where
+      by : ((t : S) → length (many next k t .records) ≤ j → j ≤ k → many next j t ≡ many next k t) → (a : Answer S B R)
+          → length (thenMany (many next k) w a .records) ≤ suc j → thenMany (many next j) w a ≡ thenMany (many next k) w a
+      by ih (gives b t) h = ap (λ m. record { records = b ∷ m .records; next = m .next }) (ih t (omega arith) (omega arith))
+      by ih none h = refl
+      by ih (refuses r) h = refl
 
 -- S is the type of the walk's states and B that of the records
 module _ {S B : Type 0} (k : ℕ) (f : B → List ℕ) (sized : (b : B) → length (f b) ≡ k) (next : S → Answer S B Told) (w₀ : S) (o₀ : List ℕ) where
@@ -152,6 +172,15 @@ module _ {S B : Type 0} (k : ℕ) (f : B → List ℕ) (sized : (b : B) → leng
         let x : 0 + length (m .records) ≤ room = omega (arith, h .most) in
         let fits : k * (0 + length (m .records)) ≤ length o₀ = omega (arith, mul-le-mul-left k x, mul-div-le (length o₀) k) in
         ((λ i. gives (c i) (qn i)) ∙ ap counted e, qw ∙ put-from k f sized 0 o₀ (m .records) fits ∙ ap (λ (x : ℕ). put o₀ x (wordsOf f (m .records))) (mul-zero k) ∙ ap (filled f o₀) e)
+
+    -- which state is behind the last record: the one that as many records from the start on lead to
+    pub fill-behind : (a : Answer S B Told) → a ≡ next w → NoRecord a → last ≡ many next n w₀ .next
+    fill-behind a e g =
+        let m = many next room w₀ in
+        let q = ended (inl (subst NoRecord e g)) in
+        let qc : n + 0 ≡ 0 + length (m .records) = ap (λ d. d .count) q in
+        let qn : last ≡ m .next = ap (λ d. d .next) q in
+        qn ∙ ap (λ d. d .next) (sym (many-fewer next room n w₀ (omega arith) (h .most)))
 
     module _ (fits : k ≤ length o₀) where
       pub fill-full : length o₀ / k ≤ n → 1 ≤ n → Filled (gives n last) o

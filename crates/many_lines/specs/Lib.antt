@@ -3,4 +3,5 @@ pub mod Told
 pub mod Untold
 pub mod Led
 pub mod LedLaws
-pub mod FillLaws
+pub mod Went
+pub mod WentLaws

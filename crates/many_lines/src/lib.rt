@@ -4,8 +4,12 @@
 // The records before an end or a refusal are given first, and the next call, from the walk answered, tells it.
 ghost use mathlib.Core.Path.{_≡_};
 ghost use Prim.Native.Nat.{_≤_};
+ghost use mathlib.Core.Bool.{cond};
 ghost use lib.ListN.{length};
+ghost use Rattle.walk.specs.Listing.{gives};
+ghost use Rattle.walk.specs.Many.{many};
 ghost use Rattle.area.specs.Kind.{ruled};
+ghost use Rattle.records.specs.Next.{nextOf};
 ghost use Rattle.records.specs.Told.{toldLine};
 ghost use Rattle.turns.specs.Turn.{turnOf};
 ghost use Rattle.turns.specs.Told.{toldTurn};
@@ -14,10 +18,12 @@ ghost use Rattle.many_lines.specs.LedLaws.{Led};
 ghost use Rattle.given.specs.Fill.{noRoom};
 ghost use Rattle.many_lines.specs.Lines.{linesOf, counted, filled};
 ghost use Rattle.many_lines.specs.Told.{toldLines};
+ghost use Rattle.many_lines.specs.Went.{Went};
 use line_words::put_record;
 use records::LineStep;
 use records::next_line;
 use refusal::Refusal;
+use stretch::body_lines;
 use turns::LineWalk;
 use turns::Rest;
 use turns::Turn;
@@ -91,7 +97,96 @@ fn led_turn(area: &[u8], slots: &[u32], whole: usize, walk: LineWalk) -> Turn
     take_turn(area, slots, led(slots, whole, walk))
 }
 
-// Turn after turn; `last` is the walk behind the last record.
+// The walk behind the first n records.
+fn behind(area: &[u8], slots: &[u32], whole: usize, walk: LineWalk, n: usize) -> LineWalk
+    requires { ⌜ Led ruled (now area) (now slots) whole walk ⌝ }
+    ensures { λ r. ⌜ r ≡ many (nextOf ruled (now (area .entry)) (now (slots .entry))) n walk .next ⌝ }
+{
+    let mut left = n;
+    let mut last = walk;
+    let mut w = walk;
+    while 0 < left {
+        match led_turn(area, slots, whole, w) {
+            Turn::Line(_, t) => {
+                left -= 1;
+                last = t;
+                w = t;
+            }
+            Turn::Pass(t) => {
+                w = t;
+            }
+            Turn::Over => {
+                return last;
+            }
+            Turn::Refused(_) => {
+                return last;
+            }
+        }
+    }
+    last
+}
+
+// How far the walk has come.
+struct Stood {
+    n: usize,
+    walk: LineWalk,
+}
+
+// As many turns at once as can be made inside a body.
+fn faster(area: &[u8], n: usize, room: usize, w: LineWalk, out: &mut [u64]) -> Stood
+    ensures { λ r. ⌜ Went (now (area .entry)) room n w (now (out .entry)) r (now (out .exit)) ⌝ }
+{
+    match w {
+        LineWalk::New => Stood {
+            n,
+            walk: LineWalk::New,
+        },
+        LineWalk::Between(t) => Stood {
+            n,
+            walk: LineWalk::Between(t),
+        },
+        LineWalk::Inside(p, t) => {
+            let held = t.held;
+            let x = body_lines(area, p, held, n, room, out);
+            let place = x.place;
+            let kept = x.held;
+            Stood {
+                n: x.n,
+                walk: LineWalk::Inside(
+                    place,
+                    Rest {
+                        slot: t.slot,
+                        left: t.left,
+                        scan: t.scan,
+                        held: kept,
+                    },
+                ),
+            }
+        }
+    }
+}
+
+// What is answered behind n records. `exact` says that w is the walk behind the last of them; else it is looked for.
+fn stopped(
+    area: &[u8],
+    slots: &[u32],
+    whole: usize,
+    walk: LineWalk,
+    n: usize,
+    w: LineWalk,
+    exact: bool,
+) -> LinesStep
+    requires { ⌜ Led ruled (now area) (now slots) whole walk ⌝ }
+    ensures { λ r. ⌜ toldLines r ≡ gives n (cond exact w (many (nextOf ruled (now (area .entry)) (now (slots .entry))) n walk .next)) ⌝ }
+{
+    if exact {
+        return LinesStep::Lines { count: n, next: w };
+    }
+    let next = behind(area, slots, whole, walk, n);
+    LinesStep::Lines { count: n, next }
+}
+
+// Turn after turn, and many at once where that can be.
 fn fill(area: &[u8], slots: &[u32], walk: LineWalk, out: &mut [u64]) -> LinesStep
     requires { ⌜ 12 ≤ length (now out) ⌝ }
     ensures { λ r. ⌜ toldLines r ≡ counted (linesOf ruled (now (area .entry)) (now (slots .entry)) (length (now (out .entry))) walk) ⌝ }
@@ -100,43 +195,38 @@ fn fill(area: &[u8], slots: &[u32], walk: LineWalk, out: &mut [u64]) -> LinesSte
     let whole = tested_list(area, slots, scan_of(walk));
     let room = out.len() / RECORD;
     let mut n: usize = 0;
-    let mut last = walk;
     let mut w = walk;
+    let mut exact = true;
     while n < room {
         match led_turn(area, slots, whole, w) {
             Turn::Line(r, t) => {
-                put_record(out, RECORD * n, r);
+                let at = RECORD * n;
                 n += 1;
-                last = t;
+                put_record(out, at, r);
                 w = t;
+                exact = true;
             }
             Turn::Pass(t) => {
-                w = t;
+                let x = faster(area, n, room, t, out);
+                n = x.n;
+                w = x.walk;
+                exact = false;
             }
             Turn::Over => {
                 if n == 0 {
                     return LinesStep::None;
                 }
-                return LinesStep::Lines {
-                    count: n,
-                    next: last,
-                };
+                return stopped(area, slots, whole, walk, n, w, exact);
             }
             Turn::Refused(why) => {
                 if n == 0 {
                     return LinesStep::Refused(why);
                 }
-                return LinesStep::Lines {
-                    count: n,
-                    next: last,
-                };
+                return stopped(area, slots, whole, walk, n, w, exact);
             }
         }
     }
-    LinesStep::Lines {
-        count: n,
-        next: last,
-    }
+    LinesStep::Lines { count: n, next: w }
 }
 
 // The records from a walk on, as many as `out` has room for, 12 words each.

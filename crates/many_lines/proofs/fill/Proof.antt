@@ -1,4 +1,4 @@
--- `many_lines::fill` meets its contract. The invariant: n records are put, and the records from the walk w on come behind them (`Fills`). The measure
+-- `many_lines::fill` meets its contract. The invariant: n records are put, and the records from the walk w on come behind them (`Standing`). The measure
 -- is what is to be done.
 -- Assumes nothing.
 use borrow.Author.Needs.{needs}
@@ -10,78 +10,115 @@ use Rattle.area.specs.Kind.{ruled}
 use Rattle.walk.specs.Listing.{item, pass, over, fail}
 use Rattle.turns.specs.Told.{toldTurn}
 use Rattle.records.specs.Next.{todo}
-use Rattle.records.specs.NextLaws.{next-falls}
+use Rattle.stretch.specs.FillLaws.{record-falls}
 use Rattle.many_lines.specs.LedLaws.{Led, led-start, led-kept}
-use Rattle.many_lines.specs.FillLaws.{Fills, turns-start, turns-pass, turns-record, turns-full, turns-stop, turns-none, record-falls}
+use Rattle.many_lines.specs.WentLaws.{Standing, stand-start, stand-record, stand-pass, stand-full, stand-none, stand-stop, led-went, went-less}
 use Rattle.many_lines.proofs.fill.Statement.{statement}
 use Rattle.many_lines.proofs.fill.Tie as tie
 
 abbrev Inv-loop : tie.InvT-loop
-Inv-loop area slots out₀ whole room n₀ last₀ w₀ out n last w = Fills ruled area slots w₀ out₀ n last w out × (room ≡ length out₀ / 12) × Led ruled area slots whole w
+Inv-loop area slots walk out₀ whole room n₀ w₀ exact₀ out n w exact =
+    Standing area slots walk out₀ n w exact out × (room ≡ length out₀ / 12) × Led ruled area slots whole w × Led ruled area slots whole walk
 
 abbrev μ-loop : tie.MeasureT-loop
-μ-loop area slots out₀ whole room n₀ last₀ w₀ out n last w = todo ruled area w
+μ-loop area slots walk out₀ whole room n₀ w₀ exact₀ out n w exact = todo ruled area w
+
+scan-of-requires : tie.Need-scan-of-requires Inv-loop μ-loop
+scan-of-requires c κs = search needs
+
+tested-list-requires : tie.Need-tested-list-requires Inv-loop μ-loop
+tested-list-requires c κs = search needs
 
 loop-holds : tie.Need-loop-holds Inv-loop μ-loop
-loop-holds c = (turns-start ruled _ _ _ _, refl, led-start ruled _ _ _ _ _ (c .tested-list .ensures) (c .before .scan-of .ensures))
+loop-holds c =
+    let h = led-start ruled _ _ _ _ _ (c .tested-list .ensures) (c .before .scan-of .ensures) in
+    (stand-start _ _ _ _, refl, h, h)
 
 led-turn-requires : tie.Need-led-turn-requires Inv-loop μ-loop
 led-turn-requires c κs = c .before .loop .inv .2
 
-mul-put-record : tie.Need-mul-put-record Inv-loop μ-loop
-mul-put-record c = search needs
+enum-known-r : tie.Need-enum-known-r Inv-loop μ-loop
+enum-known-r c = search needs
+
+mul-at : tie.Need-mul-at Inv-loop μ-loop
+mul-at c =
+    let l = c .before .before .before .before .before .loop in
+    omega (arith, l .inv .0 .going .fills .most, l .inv .1)
+
+put-record-requires : tie.Need-put-record-requires Inv-loop μ-loop
+put-record-requires c κs = search needs
 
 add-n : tie.Need-add-n Inv-loop μ-loop
-add-n c = search needs
+add-n c =
+    let l = c .before .before .before .before .before .loop in
+    omega (arith, l .inv .0 .going .fills .most, l .inv .1)
 
 loop-less : tie.Need-loop-less Inv-loop μ-loop
-loop-less c =
-    let m = c .before .before .before .before .before in
-    let h = m .before .before in
-    record-falls ruled _ _ _ _ _ (ap toldTurn (sym (m .r .given .1)) ∙ h .led-turn .ensures)
+loop-less c = record-falls ruled _ _ _ _ _ (ap toldTurn (sym (c .before .before .before .before .before .r .given .1)) ∙ c .before .before .before .before .before .before .before .led-turn .ensures)
 
 loop-again : tie.Need-loop-again Inv-loop μ-loop
 loop-again c =
-    let m = c .before .before .before .before .before in
-    let h = m .before .before in
-    let l = h .before .before .loop in
-    let e = ap toldTurn (sym (m .r .given .1)) ∙ h .led-turn .ensures in
-    (turns-record ruled _ _ _ _ (l .inv .0) _ _ _ e (omega arith) (c .before .before .put-record .ensures), l .inv .1, led-kept ruled _ _ _ _ (l .inv .2) (item _ _) e)
+    let l = c .before .before .before .before .before .before .before .before .before .loop in
+    let e = ap toldTurn (sym (c .before .before .before .before .before .r .given .1)) ∙ c .before .before .before .before .before .before .before .led-turn .ensures in
+    (stand-record _ _ _ _ (l .n) (l .w) (l .exact) (l .out) (l .inv .0) _ _ _ e (omega (arith, l .inv .1)) (c .before .before .put-record .ensures), l .inv .1, led-kept ruled _ _ _ _ (l .inv .2) (item _ _) e, l .inv .3)
+
+enum-known-t : tie.Need-enum-known-t Inv-loop μ-loop
+enum-known-t c = search needs
+
+faster-requires : tie.Need-faster-requires Inv-loop μ-loop
+faster-requires c κs = search needs
 
 loop-less-2 : tie.Need-loop-less-2 Inv-loop μ-loop
-loop-less-2 c =
-    let h = c .before .before .before in
-    next-falls ruled _ _ _ _ (ap toldTurn (sym (c .before .t .given .1)) ∙ h .led-turn .ensures)
+loop-less-2 c = went-less _ _ _ _ _ _ _ _ _ (ap toldTurn (sym (c .before .before .before .before .before .t .given .1)) ∙ c .before .before .before .before .before .before .before .led-turn .ensures) (c .before .before .faster .ensures)
 
 loop-again-2 : tie.Need-loop-again-2 Inv-loop μ-loop
 loop-again-2 c =
-    let h = c .before .before .before in
-    let l = h .before .before .loop in
-    let e = ap toldTurn (sym (c .before .t .given .1)) ∙ h .led-turn .ensures in
-    (turns-pass ruled _ _ _ _ (l .inv .0) _ e, l .inv .1, led-kept ruled _ _ _ _ (l .inv .2) (pass _) e)
+    let l = c .before .before .before .before .before .before .before .before .before .loop in
+    let e = ap toldTurn (sym (c .before .before .before .before .before .t .given .1)) ∙ c .before .before .before .before .before .before .before .led-turn .ensures in
+    let k = c .before .before .faster .ensures in
+    (stand-pass _ _ _ _ (l .n) (l .w) (l .exact) (l .out) (l .inv .0) _ _ _ _ e (omega arith) (sym (l .inv .1)) k, l .inv .1, led-went _ _ _ _ _ _ _ _ _ _ (l .inv .2) e k, l .inv .3)
+
+enum-told : tie.Need-enum-told Inv-loop μ-loop
+enum-told c = search needs
+
+same-length : tie.Need-same-length Inv-loop μ-loop
+same-length c = omega (arith, c .before .before .before .before .before .loop .inv .0 .going .fills .size)
 
 returns : tie.Need-returns Inv-loop μ-loop
-returns c =
-    let h = c .before .before .before in
-    turns-none ruled _ _ _ _ (h .before .before .loop .inv .0) (omega arith) over (ap toldTurn (sym (c .before .enum-told .given .1)) ∙ h .led-turn .ensures) tt (c .if1 .taken)
+returns c = stand-none _ _ _ _ _ _ _ _ (c .before .before .before .before .before .loop .inv .0) (c .before .before .before .before .before .before .before .before .before .before .before .pre) over (ap toldTurn (sym (c .before .enum-told .given .1)) ∙ c .before .before .before .led-turn .ensures) tt (c .if1 .taken)
+
+stopped-requires : tie.Need-stopped-requires Inv-loop μ-loop
+stopped-requires c κs = c .before .before .before .before .before .loop .inv .3
+
+same-length-2 : tie.Need-same-length-2 Inv-loop μ-loop
+same-length-2 c = omega (arith, c .before .before .before .before .before .before .loop .inv .0 .going .fills .size)
 
 returns-2 : tie.Need-returns-2 Inv-loop μ-loop
-returns-2 c =
-    let h = c .before .before .before in
-    turns-stop ruled _ _ _ _ (h .before .before .loop .inv .0) (omega arith) over (ap toldTurn (sym (c .before .enum-told .given .1)) ∙ h .led-turn .ensures) tt (c .if1 .left)
+returns-2 c = stand-stop _ _ _ _ _ _ _ _ (c .before .before .before .before .before .before .loop .inv .0) (c .before .before .before .before .before .before .before .before .before .before .before .before .pre) over (ap toldTurn (sym (c .before .before .enum-told .given .1)) ∙ c .before .before .before .before .led-turn .ensures) tt (c .before .if1 .left) _ (c .stopped .ensures)
+
+enum-known-why : tie.Need-enum-known-why Inv-loop μ-loop
+enum-known-why c = search needs
+
+same-length-3 : tie.Need-same-length-3 Inv-loop μ-loop
+same-length-3 c = omega (arith, c .before .before .before .before .before .before .loop .inv .0 .going .fills .size)
 
 returns-3 : tie.Need-returns-3 Inv-loop μ-loop
-returns-3 c =
-    let h = c .before .before .before .before in
-    turns-none ruled _ _ _ _ (h .before .before .loop .inv .0) (omega arith) (fail _) (ap toldTurn (sym (c .before .before .why .given .1)) ∙ h .led-turn .ensures) tt (c .if2 .taken)
+returns-3 c = stand-none _ _ _ _ _ _ _ _ (c .before .before .before .before .before .before .loop .inv .0) (c .before .before .before .before .before .before .before .before .before .before .before .before .pre) (fail _) (ap toldTurn (sym (c .before .before .why .given .1)) ∙ c .before .before .before .before .led-turn .ensures) tt (c .if2 .taken)
+
+stopped-requires-2 : tie.Need-stopped-requires-2 Inv-loop μ-loop
+stopped-requires-2 c κs = c .before .before .before .before .before .before .loop .inv .3
+
+same-length-4 : tie.Need-same-length-4 Inv-loop μ-loop
+same-length-4 c = omega (arith, c .before .before .before .before .before .before .before .loop .inv .0 .going .fills .size)
 
 returns-4 : tie.Need-returns-4 Inv-loop μ-loop
-returns-4 c =
-    let h = c .before .before .before .before in
-    turns-stop ruled _ _ _ _ (h .before .before .loop .inv .0) (omega arith) (fail _) (ap toldTurn (sym (c .before .before .why .given .1)) ∙ h .led-turn .ensures) tt (c .if2 .left)
+returns-4 c = stand-stop _ _ _ _ _ _ _ _ (c .before .before .before .before .before .before .before .loop .inv .0) (c .before .before .before .before .before .before .before .before .before .before .before .before .before .pre) (fail _) (ap toldTurn (sym (c .before .before .before .why .given .1)) ∙ c .before .before .before .before .before .led-turn .ensures) tt (c .before .if2 .left) _ (c .stopped2 .ensures)
+
+same-length-5 : tie.Need-same-length-5 Inv-loop μ-loop
+same-length-5 c = omega (arith, c .before .loop .inv .0 .going .fills .size)
 
 returns-5 : tie.Need-returns-5 Inv-loop μ-loop
-returns-5 c = turns-full ruled _ _ _ _ (c .before .loop .inv .0) (omega arith) (omega arith)
+returns-5 c = stand-full _ _ _ _ _ _ _ _ (c .before .loop .inv .0) (c .before .before .before .before .before .before .before .pre) (omega (arith, c .before .loop .inv .1))
 
 pub fill-spec : {M : Type 1} → statement M
 fill-spec =
@@ -89,28 +126,31 @@ fill-spec =
     (tie.spec
     Inv-loop
     μ-loop
-    (λ c κs. search needs)
-    (λ c κs. search needs)
+    scan-of-requires
+    tested-list-requires
     loop-holds
     led-turn-requires
-    (λ c. search needs)
-    mul-put-record
-    (λ c κs. search needs)
+    enum-known-r
+    mul-at
     add-n
+    put-record-requires
     loop-less
     loop-again
-    (λ c. search needs)
+    enum-known-t
+    faster-requires
     loop-less-2
     loop-again-2
-    (λ c. search needs)
-    (λ c. search needs)
+    enum-told
+    same-length
     returns
-    (λ c. search needs)
+    stopped-requires
+    same-length-2
     returns-2
-    (λ c. search needs)
-    (λ c. search needs)
+    enum-known-why
+    same-length-3
     returns-3
-    (λ c. search needs)
+    stopped-requires-2
+    same-length-4
     returns-4
-    (λ c. search needs)
+    same-length-5
     returns-5)

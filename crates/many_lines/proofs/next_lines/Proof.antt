@@ -7,7 +7,7 @@ use Rattle.area.specs.Kind.{ruled}
 use Rattle.records.specs.Told.{toldLine}
 use Rattle.given.specs.Fill.{noRoom}
 use Rattle.many_lines.specs.Lines.{counted}
-use Rattle.many_lines.specs.FillLaws.{turns-no-room}
+use Rattle.stretch.specs.FillLaws.{turns-no-room}
 use Rattle.many_lines.proofs.next_lines.Statement.{statement}
 use Rattle.many_lines.proofs.next_lines.Tie as tie
 

@@ -7,6 +7,7 @@ use lib.ListN.{length}
 use Rattle.word.specs.Word.{store}
 use Rattle.walk.specs.Listing.{item, pass, Answer, gives}
 use Rattle.walk.specs.First.{onFirst}
+use Rattle.walk.specs.Many.{many}
 use Rattle.walk.specs.ManyLaws.{NoRecord}
 use Rattle.refusal.specs.Told.{Told}
 use Rattle.area.specs.Kind.{Sort}
@@ -17,9 +18,8 @@ use Rattle.turns.specs.declared.LineWalk.{LineWalk}
 use Rattle.turns.specs.Turn.{LineMove, turnOf}
 use Rattle.records.specs.Next.{todo, nextOf}
 use Rattle.records.specs.NextLaws.{falls, next-is}
-use Rattle.given.specs.Fill.{noRoom}
+use Rattle.given.specs.Fill.{noRoom, counted}
 use Rattle.given.specs.FillLaws as fill
-use Rattle.many_lines.specs.Lines.{counted}
 
 module _ (rule : ℕ → Sort) (s v : List ℕ) (w₀ : LineWalk) (o₀ : List ℕ) where
   -- what is told, and what the words are at the end
@@ -43,6 +43,11 @@ module _ (rule : ℕ → Sort) (s v : List ℕ) (w₀ : LineWalk) (o₀ : List �
     pub turns-record : (r : LineRecord) (t : LineWalk) (o′ : List ℕ) → item r t ≡ turnOf rule s v w → n < length o₀ / 12 → o′ ≡ store o (12 * n) (recordWords r)
         → Fills (n + 1) t t o′
     turns-record r t o′ e l q = fill.fill-stored 12 recordWords record-length (nextOf rule s v) w₀ o₀ h r t o′ (next-is rule s v w (item r t) e) l q
+
+    -- u is a turn that gives no record and does not pass on
+    pub turns-behind : (u : LineMove) → u ≡ turnOf rule s v w → NoRecord (onFirst (nextOf rule s v) u) → last ≡ many (nextOf rule s v) n w₀ .next
+    turns-behind u e f =
+        fill.fill-behind 12 recordWords record-length (nextOf rule s v) w₀ o₀ h (onFirst (nextOf rule s v) u) (next-is rule s v w u e) f
 
     module _ (room : 12 ≤ length o₀) where
       pub turns-full : length o₀ / 12 ≤ n → Filled (gives n last) o

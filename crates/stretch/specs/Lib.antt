@@ -1,0 +1,4 @@
+pub mod FillLaws
+pub mod GoesLaws
+pub mod Stretch
+pub mod StretchLaws
