@@ -2,28 +2,14 @@
 -- 01, "Writer and plain areas": every subsection in order.
 -- Definitions only; a reader must believe them.
 use Prim.Native.Nat.{ℕ}
-use mathlib.Core.Bool.{Bool, true, false, cond}
+use mathlib.Core.Bool.{Bool, false, cond}
 use lib.Dec.{eqb}
 use Rattle.walk.specs.Listing.{Listing, more, ends, fails, Reply, gave, nothing, refused}
 use Rattle.refusal.specs.Told.{Told}
 use Rattle.checksums.specs.Entry.{shown}
-use Rattle.reading.specs.Reading.{Item, openLines, block, openChecksums, checksum, openInlinees, inlinee, openImports, imports, openExports, exports, opaque, Items}
+use Rattle.reading.specs.Reading.{Item, openLines, block, openChecksums, checksum, openInlinees, inlinee, openImports, imports, openExports, exports, opaque, Items, opens}
 
--- an item that opens a subsection
-abbrev pub opens : Item → Bool
-opens (openLines h) = true
-opens (block b) = false
-opens openChecksums = true
-opens (checksum c) = false
-opens (openInlinees x) = true
-opens (inlinee e) = false
-opens openImports = true
-opens (imports m) = false
-opens openExports = true
-opens (exports p) = false
-opens (opaque k b) = true
-
--- one of kind w
+-- an item that opens one of kind w
 abbrev pub opensAs : ℕ → Item → Bool
 opensAs w (openLines h) = eqb 0xf2 w
 opensAs w (block b) = false

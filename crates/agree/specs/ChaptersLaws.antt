@@ -25,9 +25,9 @@ use Rattle.body.specs.Checksums.{checksums}
 use Rattle.body.specs.Inlinees.{extended, inlinees}
 use Rattle.body.specs.Imports.{modules}
 use Rattle.body.specs.Exports.{pairs}
-use Rattle.reading.specs.Reading.{Item, block, checksum, inlinee, imports, exports, Items, each, linesItems, checksumsItems, inlineesItems, importsItems, exportsItems, itemsOf, reading}
+use Rattle.reading.specs.Reading.{Item, block, checksum, inlinee, imports, exports, Items, each, linesItems, checksumsItems, inlineesItems, importsItems, exportsItems, itemsOf, reading, opens}
 use Rattle.reading.specs.BySubsLaws.{subItems, reading-subs}
-use Rattle.agree.specs.Chapters.{opens, opensAs, upTo, chapters, begins}
+use Rattle.agree.specs.Chapters.{opensAs, upTo, chapters, begins}
 
 -- a reading that refuses nothing
 abbrev pub Whole : Items → Type 0

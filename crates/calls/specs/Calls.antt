@@ -3,7 +3,7 @@
 -- Definitions only; a reader must believe them.
 use Prim.Native.Nat.{ℕ, _+_, _-_, _/_, _%_, min}
 use mathlib.Core.List.{List, [], _++_}
-use mathlib.Core.Bool.{Bool, true, false, cond, _&&_}
+use mathlib.Core.Bool.{Bool, true, cond, _&&_}
 use mathlib.Core.Option.{Option, none, some}
 use lib.ListN.{length, take}
 use lib.Dec.{leb, eqb}
@@ -16,7 +16,7 @@ use Rattle.body.specs.Checksums.{checksumBytes}
 use Rattle.body.specs.Inlinees.{extended, inlineeBytes}
 use Rattle.body.specs.Imports.{moduleBytes}
 use Rattle.body.specs.Exports.{pairBytes}
-use Rattle.reading.specs.Reading.{Item, openLines, block, openChecksums, checksum, openInlinees, inlinee, openImports, imports, openExports, exports, opaque}
+use Rattle.reading.specs.Reading.{Item, openLines, block, openChecksums, checksum, openInlinees, inlinee, openImports, imports, openExports, exports, opaque, opens}
 use Rattle.plain.specs.Plain.{sizeOf, isOpaque, Last, plainOf}
 
 -- ---- what each call is
@@ -34,20 +34,6 @@ kindOf (imports m) = 0xf7
 kindOf openExports = 0xf8
 kindOf (exports p) = 0xf8
 kindOf (opaque k b) = k
-
--- whether it begins a subsection; else it adds to the last one, which must be of its kind
-abbrev pub begins : Item → Bool
-begins (openLines h) = true
-begins (block b) = false
-begins openChecksums = true
-begins (checksum c) = false
-begins (openInlinees s) = true
-begins (inlinee e) = false
-begins openImports = true
-begins (imports m) = false
-begins openExports = true
-begins (exports p) = false
-begins (opaque k b) = true
 
 -- the bytes of it, a subsection's header left out; m is the mark of the last subsection
 abbrev pub bytesFor : ℕ → Item → List ℕ
@@ -113,7 +99,7 @@ ofKind k none = none
 ofKind k (some l) = cond (eqb (l .kind) k) (some l) none
 
 abbrev pub lastFor : Item → List ℕ → ℕ → Option Last
-lastFor it b w = cond (begins it) (place b w) (ofKind (kindOf it) (place b w))
+lastFor it b w = cond (opens it) (place b w) (ofKind (kindOf it) (place b w))
 
 -- number 10: written plus needed exceeds the smaller of the buffer and the longest area
 unfoldable pub room : ℕ → ℕ → ℕ → ℕ → ℕ → Act
@@ -125,7 +111,7 @@ ruled t a = cond t a (stops (told why.NotPlain))
 
 -- the bytes that a call needs: a subsection has a header of 8
 abbrev pub needs : ℕ → Item → ℕ
-needs m it = cond (begins it) (8 + length (bytesFor m it)) (length (bytesFor m it))
+needs m it = cond (opens it) (8 + length (bytesFor m it)) (length (bytesFor m it))
 
 abbrev pub onLast : Option Last → Act → (Last → Act) → Act
 onLast none z f = z
@@ -145,7 +131,7 @@ grown b w bs h = put (put b w bs) (h + 4) (le32 (w + length bs - h - 8))
 -- where it goes on, the last header being at h and the last mark m
 abbrev pub patch : Item → List ℕ → ℕ → ℕ → ℕ → List ℕ
 patch it b w h m =
-    cond (begins it) (put b w (header (kindOf it) (length (bytesFor m it)) ++ bytesFor m it)) (grown b w (bytesFor m it) h)
+    cond (opens it) (put b w (header (kindOf it) (length (bytesFor m it)) ++ bytesFor m it)) (grown b w (bytesFor m it) h)
 
 abbrev pub wrote : Act → Reply ℕ Told
 wrote (goes h m n) = gave n

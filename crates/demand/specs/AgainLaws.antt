@@ -24,9 +24,9 @@ use Rattle.body.specs.Exports.{Pair, pairBytes}
 use Rattle.body.specs.RunLaws.{bytesAll, Each}
 use Rattle.body.specs.LinesLaws.{Filled}
 use Rattle.body.specs.InlineesLaws.{Fits}
-use Rattle.reading.specs.Reading.{Item, openLines, block, openChecksums, checksum, openInlinees, inlinee, openImports, imports, openExports, exports, opaque, reading}
+use Rattle.reading.specs.Reading.{Item, openLines, block, openChecksums, checksum, openInlinees, inlinee, openImports, imports, openExports, exports, opaque, reading, opens}
 use Rattle.plain.specs.Plain.{sizeOf, Last, nothing-yet, plainOf}
-use Rattle.calls.specs.Calls.{kindOf, begins, bytesFor, blockRule, checksumRule, obeys, goes, stops, limit, place, ofKind, room, ruled as obeyed-room, needs, onLast, act, grown, patch}
+use Rattle.calls.specs.Calls.{kindOf, bytesFor, blockRule, checksumRule, obeys, goes, stops, limit, place, ofKind, room, ruled as obeyed-room, needs, onLast, act, grown, patch}
 use Rattle.calls.specs.CallLaws.{room-there}
 use Rattle.demand.specs.Secs.{Sec, linesOf, checksumsOf, inlineesOf, importsOf, exportsOf, opaqueOf, kindSec, bodySec, rawSec, callsSec, Sized, Ascend, floorAfter, GoodSec, markSec, rawsOf, callsOf, lastOf}
 use Rattle.demand.specs.SecLaws.{reads-join}
@@ -40,7 +40,7 @@ use Rattle.demand.specs.BackLaws.{plain-back}
 ruled-goes : (t : Bool) (n w h m need : ℕ) → t ≡ true → w + need ≤ limit n → obeyed-room t (room n w h m need) ≡ goes h m (w + need)
 ruled-goes t n w h m need e l = ap (λ (x : Bool). obeyed-room x (room n w h m need)) e ∙ sym (room-there n w h m need l)
 
-act-fresh : (it : Item) (b : List ℕ) (w : ℕ) (l : Last) → begins it ≡ true → place b w ≡ some l → obeys (l .mark) it ≡ true → w + needs (l .mark) it ≤ limit (length b)
+act-fresh : (it : Item) (b : List ℕ) (w : ℕ) (l : Last) → opens it ≡ true → place b w ≡ some l → obeys (l .mark) it ≡ true → w + needs (l .mark) it ≤ limit (length b)
     → act it b w ≡ goes (l .header) (l .mark) (w + needs (l .mark) it)
 act-fresh it b w l e p o r =
     ap (λ (t : Bool). onLast (cond t (place b w) (ofKind (kindOf it) (place b w))) (stops (told why.WrongPlace))
@@ -48,7 +48,7 @@ act-fresh it b w l e p o r =
     ∙ ap (λ (z : Option Last). onLast z (stops (told why.WrongPlace)) (λ x. obeyed-room (obeys (x .mark) it) (room (length b) w (x .header) (x .mark) (needs (x .mark) it)))) p
     ∙ ruled-goes (obeys (l .mark) it) (length b) w (l .header) (l .mark) (needs (l .mark) it) o r
 
-act-bigger : (it : Item) (b : List ℕ) (w : ℕ) (l : Last) → begins it ≡ false → place b w ≡ some l → l .kind ≡ kindOf it → obeys (l .mark) it ≡ true → w + needs (l .mark) it ≤ limit (length b)
+act-bigger : (it : Item) (b : List ℕ) (w : ℕ) (l : Last) → opens it ≡ false → place b w ≡ some l → l .kind ≡ kindOf it → obeys (l .mark) it ≡ true → w + needs (l .mark) it ≤ limit (length b)
     → act it b w ≡ goes (l .header) (l .mark) (w + needs (l .mark) it)
 act-bigger it b w l e p k o r =
     let q : ofKind (kindOf it) (place b w) ≡ some l = ap (ofKind (kindOf it)) p ∙ ap (λ (t : Bool). cond t (some l) none) (eq-eqb (l .kind) (kindOf it) k) in
@@ -58,7 +58,7 @@ act-bigger it b w l e p k o r =
 
 -- ---- it leaves the buffer as long as it was
 
-length-fresh : (it : Item) (b : List ℕ) (w h m : ℕ) → begins it ≡ true → w + needs m it ≤ length b → length (patch it b w h m) ≡ length b
+length-fresh : (it : Item) (b : List ℕ) (w h m : ℕ) → opens it ≡ true → w + needs m it ≤ length b → length (patch it b w h m) ≡ length b
 length-fresh it b w h m e l =
     let B : List ℕ = bytesFor m it in
     let bs : List ℕ = header (kindOf it) (length B) ++ B in
@@ -66,7 +66,7 @@ length-fresh it b w h m e l =
     let n : needs m it ≡ 8 + length B = ap (λ (t : Bool). cond t (8 + length B) (length B)) e in
     ap length (ap (λ (t : Bool). cond t (put b w bs) (grown b w B h)) e) ∙ put-length b w bs (omega arith)
 
-length-bigger : (it : Item) (b : List ℕ) (w h m : ℕ) → begins it ≡ false → w + needs m it ≤ length b → h + 8 ≤ w → length (patch it b w h m) ≡ length b
+length-bigger : (it : Item) (b : List ℕ) (w h m : ℕ) → opens it ≡ false → w + needs m it ≤ length b → h + 8 ≤ w → length (patch it b w h m) ≡ length b
 length-bigger it b w h m e l k =
     let B : List ℕ = bytesFor m it in
     let n : needs m it ≡ length B = ap (λ (t : Bool). cond t (8 + length B) (length B)) e in
@@ -88,7 +88,7 @@ keeps-on st t u ss ts a b = record { holds = b .holds; len = b .len ∙ a .len }
 abbrev Roomy : State → List Sec → Type 0
 Roomy st ss = length (join (rawsOf ss)) ≤ limit (length (st .buf))
 
-new-sec : (st : State) (ss : List Sec) → Holds st ss → (it : Item) (b : begins it ≡ true) (o : (m : ℕ) → obeys m it ≡ true) (s : Sec)
+new-sec : (st : State) (ss : List Sec) → Holds st ss → (it : Item) (b : opens it ≡ true) (o : (m : ℕ) → obeys m it ≡ true) (s : Sec)
     → ((m : ℕ) → fresh it m b (o m) .sec ≡ s) → Roomy st (ss ++ (s ∷ [])) → Keeps st (called it st) (ss ++ (s ∷ []))
 new-sec st ss H it b o s es r =
     let l = lastOf 0 nothing-yet ss in
@@ -106,7 +106,7 @@ new-sec st ss H it b o s es r =
       len = ap (λ (t : State). length (t .buf)) c ∙ length-fresh it (st .buf) (st .at) (l .header) m b (omega arith);
     }
 
-more-sec : (st : State) (ss : List Sec) (s : Sec) → Holds st (ss ++ (s ∷ [])) → (it : Item) (b : begins it ≡ false) (g : GoodSec s) (k : kindSec s ≡ kindOf it)
+more-sec : (st : State) (ss : List Sec) (s : Sec) → Holds st (ss ++ (s ∷ [])) → (it : Item) (b : opens it ≡ false) (g : GoodSec s) (k : kindSec s ≡ kindOf it)
     (o : obeys (markSec s) it ≡ true) (t : Sec) → bigger it s b g k o .sec ≡ t → Roomy st (ss ++ (t ∷ [])) → Keeps st (called it st) (ss ++ (t ∷ []))
 more-sec st ss s H it b g k o t et r =
     let J = length (join (rawsOf ss)) in
@@ -130,7 +130,7 @@ more-sec st ss s H it b g k o t et r =
 
 -- ---- records one after the other, of any kind: fam xs is the subsection of the records xs
 
-module _ {B : Type 0} (fam : List B → Sec) (f : B → Item) (beg : (b : B) → begins (f b) ≡ false) (kind : (xs : List B) (b : B) → kindSec (fam xs) ≡ kindOf (f b))
+module _ {B : Type 0} (fam : List B → Sec) (f : B → Item) (beg : (b : B) → opens (f b) ≡ false) (kind : (xs : List B) (b : B) → kindSec (fam xs) ≡ kindOf (f b))
     (front : (xs ys : List B) → GoodSec (fam (xs ++ ys)) → GoodSec (fam xs))
     (obey : (xs : List B) (b : B) → GoodSec (fam (xs ++ (b ∷ []))) → obeys (markSec (fam xs)) (f b) ≡ true)
     (grow : (xs : List B) (b : B) (g : GoodSec (fam xs)) (k : kindSec (fam xs) ≡ kindOf (f b)) (o : obeys (markSec (fam xs)) (f b) ≡ true)

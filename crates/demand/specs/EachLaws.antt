@@ -13,9 +13,9 @@ use Rattle.word.specs.WordLaws.{header-length, le32-length, put-length}
 use Rattle.walk.specs.Listing.{Reply, gave, refused}
 use Rattle.refusal.specs.Told.{Told, told}
 use Rattle.refusal.specs.declared.Refusal.the-variants as why
-use Rattle.reading.specs.Reading.{Item}
+use Rattle.reading.specs.Reading.{Item, opens}
 use Rattle.plain.specs.Plain.{Last}
-use Rattle.calls.specs.Calls.{kindOf, begins, bytesFor, obeys, Act, goes, stops, needs, act, grown, patch, wrote, kept, answered, after, lastFor, room, ruled, onLast, limit}
+use Rattle.calls.specs.Calls.{kindOf, bytesFor, obeys, Act, goes, stops, needs, act, grown, patch, wrote, kept, answered, after, lastFor, room, ruled, onLast, limit}
 use Rattle.calls.specs.CallLaws.{act-goes, grow-goes}
 use Rattle.demand.specs.RoundLaws.{kind-some, grow-is}
 
@@ -40,7 +40,7 @@ drop-put b bs at n h l =
     ap (λ (x : ℕ). drop x (put b at bs)) (sym e) ∙ sym (drop-drop k (at + length bs) (put b at bs)) ∙ ap (drop k) p ∙ drop-drop k (at + length bs) b ∙ ap (λ (x : ℕ). drop x b) e
 
 module _ (it : Item) (b : List ℕ) (w h m n : ℕ) (q : act it b w ≡ goes h m n) where
-  behind-fresh : begins it ≡ true → drop n (patch it b w h m) ≡ drop n b
+  behind-fresh : opens it ≡ true → drop n (patch it b w h m) ≡ drop n b
   behind-fresh e =
       let g = act-goes it b w h m n q in
       let B : List ℕ = bytesFor m it in
@@ -49,7 +49,7 @@ module _ (it : Item) (b : List ℕ) (w h m n : ℕ) (q : act it b w ≡ goes h m
       let k : needs m it ≡ 8 + length B = ap (λ (t : Bool). cond t (8 + length B) (length B)) e in
       ap (drop n) (ap (λ (t : Bool). cond t (put b w bs) (grown b w B h)) e) ∙ drop-put b bs w n (omega (arith, g .fits)) (omega (arith, g .next))
 
-  behind-bigger : begins it ≡ false → drop n (patch it b w h m) ≡ drop n b
+  behind-bigger : opens it ≡ false → drop n (patch it b w h m) ≡ drop n b
   behind-bigger e =
       let g = grow-goes (kindOf it) (λ k. obeys k it) (λ k. needs k it) b w h m n (kind-some it e) (grow-is it b w e ∙ q) in
       let B : List ℕ = bytesFor m it in
@@ -63,12 +63,12 @@ module _ (it : Item) (b : List ℕ) (w h m n : ℕ) (q : act it b w ≡ goes h m
 pub behind-same : (it : Item) (b : List ℕ) (w n : ℕ) → answered it b w ≡ gave n → drop n (after it b w) ≡ drop n b
 behind-same it b w n = go (act it b w) refl
   where
-    on : (t : Bool) → begins it ≡ t → (h m x : ℕ) → act it b w ≡ goes h m x → drop x (patch it b w h m) ≡ drop x b
+    on : (t : Bool) → opens it ≡ t → (h m x : ℕ) → act it b w ≡ goes h m x → drop x (patch it b w h m) ≡ drop x b
     on true e h m x q = behind-fresh it b w h m x q e
     on false e h m x q = behind-bigger it b w h m x q e
 
     go : (a : Act) → act it b w ≡ a → wrote a ≡ gave n → drop n (kept a (patch it b w) b) ≡ drop n b
-    go (goes h m x) q e = let z : x ≡ n = cc in rw (← z) (on (begins it) refl h m x q)
+    go (goes h m x) q e = let z : x ≡ n = cc in rw (← z) (on (opens it) refl h m x q)
     go (stops t) q e = never (sym e)
 
 -- a call stops with 16, 17 or 10

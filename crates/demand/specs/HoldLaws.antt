@@ -22,9 +22,9 @@ use Rattle.body.specs.Exports.{Pair, pairBytes}
 use Rattle.body.specs.RunLaws.{bytesAll, Each, all-snoc, each-snoc}
 use Rattle.body.specs.LinesLaws.{Filled}
 use Rattle.body.specs.InlineesLaws.{Fits}
-use Rattle.reading.specs.Reading.{Item, openLines, block, openChecksums, checksum, openInlinees, inlinee, openImports, imports, openExports, exports, opaque}
+use Rattle.reading.specs.Reading.{Item, openLines, block, openChecksums, checksum, openInlinees, inlinee, openImports, imports, openExports, exports, opaque, opens}
 use Rattle.plain.specs.Plain.{isOpaque, Last}
-use Rattle.calls.specs.Calls.{kindOf, begins, bytesFor, blockRule, obeys, grown}
+use Rattle.calls.specs.Calls.{kindOf, bytesFor, blockRule, obeys, grown}
 use Rattle.calls.specs.CallLaws.{fits-size, fits-block, fits-opaque}
 use Rattle.writer.specs.LentLaws.{put-at}
 use Rattle.demand.specs.Secs.{Sec, linesOf, checksumsOf, inlineesOf, importsOf, exportsOf, opaqueOf, kindSec, bodySec, rawSec, callsSec, Sized, Ascend, floorAfter, GoodSec, markSec, rawsOf, callsOf, lastOf}
@@ -195,7 +195,7 @@ bigger-pair (exportsOf ps) p g e o = record {
 }
 bigger-pair (opaqueOf k d) p g e o = not-opaque k 0xf8 e (opaque-none .4) (g .0)
 
-unfoldable pub bigger : (it : Item) (s : Sec) → begins it ≡ false → GoodSec s → kindSec s ≡ kindOf it → obeys (markSec s) it ≡ true → Bigger s it
+unfoldable pub bigger : (it : Item) (s : Sec) → opens it ≡ false → GoodSec s → kindSec s ≡ kindOf it → obeys (markSec s) it ≡ true → Bigger s it
 bigger (openLines h) s b g e o = never (sym b)
 bigger (block x) s b g e o = bigger-block s x g e o
 bigger openChecksums s b g e o = never (sym b)
@@ -216,7 +216,7 @@ pub record Fresh (it : Item) (m : ℕ) : Type 0 where
   pub calls : callsSec sec ≡ it ∷ []
   pub good : GoodSec sec
 
-unfoldable pub fresh : (it : Item) (m : ℕ) → begins it ≡ true → obeys m it ≡ true → Fresh it m
+unfoldable pub fresh : (it : Item) (m : ℕ) → opens it ≡ true → obeys m it ≡ true → Fresh it m
 unfolding bytesAll
 fresh (openLines h) m b o = record { sec = linesOf h []; kind = refl; body = append-nil (lineHeadBytes h); calls = refl; good = tt }
 fresh (block x) m b o = never b

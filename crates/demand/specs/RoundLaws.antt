@@ -16,9 +16,9 @@ use Rattle.refusal.specs.declared.Refusal.the-variants as why
 use Rattle.area.specs.Kind.{ruled}
 use Rattle.area.specs.Join.{join}
 use Rattle.body.specs.RunLaws.{Each, each-snoc}
-use Rattle.reading.specs.Reading.{Item, openLines, block, openChecksums, checksum, openInlinees, inlinee, openImports, imports, openExports, exports, opaque, reading}
+use Rattle.reading.specs.Reading.{Item, openLines, block, openChecksums, checksum, openInlinees, inlinee, openImports, imports, openExports, exports, opaque, reading, opens}
 use Rattle.plain.specs.Plain.{Last, nothing-yet, plainOf}
-use Rattle.calls.specs.Calls.{kindOf, begins, bytesFor, obeys, Act, goes, stops, limit, place, ofKind, room, ruled as obeyed-room, needs, onLast, act, grown, patch, wrote, kept, growAct}
+use Rattle.calls.specs.Calls.{kindOf, bytesFor, obeys, Act, goes, stops, limit, place, ofKind, room, ruled as obeyed-room, needs, onLast, act, grown, patch, wrote, kept, growAct}
 use Rattle.calls.specs.CallLaws.{place-in, act-goes, Grows, grow-goes}
 use Rattle.demand.specs.Secs.{Sec, kindSec, bodySec, callsSec, GoodSec, markSec, rawsOf, callsOf, lastOf}
 use Rattle.demand.specs.SecLaws.{plain-join, reads-join}
@@ -56,13 +56,13 @@ module _ (st : State) (ss : List Sec) (H : Holds st ss) where
 
 -- ---- a new subsection
 
-needs-new : (it : Item) (m : ℕ) → begins it ≡ true → needs m it ≡ 8 + length (bytesFor m it)
+needs-new : (it : Item) (m : ℕ) → opens it ≡ true → needs m it ≡ 8 + length (bytesFor m it)
 needs-new it m b = ap (λ (t : Bool). cond t (8 + length (bytesFor m it)) (length (bytesFor m it))) b
 
-needs-more : (it : Item) (m : ℕ) → begins it ≡ false → needs m it ≡ length (bytesFor m it)
+needs-more : (it : Item) (m : ℕ) → opens it ≡ false → needs m it ≡ length (bytesFor m it)
 needs-more it m b = ap (λ (t : Bool). cond t (8 + length (bytesFor m it)) (length (bytesFor m it))) b
 
-pub holds-fresh : (st : State) (ss : List Sec) → Holds st ss → (it : Item) (h m n : ℕ) (b : begins it ≡ true) (o : obeys m it ≡ true) → n ≡ st .at + needs m it
+pub holds-fresh : (st : State) (ss : List Sec) → Holds st ss → (it : Item) (h m n : ℕ) (b : opens it ≡ true) (o : obeys m it ≡ true) → n ≡ st .at + needs m it
     → st .at + needs m it ≤ limit (length (st .buf)) → Holds (gone it st h m n) (ss ++ (fresh it m b o .sec ∷ []))
 holds-fresh st ss H it h m n b o en l =
     let F = fresh it m b o in
@@ -87,7 +87,7 @@ holds-fresh st ss H it h m n b o en l =
 
 -- ---- a record more
 
-pub holds-bigger : (st : State) (ss : List Sec) (s : Sec) → Holds st (ss ++ (s ∷ [])) → (it : Item) (h m n : ℕ) (b : begins it ≡ false) (g : GoodSec s) (k : kindSec s ≡ kindOf it)
+pub holds-bigger : (st : State) (ss : List Sec) (s : Sec) → Holds st (ss ++ (s ∷ [])) → (it : Item) (h m n : ℕ) (b : opens it ≡ false) (g : GoodSec s) (k : kindSec s ≡ kindOf it)
     (o : obeys (markSec s) it ≡ true) → h ≡ length (join (rawsOf ss)) → m ≡ markSec s → n ≡ st .at + needs m it → st .at + needs m it ≤ limit (length (st .buf))
     → Holds (gone it st h m n) (ss ++ (bigger it s b g k o .sec ∷ []))
 holds-bigger st ss s H it h m n b g k o eh em en l =
@@ -120,7 +120,7 @@ holds-bigger st ss s H it h m n b g k o eh em en l =
 never : {A : Type 0} → _≡_ {A = Bool} true false → A
 never e = let z : _≡_ {A = ℕ} 0 1 = cc in absurd (omega arith)
 
-pub kind-some : (it : Item) → begins it ≡ false → kindOf it ≡ 0 → ⊥
+pub kind-some : (it : Item) → opens it ≡ false → kindOf it ≡ 0 → ⊥
 kind-some (openLines h) b e = never b
 kind-some (block x) b e = omega arith
 kind-some openChecksums b e = never b
@@ -133,7 +133,7 @@ kind-some openExports b e = never b
 kind-some (exports p) b e = omega arith
 kind-some (opaque k d) b e = never b
 
-pub grow-is : (it : Item) (b : List ℕ) (w : ℕ) → begins it ≡ false → growAct (kindOf it) (λ k. obeys k it) (λ k. needs k it) b w ≡ act it b w
+pub grow-is : (it : Item) (b : List ℕ) (w : ℕ) → opens it ≡ false → growAct (kindOf it) (λ k. obeys k it) (λ k. needs k it) b w ≡ act it b w
 grow-is it b w f =
     ap (λ (t : Bool). onLast (cond t (place b w) (ofKind (kindOf it) (place b w))) (stops (told why.WrongPlace))
     (λ l. obeyed-room (obeys (l .mark) it) (room (length b) w (l .header) (l .mark) (needs (l .mark) it)))) (sym f)
@@ -142,12 +142,12 @@ abbrev Held : State → Type 0
 Held st = (ss : List Sec) × Holds st ss
 
 module _ (st : State) (ss : List Sec) (H : Holds st ss) (it : Item) (h m n : ℕ) (q : act it (st .buf) (st .at) ≡ goes h m n) where
-  goes-fresh : begins it ≡ true → Held (gone it st h m n)
+  goes-fresh : opens it ≡ true → Held (gone it st h m n)
   goes-fresh b =
       let g = act-goes it (st .buf) (st .at) h m n q in
       (ss ++ (fresh it m b (g .obeyed) .sec ∷ []), holds-fresh st ss H it h m n b (g .obeyed) (g .next) (g .fits))
 
-  goes-bigger : begins it ≡ false → Held (gone it st h m n)
+  goes-bigger : opens it ≡ false → Held (gone it st h m n)
   goes-bigger b = ⊎-elim at-none at-last (snoc-view ss)
     where
       G : Grows (kindOf it) (λ k. obeys k it) (λ k. needs k it) (st .buf) (st .at) h m n
@@ -176,9 +176,9 @@ module _ (st : State) (ss : List Sec) (H : Holds st ss) (it : Item) (h m n : ℕ
           )
 
   goes-held : Held (gone it st h m n)
-  goes-held = go (begins it) refl
+  goes-held = go (opens it) refl
     where
-      go : (t : Bool) → begins it ≡ t → Held (gone it st h m n)
+      go : (t : Bool) → opens it ≡ t → Held (gone it st h m n)
       go true b = goes-fresh b
       go false b = goes-bigger b
 

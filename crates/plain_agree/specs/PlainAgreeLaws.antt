@@ -32,13 +32,13 @@ use Rattle.files.specs.Files.{filesIn}
 use Rattle.inlinees.specs.Inlinees.{spelt, inlineesIn}
 use Rattle.imports.specs.Imports.{moduleOf, importsOf}
 use Rattle.exports.specs.Exports.{unplaced, pairsOf, above, ascends, globalOf, lookup, resolveExport}
-use Rattle.reading.specs.Reading.{Item, checksum, inlinee, imports, exports, Items, each, reading}
+use Rattle.reading.specs.Reading.{Item, checksum, inlinee, imports, exports, Items, each, reading, opens}
 use Rattle.plain.specs.Plain.{Last, markOf, plainOf, Plain}
 use Rattle.plain.specs.Plain as plain
 use Rattle.demand.specs.Secs.{Ascend}
 use Rattle.demand.specs.BackLaws.{Marked, plain-marked, ascends-list}
 use Rattle.demand.specs.Demand.{again}
-use Rattle.agree.specs.Chapters.{opens, upTo, chapters, begins, records, recordsIn, dropped}
+use Rattle.agree.specs.Chapters.{upTo, chapters, begins, records, recordsIn, dropped}
 use Rattle.agree.specs.ChaptersLaws.{Whole}
 use Rattle.agree.specs.TablesLaws.{Passes, first-passes, exports-agree, imports-agree, inlinees-agree, files-agree, lines-pass}
 use Rattle.plain_agree.specs.PlainAgree.{NotRefused, Answered}

@@ -4,7 +4,7 @@
 -- Definitions only; a reader must believe them.
 use Prim.Native.Nat.{ℕ, _%_}
 use mathlib.Core.List.{List}
-use mathlib.Core.Bool.{cond}
+use mathlib.Core.Bool.{Bool, true, false, cond}
 use lib.ListN.{length, drop}
 use lib.Dec.{ltb, eqb}
 use Rattle.word.specs.Word.{u32At}
@@ -31,6 +31,20 @@ pub data Item : Type 0 where
   openExports : Item
   exports : Pair → Item
   opaque : ℕ → List ℕ → Item
+
+-- an item that opens a subsection; every other is a record of the last one that was opened
+abbrev pub opens : Item → Bool
+opens (openLines h) = true
+opens (block b) = false
+opens openChecksums = true
+opens (checksum c) = false
+opens (openInlinees x) = true
+opens (inlinee e) = false
+opens openImports = true
+opens (imports m) = false
+opens openExports = true
+opens (exports p) = false
+opens (opaque k b) = true
 
 abbrev pub Items : Type 0
 Items = Listing Item Told
