@@ -6,8 +6,8 @@ use mathlib.Core.Bool.{Bool, true, false, cond}
 use native.Mathlib.Omega.{arith}
 use lib.ListN.{length, getD}
 use lib.Dec.{ltb, leb, eqb}
-use borrow.Author.Tests.{leb-false, ne-eqb}
-use Rattle.walk.specs.Cases.{tests}
+use borrow.Author.Tests.{leb-false, eqb-true, ne-eqb}
+use Rattle.walk.specs.Cases.{tests, by-cases}
 use Rattle.walk.specs.Listing.{Listing, more, ends, fails, gave, refused, gives, none, refuses}
 use Rattle.refusal.specs.Told.{Told}
 use Rattle.area.specs.Kind.{Sort}
@@ -16,7 +16,7 @@ use Rattle.area.specs.SubsLaws.{sub-next, sub-end, sub-refused}
 use Rattle.lines.specs.Lines.{countLines}
 use Rattle.rank.specs.Rank.{rank}
 use Rattle.order.specs.Order.{startsFrom}
-use Rattle.whole_list.specs.WholeList.{middle, lookAt, halvedIn, halved, slotBehind, allFound, comesBy, comesTo, wholeIn, wholeList}
+use Rattle.whole_list.specs.WholeList.{middle, lookAt, halvedIn, halved, holds, slotBehind, allFound, comesBy, comesTo, wholeIn, wholeList}
 
 -- ---- the halving
 
@@ -69,21 +69,44 @@ module _ (w : ℕ → ℕ) (v : ℕ) (xs : List ℕ) where
         unfolding lookAt
         halved-front h = sym (simp (tests, h)) ∙ look a e
 
-  -- ---- the slot that is looked at first
+  -- ---- the slots that are looked at first
 
   module _ (n i : ℕ) where
-    pub behind-far : n ≤ i → halved w v xs 0 n ≡ slotBehind w v xs n i
+    pub behind-next : holds v xs n i ≡ true → i + 1 ≡ slotBehind w v xs n i
     unfolding slotBehind
-    behind-far h = sym (simp tests)
+    behind-next h = sym (simp h)
 
-    module _ (h₁ : i < n) where
-      pub behind-next : getD xs i 0 ≡ v → i + 1 ≡ slotBehind w v xs n i
+    module _ (h₁ : holds v xs n i ≡ false) where
+      pub behind-begin : i < 2 → halved w v xs 0 n ≡ slotBehind w v xs n i
       unfolding slotBehind
-      behind-next h = sym (simp tests)
+      behind-begin h = sym (simp (tests, h₁))
 
-      pub behind-other : (getD xs i 0 ≡ v → ⊥) → halved w v xs 0 n ≡ slotBehind w v xs n i
-      unfolding slotBehind
-      behind-other h = sym (simp tests)
+      module _ (h₂ : 2 ≤ i) where
+        pub behind-front : holds v xs n (i - 2) ≡ true → i - 1 ≡ slotBehind w v xs n i
+        unfolding slotBehind
+        behind-front h = sym (simp (tests, h₁, h))
+
+        pub behind-other : holds v xs n (i - 2) ≡ false → halved w v xs 0 n ≡ slotBehind w v xs n i
+        unfolding slotBehind
+        behind-other h = sym (simp (tests, h₁, h))
+
+-- ---- a slot that is looked at
+
+module _ (v : ℕ) (xs : List ℕ) (n i : ℕ) where
+  pub holds-past : n ≤ i → false ≡ holds v xs n i
+  unfolding holds
+  holds-past h = sym (simp tests)
+
+  pub holds-is : i < n → eqb (getD xs i 0) v ≡ holds v xs n i
+  unfolding holds
+  holds-is h = sym (simp tests)
+
+  -- a slot that holds v is one of the n, and v stands there
+  pub holds-at : holds v xs n i ≡ true → (i < n) × (getD xs i 0 ≡ v)
+  unfolding holds
+  holds-at =
+      by-cases (λ (t : Bool). t ≡ true → (i < n) × (getD xs i 0 ≡ v)) (leb n i) (λ f q. let z : _≡_ {A = ℕ} 0 1 = cc in absurd (omega arith))
+      (λ f q. (leb-false n i f, eqb-true (getD xs i 0) v q))
 
 -- ---- the loop of `all_found`: vs are still to be found, and i is the slot to look at first
 

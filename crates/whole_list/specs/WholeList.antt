@@ -34,11 +34,17 @@ halvedIn w v xs (suc k) a e = lookAt w v xs (halvedIn w v xs k) a e
 unfoldable pub halved : (ℕ → ℕ) → ℕ → List ℕ → ℕ → ℕ → ℕ
 halved w v xs a e = halvedIn w v xs (suc (e - a)) a e
 
--- v at the i-th of n slots, or else found by halving
-unfoldable pub slotBehind : (ℕ → ℕ) → ℕ → List ℕ → ℕ → ℕ → ℕ
-slotBehind w v xs n i = cond (ltb i n) (cond (eqb (getD xs i 0) v) (i + 1) (halved w v xs 0 n)) (halved w v xs 0 n)
+-- is v in slot i, one of the first n?
+unfoldable pub holds : ℕ → List ℕ → ℕ → ℕ → Bool
+holds v xs n i = cond (leb n i) false (eqb (getD xs i 0) v)
 
--- each of them found so, the slot behind the last one found being looked at first
+-- v in slot i, or in that two before it, or else found by halving among the first n
+unfoldable pub slotBehind : (ℕ → ℕ) → ℕ → List ℕ → ℕ → ℕ → ℕ
+slotBehind w v xs n i =
+    cond (holds v xs n i) (i + 1)
+    (cond (leb 2 i) (cond (holds v xs n (i - 2)) (i - 1) (halved w v xs 0 n)) (halved w v xs 0 n))
+
+-- each of them found so, i being the place behind the slot found last: the slots on both sides of that one are looked at first
 unfoldable pub allFound : (ℕ → ℕ) → List ℕ → ℕ → ℕ → List ℕ → Bool
 allFound w xs n i [] = true
 allFound w xs n i (v ∷ vs) = cond (eqb (slotBehind w v xs n i) 0) false (allFound w xs n (slotBehind w v xs n i) vs)

@@ -9,7 +9,7 @@ use native.Mathlib.Omega.{arith}
 use lib.ListN.{length, getD, take}
 use lib.Seq.{length-take-le, getD-take}
 use lib.Dec.{ltb, leb, eqb}
-use borrow.Author.Tests.{ltb-true, ltb-false, leb-false, eqb-true, eqb-false}
+use borrow.Author.Tests.{ltb-false, leb-false, eqb-true, eqb-false}
 use Rattle.walk.specs.Cases.{by-cases, le-or-gt}
 use Rattle.walk.specs.Listing.{Reply, gave, nothing, refused}
 use Rattle.refusal.specs.Told.{Told}
@@ -26,17 +26,21 @@ use Rattle.rank.specs.RankLaws.{After, Ascends}
 use Rattle.order.specs.Order.{startsFrom}
 use Rattle.order.specs.OrderLaws.{counted-starts}
 use Rattle.order.specs.BuiltLaws.{ascends}
-use Rattle.whole_list.specs.WholeList.{middle, lookAt, halvedIn, halved, slotBehind, allFound, comesTo, wholeIn, wholeList}
+use Rattle.whole_list.specs.WholeList.{middle, lookAt, halvedIn, halved, holds, slotBehind, allFound, comesTo, wholeIn, wholeList}
+use Rattle.whole_list.specs.StepLaws.{holds-at}
 use Rattle.whole_list.specs.MemberLaws.{In, in-at, each-in, Apart, nothing-else}
 use Rattle.whole_list.specs.PlacesLaws.{First, Begins, begins, comes-finds}
 
 -- ---- what is found stands among the n slots
 
 module _ (w : ℕ → ℕ) (xs : List ℕ) (n : ℕ) (room : n ≤ length xs) where
-  slot-in : (v i : ℕ) → i < n → eqb (getD xs i 0) v ≡ true → In v (take n xs)
+  slot-in : (v i : ℕ) → i < n → getD xs i 0 ≡ v → In v (take n xs)
   slot-in v i h e =
       let l : length (take n xs) ≡ n = length-take-le n xs room in
-      subst (λ x. In x (take n xs)) (getD-take n xs i 0 h ∙ eqb-true (getD xs i 0) v e) (in-at (take n xs) i (omega arith))
+      subst (λ x. In x (take n xs)) (getD-take n xs i 0 h ∙ e) (in-at (take n xs) i (omega arith))
+
+  held-in : (v i : ℕ) → holds v xs n i ≡ true → In v (take n xs)
+  held-in v i e = let h = holds-at v xs n i e in slot-in v i (h .0) (h .1)
 
   halved-in : (v k a e : ℕ) → e ≤ n → 0 < halvedIn w v xs k a e → In v (take n xs)
   unfolding halvedIn lookAt
@@ -45,7 +49,7 @@ module _ (w : ℕ → ℕ) (xs : List ℕ) (n : ℕ) (room : n ≤ length xs) wh
       let m = middle a e in
       by-cases (λ (r : ℕ). 0 < r → In v (take n xs)) (leb e a) (λ f q. absurd (omega arith))
       (λ f. let l : a < e = leb-false e a f in
-      by-cases (λ (r : ℕ). 0 < r → In v (take n xs)) (eqb (getD xs m 0) v) (λ g q. slot-in v m (omega arith) g)
+      by-cases (λ (r : ℕ). 0 < r → In v (take n xs)) (eqb (getD xs m 0) v) (λ g q. slot-in v m (omega arith) (eqb-true (getD xs m 0) v g))
       (λ g. by-cases (λ (r : ℕ). 0 < r → In v (take n xs)) (ltb (w (getD xs m 0)) (w v))
       (λ d. halved-in v k (m + 1) e h)
       (λ d. halved-in v k a m (omega arith))))
@@ -54,9 +58,10 @@ module _ (w : ℕ → ℕ) (xs : List ℕ) (n : ℕ) (room : n ≤ length xs) wh
   unfolding slotBehind halved
   behind-in v i =
       let far = halved-in v (suc (n - 0)) 0 n (omega arith) in
-      by-cases (λ (r : ℕ). 0 < r → In v (take n xs)) (ltb i n)
-      (λ f. by-cases (λ (r : ℕ). 0 < r → In v (take n xs)) (eqb (getD xs i 0) v) (λ g q. slot-in v i (ltb-true i n f) g) (λ g. far))
-      (λ f. far)
+      by-cases (λ (r : ℕ). 0 < r → In v (take n xs)) (holds v xs n i) (λ f q. held-in v i f)
+      (λ f. by-cases (λ (r : ℕ). 0 < r → In v (take n xs)) (leb 2 i)
+      (λ g. by-cases (λ (r : ℕ). 0 < r → In v (take n xs)) (holds v xs n (i - 2)) (λ d q. held-in v (i - 2) d) (λ d. far))
+      (λ g. far))
 
   all-in : (i : ℕ) (vs : List ℕ) → allFound w xs n i vs ≡ true → Each (λ v. In v (take n xs)) vs
   unfolding allFound

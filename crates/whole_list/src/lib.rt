@@ -8,7 +8,7 @@ ghost use lib.ListN.{length};
 ghost use Rattle.area.specs.Kind.{ruled};
 ghost use Rattle.order.specs.Order.{startsFrom};
 ghost use Rattle.rank.specs.Rank.{rank};
-ghost use Rattle.whole_list.specs.WholeList.{halved, slotBehind, allFound, comesTo, wholeList};
+ghost use Rattle.whole_list.specs.WholeList.{halved, holds, slotBehind, allFound, comesTo, wholeList};
 ghost use Rattle.whole_list.specs.Begin.{goesBack, backs, tested, beginAt};
 use area::SubStep;
 use area::sub_at;
@@ -36,14 +36,29 @@ fn halved(area: &[u8], slots: &[u32], from: usize, to: usize, start: u32) -> usi
     halved(area, slots, from, mid, start)
 }
 
-// The same among the first n slots. That at `next` is looked at first: bodies that follow each other in the area often do so in the list.
+// Does the slot at i, one of the first n, hold `start`?
+fn holds(slots: &[u32], n: usize, i: usize, start: u32) -> bool
+    requires { ⌜ n ≤ length (now slots) ⌝ }
+    ensures { λ r. ⌜ r ≡ holds start (now (slots .entry)) n i ⌝ }
+{
+    if n <= i {
+        return false;
+    }
+    slots[i] == start
+}
+
+// The place behind the slot that holds `start`, among the first n slots. `next` is that behind the slot found last. The slots on both sides of that
+// one are looked at first: bodies that follow each other in the area often do so in the list, forwards or backwards.
 fn slot_behind(area: &[u8], slots: &[u32], n: usize, next: usize, start: u32) -> usize
     requires { ⌜ n ≤ length (now slots) ⌝ }
     ensures { λ r. ⌜ r ≡ slotBehind (rank (now (area .entry))) start (now (slots .entry)) n next ⌝ }
 {
-    if next < n {
-        if slots[next] == start {
-            return next + 1;
+    if holds(slots, n, next, start) {
+        return next + 1;
+    }
+    if 2 <= next {
+        if holds(slots, n, next - 2, start) {
+            return next - 1;
         }
     }
     halved(area, slots, 0, n, start)
