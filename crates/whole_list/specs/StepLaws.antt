@@ -14,9 +14,18 @@ use Rattle.area.specs.Kind.{Sort}
 use Rattle.area.specs.Subs.{Sub, subsFrom, stepAt}
 use Rattle.area.specs.SubsLaws.{sub-next, sub-end, sub-refused}
 use Rattle.lines.specs.Lines.{countLines}
-use Rattle.rank.specs.Rank.{rank}
+use Rattle.rank.specs.Rank.{keyAt, rank, Weighs}
 use Rattle.order.specs.Order.{startsFrom}
 use Rattle.whole_list.specs.WholeList.{middle, lookAt, halvedIn, halved, holds, slotBehind, allFound, comesBy, comesTo, wholeIn, wholeList}
+
+-- ---- what is sought, as it was weighed
+
+module _ (s : List ℕ) (p key slot : ℕ) (h : Weighs s p key slot) where
+  pub weighed : Weighs s slot key slot
+  weighed = record { key-is = h .key-is ∙ ap (keyAt s) (sym (h .slot-is)); slot-is = refl }
+
+  pub halved-weighed : (xs : List ℕ) (a e : ℕ) → halved (rank s) slot xs a e ≡ halved (rank s) p xs a e
+  halved-weighed xs a e = ap (λ (k : ℕ). halved (rank s) k xs a e) (h .slot-is)
 
 -- ---- the halving
 

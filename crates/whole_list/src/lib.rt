@@ -7,30 +7,33 @@ ghost use Prim.Native.Nat.{_≤_};
 ghost use lib.ListN.{length};
 ghost use Rattle.area.specs.Kind.{ruled};
 ghost use Rattle.order.specs.Order.{startsFrom};
-ghost use Rattle.rank.specs.Rank.{rank};
+ghost use Rattle.rank.specs.Rank.{rank, Weighs};
 ghost use Rattle.whole_list.specs.WholeList.{halved, holds, slotBehind, allFound, comesTo, wholeList};
 ghost use Rattle.whole_list.specs.Begin.{goesBack, backs, tested, beginAt};
 use area::SubStep;
 use area::sub_at;
 use lines::Counted;
 use lines::count_lines;
-use rank::less;
+use rank::Weighed;
+use rank::lighter;
+use rank::weigh;
 
 // The place behind the slot that holds `start`, among those from `from` to `to`, or 0. Each look at the middle leaves a shorter span. In a list that
-// is not in order a slot may be missed.
-fn halved(area: &[u8], slots: &[u32], from: usize, to: usize, start: u32) -> usize
+// is not in order a slot may be missed. What is sought was weighed before.
+fn halved(area: &[u8], slots: &[u32], from: usize, to: usize, start: Weighed) -> usize
     requires { ⌜ to ≤ length (now slots) ⌝ }
-    ensures { λ r. ⌜ r ≡ halved (rank (now (area .entry))) start (now (slots .entry)) from to ⌝ }
+    requires { ⌜ Weighs (now area) (start .slot) (start .key) (start .slot) ⌝ }
+    ensures { λ r. ⌜ r ≡ halved (rank (now (area .entry))) (start .slot) (now (slots .entry)) from to ⌝ }
 {
     if to <= from {
         return 0;
     }
     let mid = from + (to - from) / 2;
     let at = slots[mid];
-    if at == start {
+    if at == start.slot {
         return mid + 1;
     }
-    if less(area, at, start) {
+    if lighter(weigh(area, at), start) {
         return halved(area, slots, mid + 1, to, start);
     }
     halved(area, slots, from, mid, start)
@@ -61,7 +64,7 @@ fn slot_behind(area: &[u8], slots: &[u32], n: usize, next: usize, start: u32) ->
             return next - 1;
         }
     }
-    halved(area, slots, 0, n, start)
+    halved(area, slots, 0, n, weigh(area, start))
 }
 
 // Is the start of each line body found in the first n slots?
