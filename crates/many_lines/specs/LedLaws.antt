@@ -49,7 +49,7 @@ module _ (rule : ℕ → Sort) (s v : List ℕ) (n : ℕ) where
   named-same t p nothing = refl
   named-same t p (refused e) = refl
 
-  begin-same : (t : Rest) → Led rule s v n (Between t) → slotAt rule s v (t .slot) (beginAt v n (t .slot) (t .scan)) ≡ slotAt rule s v (t .slot) (t .scan)
+  pub begin-same : (t : Rest) → Led rule s v n (Between t) → slotAt rule s v (t .slot) (beginAt v n (t .slot) (t .scan)) ≡ slotAt rule s v (t .slot) (t .scan)
   begin-same t h = ⊎-elim
       (λ (z : n ≤ 0). ap (slotAt rule s v (t .slot)) (sym (begin-past v n (t .slot) (t .scan) (omega arith))))
       (λ (z : 0 < n).

@@ -1,16 +1,44 @@
--- A name for the proofs: where a call stands behind many turns made at once.
+-- Names for the proofs: the end of a body, the next body, and where a call stands behind many turns made at once.
 -- Definitions only; no public contract cites them.
-use Prim.Native.Nat.{ℕ}
+use Prim.Native.Nat.{ℕ, _<_}
 use mathlib.Core.Path.{_≡_}
 use mathlib.Core.List.{List}
 use lib.ListN.{length}
+use Rattle.walk.specs.Listing.{pass}
+use Rattle.area.specs.Kind.{ruled}
+use Rattle.lines.specs.declared.LineHeader.{LineHeader}
+use Rattle.turns.specs.Turn.{LineMove, endOf}
+use Rattle.turns.specs.declared.Rest.{Rest}
+use Rattle.turns.specs.declared.Place.{Place}
 use Rattle.turns.specs.declared.LineWalk.{LineWalk}
+use Rattle.turns.specs.declared.LineWalk.the-variants.{Between, Inside}
 use Rattle.stretch.specs.GoesLaws.{Goes}
-use Rattle.many_lines.specs.Led.{scanOf}
+use Rattle.many_lines.specs.LedLaws.{Led}
 use Rattle.many_lines.specs.declared.Stood.{Stood}
+use Rattle.many_lines.specs.declared.Ended.{Ended}
+use Rattle.many_lines.specs.declared.Ended.the-variants as ended
+use Rattle.many_lines.specs.declared.Entered.{Entered}
+use Rattle.many_lines.specs.declared.Entered.the-variants as entered
 
--- from n records and the walk w to r, the words o being o′ then; how far the area was searched stays
-pub record Went (s : List ℕ) (room n : ℕ) (w : LineWalk) (o : List ℕ) (r : Stood) (o′ : List ℕ) : Type 0 where
+pub record EndsTo (h : LineHeader) (t u : Rest) : Type 0 where
+  pub turn : pass (Between u) ≡ endOf h t
+  pub left : u .left ≡ t .left
+
+abbrev pub EndedIs : LineHeader → Rest → Ended → Type 0
+EndedIs h t (ended.At u) = EndsTo h t u
+EndedIs h t ended.Stuck = Unit {0}
+
+-- m being the turn
+pub record EntersTo (m : LineMove) (t : Rest) (q : Place) (u : Rest) : Type 0 where
+  pub turn : pass (Inside q u) ≡ m
+  pub less : u .left < t .left
+
+abbrev pub EnteredIs : LineMove → Rest → Entered → Type 0
+EnteredIs m t (entered.At q u) = EntersTo m t q u
+EnteredIs m t entered.Stuck = Unit {0}
+
+-- from n records and the walk w to r, the words o being o′ then, over the slots v of which the first `whole` are tested
+pub record Went (s v : List ℕ) (whole room n : ℕ) (w : LineWalk) (o : List ℕ) (r : Stood) (o′ : List ℕ) : Type 0 where
   pub size : length o′ ≡ length o
-  pub scan : scanOf (r .walk) ≡ scanOf w
-  pub goes : (v : List ℕ) → Goes s v room n w o (r .n) (r .walk) o′
+  pub led : Led ruled s v whole (r .walk)
+  pub goes : Goes s v room n w o (r .n) (r .walk) o′

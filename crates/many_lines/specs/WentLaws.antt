@@ -4,49 +4,112 @@ use mathlib.Core.Path.{_≡_, refl, sym, ap, _∙_, subst}
 use mathlib.Core.List.{List}
 use mathlib.Core.Bool.{Bool, true, false, cond}
 use native.Mathlib.Omega.{arith}
-use lib.ListN.{length}
+use lib.ListN.{length, take}
 use Rattle.word.specs.Word.{store}
-use Rattle.walk.specs.Listing.{item, pass, Answer, gives}
+use Rattle.walk.specs.Listing.{item, pass, Answer, gives, none, gave}
 use Rattle.walk.specs.First.{onFirst}
 use Rattle.walk.specs.Many.{Many, noMore, thenMany, many}
 use Rattle.walk.specs.ManyLaws.{NoRecord, many-step, many-none, many-zero}
-use Rattle.refusal.specs.Told.{Told}
+use Rattle.refusal.specs.Told.{Told, longest}
 use Rattle.area.specs.Kind.{ruled}
+use Rattle.line_record.specs.Record.{maxOffset, closedAt}
 use Rattle.line_record.specs.declared.LineRecord.{LineRecord}
 use Rattle.line_words.specs.LineWords.{recordWords}
-use Rattle.lines.specs.SlotsLaws.{Scans}
-use Rattle.turns.specs.Turn.{LineMove, withHeld, turnOf}
+use Rattle.body.specs.Lines.{lineHead, columned}
+use Rattle.find.specs.Find.{bytesAt}
+use Rattle.lines.specs.Slots.{slotAt}
+use Rattle.lines.specs.Told.{toldHeader}
+use Rattle.lines.specs.declared.LineHeader.{LineHeader}
+use Rattle.turns.specs.Turn.{LineMove, withHeld, placeAt, restAt, enterAt, betweenTurn, turnOf}
+use Rattle.turns.specs.TurnLaws.{end-nothing, end-close, enter-in, sub-is, between-sub, block-is, inside-block, turn-is}
+use Rattle.turns.specs.declared.Held.the-variants.{Nothing, One}
 use Rattle.turns.specs.declared.Held.{Held}
 use Rattle.turns.specs.declared.Rest.{Rest}
 use Rattle.turns.specs.declared.Place.{Place}
 use Rattle.turns.specs.declared.LineWalk.{LineWalk}
-use Rattle.turns.specs.declared.LineWalk.the-variants.{Inside}
+use Rattle.turns.specs.declared.LineWalk.the-variants.{Between, Inside}
 use Rattle.records.specs.Next.{todo, nextOf}
 use Rattle.records.specs.NextLaws.{next-is, next-falls}
 use Rattle.given.specs.Fill.{noRoom, counted}
+use Rattle.whole_list.specs.Begin.{beginAt}
 use Rattle.stretch.specs.declared.Lined.{Lined}
-use Rattle.stretch.specs.Stretch.{Rode}
-use Rattle.stretch.specs.GoesLaws.{Going, Goes, goes-same, goes-pass}
+use Rattle.stretch.specs.Stretch.{Used, Rode}
+use Rattle.stretch.specs.GoesLaws.{Going, Goes, goes-same, goes-pass, goes-on}
 use Rattle.stretch.specs.FillLaws.{Filled, Fills, turns-start, turns-pass, turns-record, turns-full, turns-stop, turns-none, turns-behind, record-falls}
-use Rattle.many_lines.specs.Led.{scanOf}
-use Rattle.many_lines.specs.LedLaws.{Led, led-kept}
-use Rattle.many_lines.specs.Went.{Went}
+use Rattle.many_lines.specs.LedLaws.{Led, begin-same, led-kept}
+use Rattle.many_lines.specs.Went.{EndsTo, EntersTo, EnteredIs, Went}
+use Rattle.many_lines.specs.declared.Entered.{Entered}
 use Rattle.many_lines.specs.declared.Stood.{Stood}
+
+-- ---- the end of a body, and the next one
+
+pub ends-nothing : (h : LineHeader) (t : Rest) → t .held ≡ Nothing → EndsTo h t t
+ends-nothing h t e = record { turn = end-nothing (t .held) h t e; left = refl }
+
+pub ends-one : (h : LineHeader) (t : Rest) (r k : LineRecord) → t .held ≡ One r → h .offset + h .code ≤ maxOffset → k ≡ closedAt (h .section) (h .offset + h .code) r
+    → EndsTo h t (withHeld t (One k))
+ends-one h t r k e l ek = record { turn = end-close (t .held) h t r e l k (withHeld t (One k)) ek refl; left = refl }
+
+module _ (s : List ℕ) (t : Rest) (a n : ℕ) where
+  -- k is the length of the part that was lent, and g its header
+  pub enters-in : 12 ≤ n → 1 ≤ t .left → (k : ℕ) (g : LineHeader) → k ≡ n → toldHeader g ≡ lineHead (bytesAt s (record { start = a; len = k }))
+      → EntersTo (enterAt s t a n) t (placeAt g (a + 12) (a + n)) (restAt t (a + n))
+  enters-in h l k g ek eg = record { turn = enter-in s t a n h k g (placeAt g (a + 12) (a + n)) ek eg refl; less = omega arith }
+
+module _ (s v : List ℕ) (whole : ℕ) (t : Rest) (h : Led ruled s v whole (Between t)) (l : t .left ≡ 0 → ⊥) where
+  -- y is where the search began, and r what the body at a is entered as
+  pub enters-next : (y a n : ℕ) (r : Entered) → y ≡ beginAt v whole (t .slot) (t .scan) → gave (record { start = a; len = n }) ≡ slotAt ruled s v (t .slot) y
+      → EnteredIs (enterAt s t a n) t r → EnteredIs (betweenTurn ruled s v t) t r
+  enters-next y a n r ey e k =
+      subst (λ m. EnteredIs m t r)
+      (sub-is ruled s v t (gave (record { start = a; len = n })) (e ∙ ap (slotAt ruled s v (t .slot)) ey ∙ begin-same ruled s v whole t h) ∙ between-sub ruled s v t l) k
 
 -- ---- many turns at once
 
-module _ (s : List ℕ) (room n : ℕ) (w : LineWalk) (o : List ℕ) where
+module _ (s v : List ℕ) (whole room n : ℕ) (w : LineWalk) (o : List ℕ) where
   -- none; x is what w is
-  pub went-same : (x : LineWalk) → w ≡ x → Went s room n w o (record { n = n; walk = x }) o
-  went-same x e = record { size = refl; scan = ap scanOf (sym e); goes = λ v. subst (λ y. Goes s v room n w o n y o) e (goes-same s v room) }
+  pub went-same : Led ruled s v whole w → (x : LineWalk) → w ≡ x → Went s v whole room n w o (record { n = n; walk = x }) o
+  went-same h x e = subst (λ y. Went s v whole room n w o (record { n = n; walk = y }) o) e (record { size = refl; led = h; goes = goes-same s v room })
 
-  pub went-inside : (p : Place) (t : Rest) (r : Lined) (o′ : List ℕ) → w ≡ Inside p t → Rode s room p (t .held) n o r o′
-      → Went s room n w o (record { n = r .n; walk = Inside (r .place) (withHeld t (r .held)) }) o′
-  went-inside p t r o′ e h = record {
-    size = h .size;
-    scan = ap scanOf (sym e);
-    goes = λ v. subst (λ y. Goes s v room n y o (r .n) (Inside (r .place) (withHeld t (r .held))) o′) (sym e) (h .goes v t);
-  }
+  pub went-as : (x : LineWalk) → w ≡ x → (r : Stood) (o′ : List ℕ) → Went s v whole room n x o r o′ → Went s v whole room n w o r o′
+  went-as x e r o′ h = subst (λ y. Went s v whole room n y o r o′) (sym e) h
+
+  module _ (m : ℕ) (o′ : List ℕ) where
+    pub went-lines : (p : Place) (t : Rest) (r : Lined) (o″ : List ℕ) → Went s v whole room n w o (record { n = m; walk = Inside p t }) o′ → Rode s room p (t .held) m o′ r o″
+        → Went s v whole room n w o (record { n = r .n; walk = Inside (r .place) (withHeld t (r .held)) }) o″
+    went-lines p t r o″ h k = record {
+      size = k .size ∙ h .size;
+      led = record { place = h .led .place; whole = h .led .whole; right = h .led .right };
+      goes = goes-on s v room (h .goes) (k .goes v t);
+    }
+
+    -- a body that is used up
+    pub went-end : (r : Lined) (u x : Rest) → r .n ≡ m → Used s room r → Went s v whole room n w o (record { n = m; walk = Inside (r .place) u }) o′ → EndsTo (r .place .head) u x
+        → Went s v whole room n w o (record { n = m; walk = Between x }) o′
+    went-end r u x en k h z =
+        let e = z .turn ∙ block-is (take (r .place .end) s) (r .place) u (columned (r .place .head .flags)) refl none (k .over)
+        ∙ inside-block s (r .place) u (k .fit .body) (k .lines) ∙ turn-is ruled s v (Inside (r .place) u) (k .fit .short) (Inside (r .place) u) refl in
+        record {
+          size = h .size;
+          led = led-kept ruled s v whole (Inside (r .place) u) (h .led) (pass (Between x)) e;
+          goes = goes-on s v room (h .goes) (goes-pass s v room (omega (arith, k .less)) (Between x) e);
+        }
+
+    pub went-enter : (t : Rest) (q : Place) (u : Rest) → length s ≤ longest → m < room → Went s v whole room n w o (record { n = m; walk = Between t }) o′
+        → EntersTo (betweenTurn ruled s v t) t q u → Went s v whole room n w o (record { n = m; walk = Inside q u }) o′
+    went-enter t q u f l h z =
+        let e = z .turn ∙ turn-is ruled s v (Between t) f (Between t) refl in
+        record {
+          size = h .size;
+          led = led-kept ruled s v whole (Between t) (h .led) (pass (Inside q u)) e;
+          goes = goes-on s v room (h .goes) (goes-pass s v room l (Inside q u) e);
+        }
+
+  -- the lines of a body that is used up then, and its end
+  pub went-used : (m : ℕ) (o′ : List ℕ) (p : Place) (t : Rest) (r : Lined) (o″ : List ℕ) (x : Rest) → Went s v whole room n w o (record { n = m; walk = Inside p t }) o′
+      → Rode s room p (t .held) m o′ r o″ → r .stuck ≡ false → EndsTo (r .place .head) (withHeld t (r .held)) x
+      → Went s v whole room n w o (record { n = r .n; walk = Between x }) o″
+  went-used m o′ p t r o″ x h k e z = went-end (r .n) o″ r (withHeld t (r .held)) x refl (k .used e) (went-lines m o′ p t r o″ h k) z
 
 -- ---- the walk behind so many records
 
@@ -99,10 +162,10 @@ module _ (s v : List ℕ) (w₀ : LineWalk) (o₀ : List ℕ) where
     stand-record r t o′ e l q =
         record { going = record { last = t; fills = turns-record ruled s v w₀ o₀ (h .going .fills) r t o′ e l q; full = λ f. refl }; exactly = λ x. refl }
 
-    pub stand-pass : (room : ℕ) (t : LineWalk) (x : Stood) (o′ : List ℕ) → pass t ≡ turnOf ruled s v w → n < room → length o₀ / 12 ≡ room → Went s room n t o x o′
+    pub stand-pass : (whole room : ℕ) (t : LineWalk) (x : Stood) (o′ : List ℕ) → pass t ≡ turnOf ruled s v w → n < room → length o₀ / 12 ≡ room → Went s v whole room n t o x o′
         → Standing (x .n) (x .walk) false o′
-    stand-pass room t x o′ e l er k = record {
-      going = k .goes v .going w₀ o₀ er (goes-pass s v room l t e .going w₀ o₀ er (h .going));
+    stand-pass whole room t x o′ e l er k = record {
+      going = k .goes .going w₀ o₀ er (goes-pass s v room l t e .going w₀ o₀ er (h .going));
       exactly = λ z. let y : _≡_ {A = ℕ} 0 1 = cc in absurd (omega arith);
     }
 
@@ -128,12 +191,5 @@ module _ (s v : List ℕ) (w₀ : LineWalk) (o₀ : List ℕ) where
           which false f g = g
 
 module _ (s v : List ℕ) where
-  -- what leads the walk still does behind many turns
-  pub led-went : (room n whole : ℕ) (w t : LineWalk) (o o′ : List ℕ) (x : Stood) → Led ruled s v whole w → pass t ≡ turnOf ruled s v w → Went s room n t o x o′
-      → Led ruled s v whole (x .walk)
-  led-went room n whole w t o o′ x h e k =
-      let q : Led ruled s v whole t = led-kept ruled s v whole w h (pass t) e in
-      record { place = q .place; whole = q .whole; right = λ z. subst (λ (y : ℕ). Scans ruled s y) (sym (k .scan)) (q .right z) }
-
-  pub went-less : (room n : ℕ) (w t : LineWalk) (o o′ : List ℕ) (x : Stood) → pass t ≡ turnOf ruled s v w → Went s room n t o x o′ → todo ruled s (x .walk) < todo ruled s w
-  went-less room n w t o o′ x e k = omega (arith, next-falls ruled s v w t e, k .goes v .less)
+  pub went-less : (whole room n : ℕ) (w t : LineWalk) (o o′ : List ℕ) (x : Stood) → pass t ≡ turnOf ruled s v w → Went s v whole room n t o x o′ → todo ruled s (x .walk) < todo ruled s w
+  went-less whole room n w t o o′ x e k = omega (arith, next-falls ruled s v w t e, k .goes .less)

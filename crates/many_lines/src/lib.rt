@@ -3,7 +3,7 @@
 //
 // The records before an end or a refusal are given first, and the next call, from the walk answered, tells it.
 ghost use mathlib.Core.Path.{_≡_};
-ghost use Prim.Native.Nat.{_≤_};
+ghost use Prim.Native.Nat.{_+_, _<_, _≤_, _^_};
 ghost use mathlib.Core.Bool.{cond};
 ghost use lib.ListN.{length};
 ghost use Rattle.walk.specs.Listing.{gives};
@@ -11,20 +11,29 @@ ghost use Rattle.walk.specs.Many.{many};
 ghost use Rattle.area.specs.Kind.{ruled};
 ghost use Rattle.records.specs.Next.{nextOf};
 ghost use Rattle.records.specs.Told.{toldLine};
-ghost use Rattle.turns.specs.Turn.{turnOf};
+ghost use Rattle.turns.specs.Turn.{enterAt, betweenTurn, turnOf};
+ghost use Rattle.turns.specs.declared.LineWalk.the-variants.{Between, Inside};
 ghost use Rattle.turns.specs.Told.{toldTurn};
 ghost use Rattle.many_lines.specs.Led.{scanOf, ledRest, ledWalk};
 ghost use Rattle.many_lines.specs.LedLaws.{Led};
 ghost use Rattle.given.specs.Fill.{noRoom};
 ghost use Rattle.many_lines.specs.Lines.{linesOf, counted, filled};
 ghost use Rattle.many_lines.specs.Told.{toldLines};
-ghost use Rattle.many_lines.specs.Went.{Went};
+ghost use Rattle.many_lines.specs.Went.{EndedIs, EnteredIs, Went};
+use line_record::LineRecord;
+use line_record::closed;
 use line_words::put_record;
+use lines::LineHeader;
+use lines::Named;
+use lines::header_of;
+use lines::slot_body;
 use records::LineStep;
 use records::next_line;
 use refusal::Refusal;
 use stretch::body_lines;
+use turns::Held;
 use turns::LineWalk;
+use turns::Place;
 use turns::Rest;
 use turns::Turn;
 use turns::take_turn;
@@ -132,9 +141,155 @@ struct Stood {
     walk: LineWalk,
 }
 
-// As many turns at once as can be made inside a body.
-fn faster(area: &[u8], n: usize, room: usize, w: LineWalk, out: &mut [u64]) -> Stood
-    ensures { λ r. ⌜ Went (now (area .entry)) room n w (now (out .entry)) r (now (out .exit)) ⌝ }
+// Between two bodies, or that the walk stays where it is.
+enum Ended {
+    At(Rest),
+    Stuck,
+}
+
+// Out of a body that is used up: its end closes the record that is held.
+fn end_body(h: LineHeader, t: Rest) -> Ended
+    ensures { λ r. ⌜ EndedIs h t r ⌝ }
+{
+    let held = t.held;
+    match held {
+        Held::Nothing => Ended::At(t),
+        Held::One(r) => {
+            if LineRecord::MAX_OFFSET - h.offset < h.code {
+                return Ended::Stuck;
+            }
+            let c = closed(r, h.section, h.offset + h.code);
+            Ended::At(Rest {
+                slot: t.slot,
+                left: t.left,
+                scan: t.scan,
+                held: Held::One(c),
+            })
+        }
+    }
+}
+
+// Inside the next body, or that the walk stays where it is.
+enum Entered {
+    At(Place, Rest),
+    Stuck,
+}
+
+// Into the body that starts at `start`.
+fn enter_body(area: &[u8], t: Rest, start: usize, len: usize) -> Entered
+    requires { ⌜ (start + len ≤ length (now area)) × (1 ≤ t .left) × (t .slot + 1 < 2 ^ 64) ⌝ }
+    ensures { λ r. ⌜ EnteredIs (enterAt (now (area .entry)) t start len) t r ⌝ }
+{
+    if len < 12 {
+        return Entered::Stuck;
+    }
+    let end = start + len;
+    let head = header_of(&area[start..end]);
+    let held = t.held;
+    Entered::At(
+        Place {
+            head,
+            end,
+            next: start + 12,
+            file: 0,
+            lines: 0,
+            line: 0,
+            column: 0,
+        },
+        Rest {
+            slot: t.slot + 1,
+            left: t.left - 1,
+            scan: end,
+            held,
+        },
+    )
+}
+
+// Into the body that the next slot names.
+fn next_body(area: &[u8], slots: &[u32], whole: usize, t: Rest) -> Entered
+    requires { ⌜ Led ruled (now area) (now slots) whole (Between t) ⌝ }
+    ensures { λ r. ⌜ EnteredIs (betweenTurn ruled (now (area .entry)) (now (slots .entry)) t) t r ⌝ }
+{
+    if t.left == 0 {
+        return Entered::Stuck;
+    }
+    match slot_body(area, slots, t.slot, begin_at(slots, whole, t.slot, t.scan)) {
+        Named::Body { start, len } => enter_body(area, t, start, len),
+        Named::Refused(_) => Entered::Stuck,
+    }
+}
+
+// Body after body, from inside one, as many turns at once as can be.
+fn bodies(
+    area: &[u8],
+    slots: &[u32],
+    whole: usize,
+    n0: usize,
+    room: usize,
+    place: Place,
+    rest: Rest,
+    out: &mut [u64],
+) -> Stood
+    requires { ⌜ Led ruled (now area) (now slots) whole (Inside place rest) ⌝ }
+    ensures { λ r. ⌜ Went (now (area .entry)) (now (slots .entry)) whole room n0 (Inside place rest) (now (out .entry)) r (now (out .exit)) ⌝ }
+{
+    let mut n = n0;
+    let mut p = place;
+    let mut t = rest;
+    loop {
+        let held = t.held;
+        let x = body_lines(area, p, held, n, room, out);
+        n = x.n;
+        let q = x.place;
+        let kept = x.held;
+        let u = Rest {
+            slot: t.slot,
+            left: t.left,
+            scan: t.scan,
+            held: kept,
+        };
+        if x.stuck {
+            return Stood {
+                n,
+                walk: LineWalk::Inside(q, u),
+            };
+        }
+        let h = q.head;
+        match end_body(h, u) {
+            Ended::At(v) => match next_body(area, slots, whole, v) {
+                Entered::At(a, b) => {
+                    p = a;
+                    t = b;
+                }
+                Entered::Stuck => {
+                    return Stood {
+                        n,
+                        walk: LineWalk::Between(v),
+                    };
+                }
+            },
+            Ended::Stuck => {
+                return Stood {
+                    n,
+                    walk: LineWalk::Inside(q, u),
+                };
+            }
+        }
+    }
+}
+
+// As many turns at once as can be made, where the walk is inside a body.
+fn faster(
+    area: &[u8],
+    slots: &[u32],
+    whole: usize,
+    n: usize,
+    room: usize,
+    w: LineWalk,
+    out: &mut [u64],
+) -> Stood
+    requires { ⌜ Led ruled (now area) (now slots) whole w ⌝ }
+    ensures { λ r. ⌜ Went (now (area .entry)) (now (slots .entry)) whole room n w (now (out .entry)) r (now (out .exit)) ⌝ }
 {
     match w {
         LineWalk::New => Stood {
@@ -145,24 +300,7 @@ fn faster(area: &[u8], n: usize, room: usize, w: LineWalk, out: &mut [u64]) -> S
             n,
             walk: LineWalk::Between(t),
         },
-        LineWalk::Inside(p, t) => {
-            let held = t.held;
-            let x = body_lines(area, p, held, n, room, out);
-            let place = x.place;
-            let kept = x.held;
-            Stood {
-                n: x.n,
-                walk: LineWalk::Inside(
-                    place,
-                    Rest {
-                        slot: t.slot,
-                        left: t.left,
-                        scan: t.scan,
-                        held: kept,
-                    },
-                ),
-            }
-        }
+        LineWalk::Inside(p, t) => bodies(area, slots, whole, n, room, p, t, out),
     }
 }
 
@@ -207,7 +345,7 @@ fn fill(area: &[u8], slots: &[u32], walk: LineWalk, out: &mut [u64]) -> LinesSte
                 exact = true;
             }
             Turn::Pass(t) => {
-                let x = faster(area, n, room, t, out);
+                let x = faster(area, slots, whole, n, room, t, out);
                 n = x.n;
                 w = x.walk;
                 exact = false;

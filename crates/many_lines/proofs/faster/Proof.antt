@@ -1,6 +1,9 @@
--- `many_lines::faster` meets its contract: inside a body what `body_lines` does, else nothing.
+-- `many_lines::faster` meets its contract: inside a body what `bodies` does, else nothing.
 -- Assumes nothing.
-use Rattle.many_lines.specs.WentLaws.{went-same, went-inside}
+use mathlib.Core.Path.{subst}
+use Rattle.area.specs.Kind.{ruled}
+use Rattle.many_lines.specs.LedLaws.{Led}
+use Rattle.many_lines.specs.WentLaws.{went-same, went-as}
 use borrow.Author.Needs.{needs}
 use Rattle.many_lines.proofs.faster.Statement.{statement}
 use Rattle.many_lines.proofs.faster.Tie as tie
@@ -14,20 +17,22 @@ enum-known-w c = search needs
 enum-known-w-2 : tie.Need-enum-known-w-2
 enum-known-w-2 c = search needs
 
-body-lines-requires : tie.Need-body-lines-requires
-body-lines-requires c κs = search needs
+bodies-requires : tie.Need-bodies-requires
+bodies-requires c κs =
+    subst (Led ruled _ _ _) (c .before .before .w2 .given .1) (c .before .before .before .before .before .before .before .pre)
 
 returns : tie.Need-returns
-returns c = went-same _ _ _ _ _ _ (c .enum-told .given .1)
+returns c = went-same _ _ _ _ _ _ _ (c .before .before .before .before .before .pre) _ (c .enum-told .given .1)
 
 returns-2 : tie.Need-returns-2
-returns-2 c = went-same _ _ _ _ _ _ (c .before .w .given .1)
+returns-2 c = went-same _ _ _ _ _ _ _ (c .before .before .before .before .before .before .pre) _ (c .before .w .given .1)
 
 same-length : tie.Need-same-length
 same-length c = search needs
 
 returns-3 : tie.Need-returns-3
-returns-3 c = went-inside _ _ _ _ _ _ _ _ _ (c .before .before .before .before .before .before .w2 .given .1) (c .before .before .before .body-lines .ensures)
+returns-3 c =
+    went-as _ _ _ _ _ _ _ _ (c .before .before .before .before .before .w2 .given .1) _ _ (c .before .before .bodies .ensures)
 
 pub faster-spec : {M : Type 1} → statement M
 faster-spec =
@@ -36,7 +41,7 @@ faster-spec =
     enum-told
     enum-known-w
     enum-known-w-2
-    body-lines-requires
+    bodies-requires
     returns
     returns-2
     same-length

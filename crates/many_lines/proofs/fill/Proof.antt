@@ -12,7 +12,7 @@ use Rattle.turns.specs.Told.{toldTurn}
 use Rattle.records.specs.Next.{todo}
 use Rattle.stretch.specs.FillLaws.{record-falls}
 use Rattle.many_lines.specs.LedLaws.{Led, led-start, led-kept}
-use Rattle.many_lines.specs.WentLaws.{Standing, stand-start, stand-record, stand-pass, stand-full, stand-none, stand-stop, led-went, went-less}
+use Rattle.many_lines.specs.WentLaws.{Standing, stand-start, stand-record, stand-pass, stand-full, stand-none, stand-stop, went-less}
 use Rattle.many_lines.proofs.fill.Statement.{statement}
 use Rattle.many_lines.proofs.fill.Tie as tie
 
@@ -66,17 +66,19 @@ enum-known-t : tie.Need-enum-known-t Inv-loop μ-loop
 enum-known-t c = search needs
 
 faster-requires : tie.Need-faster-requires Inv-loop μ-loop
-faster-requires c κs = search needs
+faster-requires c κs =
+    let e = ap toldTurn (sym (c .before .before .t .given .1)) ∙ c .before .before .before .before .led-turn .ensures in
+    led-kept ruled _ _ _ _ (c .before .before .before .before .before .before .loop .inv .2) (pass _) e
 
 loop-less-2 : tie.Need-loop-less-2 Inv-loop μ-loop
-loop-less-2 c = went-less _ _ _ _ _ _ _ _ _ (ap toldTurn (sym (c .before .before .before .before .before .t .given .1)) ∙ c .before .before .before .before .before .before .before .led-turn .ensures) (c .before .before .faster .ensures)
+loop-less-2 c = went-less _ _ _ _ _ _ _ _ _ _ (ap toldTurn (sym (c .before .before .before .before .before .t .given .1)) ∙ c .before .before .before .before .before .before .before .led-turn .ensures) (c .before .before .faster .ensures)
 
 loop-again-2 : tie.Need-loop-again-2 Inv-loop μ-loop
 loop-again-2 c =
     let l = c .before .before .before .before .before .before .before .before .before .loop in
     let e = ap toldTurn (sym (c .before .before .before .before .before .t .given .1)) ∙ c .before .before .before .before .before .before .before .led-turn .ensures in
     let k = c .before .before .faster .ensures in
-    (stand-pass _ _ _ _ (l .n) (l .w) (l .exact) (l .out) (l .inv .0) _ _ _ _ e (omega arith) (sym (l .inv .1)) k, l .inv .1, led-went _ _ _ _ _ _ _ _ _ _ (l .inv .2) e k, l .inv .3)
+    (stand-pass _ _ _ _ (l .n) (l .w) (l .exact) (l .out) (l .inv .0) _ _ _ _ _ e (omega arith) (sym (l .inv .1)) k, l .inv .1, k .led, l .inv .3)
 
 enum-told : tie.Need-enum-told Inv-loop μ-loop
 enum-told c = search needs
