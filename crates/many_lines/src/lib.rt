@@ -2,6 +2,8 @@
 // room for, and the walk behind the last.
 //
 // The records before an end or a refusal are given first, and the next call, from the walk answered, tells it.
+//
+// A turn tells every answer. Between two turns the walk goes on body after body, as far as nothing is to be told (`faster`).
 ghost use mathlib.Core.Path.{_≡_};
 ghost use Prim.Native.Nat.{_+_, _<_, _≤_, _^_};
 ghost use mathlib.Core.Bool.{cond};
