@@ -1,5 +1,6 @@
 -- Names for the proofs: the end of a body, the next body, and where a call stands behind many turns made at once.
 -- Definitions only; no public contract cites them.
+use mathlib.Core.Bool.{false}
 use Prim.Native.Nat.{ℕ, _<_}
 use mathlib.Core.Path.{_≡_}
 use mathlib.Core.List.{List}
@@ -7,11 +8,12 @@ use lib.ListN.{length}
 use Rattle.walk.specs.Listing.{pass}
 use Rattle.area.specs.Kind.{ruled}
 use Rattle.lines.specs.declared.LineHeader.{LineHeader}
-use Rattle.turns.specs.Turn.{LineMove, endOf}
+use Rattle.turns.specs.Turn.{LineMove, withHeld, endOf}
 use Rattle.turns.specs.declared.Rest.{Rest}
 use Rattle.turns.specs.declared.Place.{Place}
 use Rattle.turns.specs.declared.LineWalk.{LineWalk}
 use Rattle.turns.specs.declared.LineWalk.the-variants.{Between, Inside}
+use Rattle.stretch.specs.declared.Lined.{Lined}
 use Rattle.stretch.specs.GoesLaws.{Goes}
 use Rattle.many_lines.specs.LedLaws.{Led}
 use Rattle.many_lines.specs.declared.Stood.{Stood}
@@ -24,9 +26,14 @@ pub record EndsTo (h : LineHeader) (t u : Rest) : Type 0 where
   pub turn : pass (Between u) ≡ endOf h t
   pub left : u .left ≡ t .left
 
-abbrev pub EndedIs : LineHeader → Rest → Ended → Type 0
-EndedIs h t (ended.At u) = EndsTo h t u
-EndedIs h t ended.Stuck = Unit {0}
+-- the body is left that x is behind the lines of, t being the rest before them
+pub record Leaves (x : Lined) (t u : Rest) : Type 0 where
+  pub free : x .stuck ≡ false
+  pub ends : EndsTo (x .place .head) (withHeld t (x .held)) u
+
+abbrev pub EndedIs : Lined → Rest → Ended → Type 0
+EndedIs x t (ended.At u) = Leaves x t u
+EndedIs x t (ended.Stuck u) = u ≡ withHeld t (x .held)
 
 -- m being the turn
 pub record EntersTo (m : LineMove) (t : Rest) (q : Place) (u : Rest) : Type 0 where

@@ -37,7 +37,7 @@ use Rattle.stretch.specs.Stretch.{Used, Rode}
 use Rattle.stretch.specs.GoesLaws.{Going, Goes, goes-same, goes-pass, goes-on}
 use Rattle.stretch.specs.FillLaws.{Filled, Fills, turns-start, turns-pass, turns-record, turns-full, turns-stop, turns-none, turns-behind, record-falls}
 use Rattle.many_lines.specs.LedLaws.{Led, begin-same, led-kept}
-use Rattle.many_lines.specs.Went.{EndsTo, EntersTo, EnteredIs, Went}
+use Rattle.many_lines.specs.Went.{EndsTo, Leaves, EntersTo, EnteredIs, Went}
 use Rattle.many_lines.specs.declared.Entered.{Entered}
 use Rattle.many_lines.specs.declared.Stood.{Stood}
 
@@ -75,7 +75,7 @@ module _ (s v : List ℕ) (whole room n : ℕ) (w : LineWalk) (o : List ℕ) whe
   went-as x e r o′ h = subst (λ y. Went s v whole room n y o r o′) (sym e) h
 
   module _ (m : ℕ) (o′ : List ℕ) where
-    pub went-lines : (p : Place) (t : Rest) (r : Lined) (o″ : List ℕ) → Went s v whole room n w o (record { n = m; walk = Inside p t }) o′ → Rode s room p (t .held) m o′ r o″
+    went-lines : (p : Place) (t : Rest) (r : Lined) (o″ : List ℕ) → Went s v whole room n w o (record { n = m; walk = Inside p t }) o′ → Rode s room p (t .held) m o′ r o″
         → Went s v whole room n w o (record { n = r .n; walk = Inside (r .place) (withHeld t (r .held)) }) o″
     went-lines p t r o″ h k = record {
       size = k .size ∙ h .size;
@@ -83,8 +83,12 @@ module _ (s v : List ℕ) (whole room n : ℕ) (w : LineWalk) (o : List ℕ) whe
       goes = goes-on s v room (h .goes) (k .goes v t);
     }
 
+    pub went-stuck : (p : Place) (t : Rest) (r : Lined) (o″ : List ℕ) (u : Rest) → Went s v whole room n w o (record { n = m; walk = Inside p t }) o′
+        → Rode s room p (t .held) m o′ r o″ → u ≡ withHeld t (r .held) → Went s v whole room n w o (record { n = r .n; walk = Inside (r .place) u }) o″
+    went-stuck p t r o″ u h k e = subst (λ x. Went s v whole room n w o (record { n = r .n; walk = Inside (r .place) x }) o″) (sym e) (went-lines p t r o″ h k)
+
     -- a body that is used up
-    pub went-end : (r : Lined) (u x : Rest) → r .n ≡ m → Used s room r → Went s v whole room n w o (record { n = m; walk = Inside (r .place) u }) o′ → EndsTo (r .place .head) u x
+    went-end : (r : Lined) (u x : Rest) → r .n ≡ m → Used s room r → Went s v whole room n w o (record { n = m; walk = Inside (r .place) u }) o′ → EndsTo (r .place .head) u x
         → Went s v whole room n w o (record { n = m; walk = Between x }) o′
     went-end r u x en k h z =
         let e = z .turn ∙ block-is (take (r .place .end) s) (r .place) u (columned (r .place .head .flags)) refl none (k .over)
@@ -107,9 +111,9 @@ module _ (s v : List ℕ) (whole room n : ℕ) (w : LineWalk) (o : List ℕ) whe
 
   -- the lines of a body that is used up then, and its end
   pub went-used : (m : ℕ) (o′ : List ℕ) (p : Place) (t : Rest) (r : Lined) (o″ : List ℕ) (x : Rest) → Went s v whole room n w o (record { n = m; walk = Inside p t }) o′
-      → Rode s room p (t .held) m o′ r o″ → r .stuck ≡ false → EndsTo (r .place .head) (withHeld t (r .held)) x
+      → Rode s room p (t .held) m o′ r o″ → Leaves r t x
       → Went s v whole room n w o (record { n = r .n; walk = Between x }) o″
-  went-used m o′ p t r o″ x h k e z = went-end (r .n) o″ r (withHeld t (r .held)) x refl (k .used e) (went-lines m o′ p t r o″ h k) z
+  went-used m o′ p t r o″ x h k z = went-end (r .n) o″ r (withHeld t (r .held)) x refl (k .used (z .free)) (went-lines m o′ p t r o″ h k) (z .ends)
 
 -- ---- the walk behind so many records
 

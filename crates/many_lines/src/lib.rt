@@ -25,13 +25,13 @@ ghost use Rattle.many_lines.specs.Went.{EndedIs, EnteredIs, Went};
 use line_record::LineRecord;
 use line_record::closed;
 use line_words::put_record;
-use lines::LineHeader;
 use lines::Named;
 use lines::header_of;
 use lines::slot_body;
 use records::LineStep;
 use records::next_line;
 use refusal::Refusal;
+use stretch::Lined;
 use stretch::body_lines;
 use turns::Held;
 use turns::LineWalk;
@@ -143,22 +143,33 @@ struct Stood {
     walk: LineWalk,
 }
 
-// Between two bodies, or that the walk stays where it is.
+// Between two bodies, or still inside one, where the end is left to a turn.
 enum Ended {
     At(Rest),
-    Stuck,
+    Stuck(Rest),
 }
 
-// Out of a body that is used up: its end closes the record that is held.
-fn end_body(h: LineHeader, t: Rest) -> Ended
-    ensures { λ r. ⌜ EndedIs h t r ⌝ }
+// Behind the lines of a body. If it is used up its end closes the record that is held.
+fn end_body(x: Lined, t: Rest) -> Ended
+    ensures { λ r. ⌜ EndedIs x t r ⌝ }
 {
-    let held = t.held;
+    let held = x.held;
+    let u = Rest {
+        slot: t.slot,
+        left: t.left,
+        scan: t.scan,
+        held,
+    };
+    if x.stuck {
+        return Ended::Stuck(u);
+    }
     match held {
-        Held::Nothing => Ended::At(t),
+        Held::Nothing => Ended::At(u),
         Held::One(r) => {
+            let p = x.place;
+            let h = p.head;
             if LineRecord::MAX_OFFSET - h.offset < h.code {
-                return Ended::Stuck;
+                return Ended::Stuck(u);
             }
             let c = closed(r, h.section, h.offset + h.code);
             Ended::At(Rest {
@@ -242,39 +253,21 @@ fn bodies(
         let held = t.held;
         let x = body_lines(area, p, held, n, room, out);
         n = x.n;
-        let q = x.place;
-        let kept = x.held;
-        let u = Rest {
-            slot: t.slot,
-            left: t.left,
-            scan: t.scan,
-            held: kept,
-        };
-        if x.stuck {
-            return Stood {
-                n,
-                walk: LineWalk::Inside(q, u),
-            };
-        }
-        let h = q.head;
-        match end_body(h, u) {
+        match end_body(x, t) {
             Ended::At(v) => match next_body(area, slots, whole, v) {
                 Entered::At(a, b) => {
                     p = a;
                     t = b;
                 }
                 Entered::Stuck => {
-                    return Stood {
-                        n,
-                        walk: LineWalk::Between(v),
-                    };
+                    let walk = LineWalk::Between(v);
+                    return Stood { n, walk };
                 }
             },
-            Ended::Stuck => {
-                return Stood {
-                    n,
-                    walk: LineWalk::Inside(q, u),
-                };
+            Ended::Stuck(u) => {
+                let q = x.place;
+                let walk = LineWalk::Inside(q, u);
+                return Stood { n, walk };
             }
         }
     }
