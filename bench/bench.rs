@@ -245,6 +245,11 @@ impl Input {
 const ROOM: usize = 1 << 18;
 const FILES: usize = 16;
 
+thread_local! {
+    /// The records' room: a caller lends the same again and again.
+    static RECORDS: RefCell<Vec<u64>> = RefCell::new(vec![0; ROOM * RECORD]);
+}
+
 /// The cases through the library.
 mod rattle {
     use super::*;
@@ -269,12 +274,13 @@ mod rattle {
     }
     pub fn walk(i: &Input, slots: &[u32], t: &mut impl Taker) {
         let area = black_box(i.bytes.as_slice());
-        let (mut out, records) = ([0; LINE_STATE + 2], RefCell::new(vec![0; ROOM * RECORD]));
-        steps(
-            &mut out,
-            |out| calls::c13_lines(area, slots, &mut records.borrow_mut(), out),
-            |out| records.borrow().chunks_exact(RECORD).take(out[LINE_STATE] as usize).for_each(|r| t.take(r)),
-        );
+        RECORDS.with(|records| {
+            steps(
+                &mut [0; LINE_STATE + 2],
+                |out| calls::c13_lines(area, slots, &mut records.borrow_mut(), out),
+                |out| records.borrow().chunks_exact(RECORD).take(out[LINE_STATE] as usize).for_each(|r| t.take(r)),
+            )
+        });
     }
     /// The same, one record a call.
     pub fn steps_walk(i: &Input, slots: &[u32], t: &mut impl Taker) {
