@@ -170,13 +170,13 @@ impl<'a> LineProgram<'a> {
 
     /// All line records, by ascending section and offset of their subsections.
     pub fn lines(&self) -> LineIterator<'_> {
-        LineIterator { area: self.area, slots: &self.slots, walk: Ok(Walk::new()) }
+        LineIterator::new(self.area, &self.slots, Ok(Walk::new()))
     }
 
     /// The line records of the symbol at a place: those of the subsection that starts there, or else of the last one of the section before it.
     pub fn lines_for_symbol(&self, place: PdbInternalSectionOffset) -> LineIterator<'_> {
         let walk = one(|out| calls::c13_lines_for_symbol(self.area, &self.slots, place.section, place.offset, out)).map(Walk::from);
-        LineIterator { area: self.area, slots: &self.slots, walk }
+        LineIterator::new(self.area, &self.slots, walk)
     }
 
     /// The line record whose code covers a place, of the subsection that `lines_for_symbol` takes.
@@ -202,30 +202,58 @@ impl<'a> LineProgram<'a> {
     }
 }
 
-/// Line records.
+/// How many line records the first call is asked for, and how many at most.
+const LINES_AT_ONCE: usize = 16;
+const LINES_AT_MOST: usize = 1 << 16;
+
+/// Line records. Each call is asked for twice as many as the last one, so that a list that goes back in the area often is tested seldom.
 #[derive(Clone, Debug)]
 pub struct LineIterator<'a> {
     area: &'a [u8],
     slots: &'a [u32],
     /// The walk, or why there is none.
-    walk: Result<Walk<{ LINE_STATE + RECORD }>, Refusal>,
+    walk: Result<Walk<{ LINE_STATE + 2 }>, Refusal>,
+    /// The records that the last call gave, in words; how many, and how many of them were taken.
+    records: Vec<u64>,
+    given: usize,
+    taken: usize,
+}
+
+impl<'a> LineIterator<'a> {
+    fn new(area: &'a [u8], slots: &'a [u32], walk: Result<Walk<{ LINE_STATE + 2 }>, Refusal>) -> Self {
+        LineIterator { area, slots, walk, records: vec![], given: 0, taken: 0 }
+    }
+
+    /// Asks for more records.
+    fn ask(&mut self) -> Option<Result<(), Refusal>> {
+        if let Err(why) = self.walk {
+            self.walk = Ok(Walk::over());
+            return Some(Err(why));
+        }
+        let walk = self.walk.as_mut().ok()?;
+        let (area, slots, records) = (self.area, self.slots, &mut self.records);
+        records.resize((2 * records.len()).clamp(LINES_AT_ONCE * RECORD, LINES_AT_MOST * RECORD), 0);
+        let count = match walk.next(LINE_STATE, |out| calls::c13_lines(area, slots, records, out))? {
+            Ok(count) => size(count, 0),
+            Err(why) => return Some(Err(why)),
+        };
+        (self.given, self.taken) = (count, 0);
+        Some(Ok(()))
+    }
 }
 
 impl Iterator for LineIterator<'_> {
     type Item = Result<LineInfo, Refusal>;
 
     fn next(&mut self) -> Option<Self::Item> {
-        match &mut self.walk {
-            Ok(walk) => {
-                let step = walk.next(LINE_STATE, |out| calls::c13_next_line(self.area, self.slots, out))?;
-                Some(step.map(LineInfo::of))
-            }
-            Err(why) => {
-                let why = *why;
-                self.walk = Ok(Walk::over());
-                Some(Err(why))
+        if self.taken >= self.given {
+            if let Err(why) = self.ask()? {
+                return Some(Err(why));
             }
         }
+        let words = self.records.chunks_exact(RECORD).nth(self.taken).unwrap_or(&[]);
+        self.taken += 1;
+        Some(Ok(LineInfo::of(words)))
     }
 }
 
