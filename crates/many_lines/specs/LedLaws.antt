@@ -1,6 +1,6 @@
 -- A walk that is led by a tested list turns as any other, and its turns keep the place at which a search may begin.
 use Prim.Native.Nat.{ℕ, _+_, _<_, _≤_}
-use mathlib.Core.Path.{_≡_, refl, sym, ap, _∙_, subst, subst⁻¹}
+use mathlib.Core.Path.{_≡_, refl, sym, ap, _∙_, subst⁻¹}
 use mathlib.Core.List.{List}
 use mathlib.Core.Bool.{Bool, true, false, cond}
 use mathlib.Core.Logic.{⊎-elim}
@@ -32,12 +32,12 @@ use Rattle.turns.specs.declared.LineWalk.the-variants.{New, Between, Inside}
 use Rattle.turns.specs.Turn.{LineMove, entryAt, withHeld, pastLine, holdIn, lineOf, endIn, blockOf, insideTurn, enterAt, namedOf, finishIn, betweenTurn, openOf, turnIn, turnOf}
 use Rattle.whole_list.specs.Begin.{tested, beginAt}
 use Rattle.whole_list.specs.BeginLaws.{begin-past, begin-scans, tested-right}
-use Rattle.many_lines.specs.Led.{scanOf, withScan, ledRest, ledWalk}
+use Rattle.many_lines.specs.Led.{scanOf, fewLeft, testedFor, withScan, ledRest, ledWalk}
 
--- n is what a test of the list answered, at some place; and if it is not 0 the walk's place is one at which a search may begin
+-- if n is not 0 it is what a test of the list answered, at some place, and the walk's place is one at which a search may begin
 pub record Led (rule : ℕ → Sort) (s v : List ℕ) (n : ℕ) (w : LineWalk) : Type 0 where
   pub place : ℕ
-  pub whole : n ≡ tested rule s v place
+  pub whole : 0 < n → n ≡ tested rule s v place
   pub right : 0 < n → Scans rule s (scanOf w)
 
 module _ (rule : ℕ → Sort) (s v : List ℕ) (n : ℕ) where
@@ -53,7 +53,7 @@ module _ (rule : ℕ → Sort) (s v : List ℕ) (n : ℕ) where
   begin-same t h = ⊎-elim
       (λ (z : n ≤ 0). ap (slotAt rule s v (t .slot)) (sym (begin-past v n (t .slot) (t .scan) (omega arith))))
       (λ (z : 0 < n).
-      slot-same rule s v (t .slot) (beginAt v n (t .slot) (t .scan)) (t .scan) (begin-scans rule s v (h .place) n (t .slot) (t .scan) (beginAt v n (t .slot) (t .scan)) (h .whole) (h .right z) refl) (h .right z))
+      slot-same rule s v (t .slot) (beginAt v n (t .slot) (t .scan)) (t .scan) (begin-scans rule s v (h .place) n (t .slot) (t .scan) (beginAt v n (t .slot) (t .scan)) (h .whole z) (h .right z) refl) (h .right z))
       (le-or-gt n 0)
 
   between-same : (t : Rest) → Led rule s v n (Between t) → betweenTurn rule s v (ledRest v n t) ≡ betweenTurn rule s v t
@@ -179,6 +179,24 @@ module _ (rule : ℕ → Sort) (s v : List ℕ) where
     pub led-kept : (u : LineMove) → u ≡ turnOf rule s v w → To u (Led rule s v n)
     led-kept u e = led-to u (λ z. subst⁻¹ Kept e (keeps w (h .right z)))
 
-  -- what was tested at the walk's own place leads it
-  pub led-start : (w : LineWalk) (n p : ℕ) → n ≡ tested rule s v p → p ≡ scanOf w → Led rule s v n w
-  led-start w n p e q = record { place = p; whole = e; right = λ z. subst (Scans rule s) q (tested-right rule s v p (omega (arith, e))) }
+  -- what is tested for a walk leads it
+  pub led-start : (w : LineWalk) (n : ℕ) → n ≡ testedFor rule s v w → Led rule s v n w
+  unfolding testedFor
+  led-start w n e = by (fewLeft w) refl
+    where
+      by : (t : Bool) → fewLeft w ≡ t → Led rule s v n w
+      by true q =
+          let z : n ≡ 0 = e ∙ ap (λ (t : Bool). cond t 0 (tested rule s v (scanOf w))) q in
+          record { place = 0; whole = λ h. absurd (omega arith); right = λ h. absurd (omega arith) }
+      by false q =
+          let z : n ≡ tested rule s v (scanOf w) = e ∙ ap (λ (t : Bool). cond t 0 (tested rule s v (scanOf w))) q in
+          record { place = scanOf w; whole = λ h. z; right = λ h. tested-right rule s v (scanOf w) (omega arith) }
+
+  module _ (w : LineWalk) where
+    pub for-few : fewLeft w ≡ true → 0 ≡ testedFor rule s v w
+    unfolding testedFor
+    for-few h = sym (simp h)
+
+    pub for-many : fewLeft w ≡ false → (n p : ℕ) → p ≡ scanOf w → n ≡ tested rule s v p → n ≡ testedFor rule s v w
+    unfolding testedFor
+    for-many h n p q e = e ∙ ap (tested rule s v) q ∙ sym (simp h)

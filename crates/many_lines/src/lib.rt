@@ -16,7 +16,7 @@ ghost use Rattle.records.specs.Told.{toldLine};
 ghost use Rattle.turns.specs.Turn.{enterAt, betweenTurn, turnOf};
 ghost use Rattle.turns.specs.declared.LineWalk.the-variants.{Between, Inside};
 ghost use Rattle.turns.specs.Told.{toldTurn};
-ghost use Rattle.many_lines.specs.Led.{scanOf, ledRest, ledWalk};
+ghost use Rattle.many_lines.specs.Led.{scanOf, fewLeft, testedFor, ledRest, ledWalk};
 ghost use Rattle.many_lines.specs.LedLaws.{Led};
 ghost use Rattle.given.specs.Fill.{noRoom};
 ghost use Rattle.many_lines.specs.Lines.{linesOf, counted, filled};
@@ -71,6 +71,30 @@ fn scan_of(walk: LineWalk) -> usize
         LineWalk::Between(t) => t.scan,
         LineWalk::Inside(_, t) => t.scan,
     }
+}
+
+// So few slots cost less to find, each in a pass over the area, than the test of a list.
+const FEW: usize = 16;
+
+// Are only few slots left to the walk? A new one has not counted them.
+fn few_left(walk: LineWalk) -> bool
+    ensures { λ r. ⌜ r ≡ fewLeft walk ⌝ }
+{
+    match walk {
+        LineWalk::New => false,
+        LineWalk::Between(t) => t.left < FEW,
+        LineWalk::Inside(_, t) => t.left < FEW,
+    }
+}
+
+// How many slots are tested for a walk.
+fn tested_for(area: &[u8], slots: &[u32], walk: LineWalk) -> usize
+    ensures { λ r. ⌜ r ≡ testedFor ruled (now (area .entry)) (now (slots .entry)) walk ⌝ }
+{
+    if few_left(walk) {
+        return 0;
+    }
+    tested_list(area, slots, scan_of(walk))
 }
 
 // Before another subsection the search for its body begins where a list says that was tested as a whole.
@@ -325,7 +349,7 @@ fn fill(area: &[u8], slots: &[u32], walk: LineWalk, out: &mut [u64]) -> LinesSte
     ensures { λ r. ⌜ toldLines r ≡ counted (linesOf ruled (now (area .entry)) (now (slots .entry)) (length (now (out .entry))) walk) ⌝ }
     ensures { λ _. ⌜ now (out .exit) ≡ filled (now (out .entry)) (linesOf ruled (now (area .entry)) (now (slots .entry)) (length (now (out .entry))) walk) ⌝ }
 {
-    let whole = tested_list(area, slots, scan_of(walk));
+    let whole = tested_for(area, slots, walk);
     let room = out.len() / RECORD;
     let mut n: usize = 0;
     let mut w = walk;

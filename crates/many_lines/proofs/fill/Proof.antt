@@ -23,15 +23,12 @@ Inv-loop area slots walk out₀ whole room n₀ w₀ exact₀ out n w exact =
 abbrev μ-loop : tie.MeasureT-loop
 μ-loop area slots walk out₀ whole room n₀ w₀ exact₀ out n w exact = todo ruled area w
 
-scan-of-requires : tie.Need-scan-of-requires Inv-loop μ-loop
-scan-of-requires c κs = search needs
-
-tested-list-requires : tie.Need-tested-list-requires Inv-loop μ-loop
-tested-list-requires c κs = search needs
+tested-for-requires : tie.Need-tested-for-requires Inv-loop μ-loop
+tested-for-requires c κs = search needs
 
 loop-holds : tie.Need-loop-holds Inv-loop μ-loop
 loop-holds c =
-    let h = led-start ruled _ _ _ _ _ (c .tested-list .ensures) (c .before .scan-of .ensures) in
+    let h = led-start ruled _ _ _ _ (c .tested-for .ensures) in
     (stand-start _ _ _ _, refl, h, h)
 
 led-turn-requires : tie.Need-led-turn-requires Inv-loop μ-loop
@@ -87,7 +84,7 @@ same-length : tie.Need-same-length Inv-loop μ-loop
 same-length c = omega (arith, c .before .before .before .before .before .loop .inv .0 .going .fills .size)
 
 returns : tie.Need-returns Inv-loop μ-loop
-returns c = stand-none _ _ _ _ _ _ _ _ (c .before .before .before .before .before .loop .inv .0) (c .before .before .before .before .before .before .before .before .before .before .before .pre) over (ap toldTurn (sym (c .before .enum-told .given .1)) ∙ c .before .before .before .led-turn .ensures) tt (c .if1 .taken)
+returns c = stand-none _ _ _ _ _ _ _ _ (c .before .before .before .before .before .loop .inv .0) (c .before .before .before .before .before .before .before .before .before .before .pre) over (ap toldTurn (sym (c .before .enum-told .given .1)) ∙ c .before .before .before .led-turn .ensures) tt (c .if1 .taken)
 
 stopped-requires : tie.Need-stopped-requires Inv-loop μ-loop
 stopped-requires c κs = c .before .before .before .before .before .loop .inv .3
@@ -96,7 +93,7 @@ same-length-2 : tie.Need-same-length-2 Inv-loop μ-loop
 same-length-2 c = omega (arith, c .before .before .before .before .before .before .loop .inv .0 .going .fills .size)
 
 returns-2 : tie.Need-returns-2 Inv-loop μ-loop
-returns-2 c = stand-stop _ _ _ _ _ _ _ _ (c .before .before .before .before .before .before .loop .inv .0) (c .before .before .before .before .before .before .before .before .before .before .before .before .pre) over (ap toldTurn (sym (c .before .before .enum-told .given .1)) ∙ c .before .before .before .before .led-turn .ensures) tt (c .before .if1 .left) _ (c .stopped .ensures)
+returns-2 c = stand-stop _ _ _ _ _ _ _ _ (c .before .before .before .before .before .before .loop .inv .0) (c .before .before .before .before .before .before .before .before .before .before .before .pre) over (ap toldTurn (sym (c .before .before .enum-told .given .1)) ∙ c .before .before .before .before .led-turn .ensures) tt (c .before .if1 .left) _ (c .stopped .ensures)
 
 enum-known-why : tie.Need-enum-known-why Inv-loop μ-loop
 enum-known-why c = search needs
@@ -105,7 +102,7 @@ same-length-3 : tie.Need-same-length-3 Inv-loop μ-loop
 same-length-3 c = omega (arith, c .before .before .before .before .before .before .loop .inv .0 .going .fills .size)
 
 returns-3 : tie.Need-returns-3 Inv-loop μ-loop
-returns-3 c = stand-none _ _ _ _ _ _ _ _ (c .before .before .before .before .before .before .loop .inv .0) (c .before .before .before .before .before .before .before .before .before .before .before .before .pre) (fail _) (ap toldTurn (sym (c .before .before .why .given .1)) ∙ c .before .before .before .before .led-turn .ensures) tt (c .if2 .taken)
+returns-3 c = stand-none _ _ _ _ _ _ _ _ (c .before .before .before .before .before .before .loop .inv .0) (c .before .before .before .before .before .before .before .before .before .before .before .pre) (fail _) (ap toldTurn (sym (c .before .before .why .given .1)) ∙ c .before .before .before .before .led-turn .ensures) tt (c .if2 .taken)
 
 stopped-requires-2 : tie.Need-stopped-requires-2 Inv-loop μ-loop
 stopped-requires-2 c κs = c .before .before .before .before .before .before .loop .inv .3
@@ -114,13 +111,13 @@ same-length-4 : tie.Need-same-length-4 Inv-loop μ-loop
 same-length-4 c = omega (arith, c .before .before .before .before .before .before .before .loop .inv .0 .going .fills .size)
 
 returns-4 : tie.Need-returns-4 Inv-loop μ-loop
-returns-4 c = stand-stop _ _ _ _ _ _ _ _ (c .before .before .before .before .before .before .before .loop .inv .0) (c .before .before .before .before .before .before .before .before .before .before .before .before .before .pre) (fail _) (ap toldTurn (sym (c .before .before .before .why .given .1)) ∙ c .before .before .before .before .before .led-turn .ensures) tt (c .before .if2 .left) _ (c .stopped2 .ensures)
+returns-4 c = stand-stop _ _ _ _ _ _ _ _ (c .before .before .before .before .before .before .before .loop .inv .0) (c .before .before .before .before .before .before .before .before .before .before .before .before .pre) (fail _) (ap toldTurn (sym (c .before .before .before .why .given .1)) ∙ c .before .before .before .before .before .led-turn .ensures) tt (c .before .if2 .left) _ (c .stopped2 .ensures)
 
 same-length-5 : tie.Need-same-length-5 Inv-loop μ-loop
 same-length-5 c = omega (arith, c .before .loop .inv .0 .going .fills .size)
 
 returns-5 : tie.Need-returns-5 Inv-loop μ-loop
-returns-5 c = stand-full _ _ _ _ _ _ _ _ (c .before .loop .inv .0) (c .before .before .before .before .before .before .before .pre) (omega (arith, c .before .loop .inv .1))
+returns-5 c = stand-full _ _ _ _ _ _ _ _ (c .before .loop .inv .0) (c .before .before .before .before .before .before .pre) (omega (arith, c .before .loop .inv .1))
 
 pub fill-spec : {M : Type 1} → statement M
 fill-spec =
@@ -128,8 +125,7 @@ fill-spec =
     (tie.spec
     Inv-loop
     μ-loop
-    scan-of-requires
-    tested-list-requires
+    tested-for-requires
     loop-holds
     led-turn-requires
     enum-known-r
