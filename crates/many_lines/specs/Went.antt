@@ -1,11 +1,13 @@
--- Names for the proofs: the end of a body, the next body, and where a call stands behind many turns made at once.
+-- Names for the proofs: the first look of a search, the end of a body, the next body, and where a call stands behind many turns made at once.
 -- Definitions only; no public contract cites them.
 use mathlib.Core.Bool.{false}
-use Prim.Native.Nat.{ℕ, _<_}
+use Prim.Native.Nat.{ℕ, _+_, _<_, _≤_}
 use mathlib.Core.Path.{_≡_}
 use mathlib.Core.List.{List}
 use lib.ListN.{length}
+use Rattle.word.specs.Word.{u32At}
 use Rattle.walk.specs.Listing.{pass}
+use Rattle.refusal.specs.Told.{longest}
 use Rattle.area.specs.Kind.{ruled}
 use Rattle.lines.specs.declared.LineHeader.{LineHeader}
 use Rattle.turns.specs.Turn.{LineMove, withHeld, endOf}
@@ -17,10 +19,24 @@ use Rattle.stretch.specs.declared.Lined.{Lined}
 use Rattle.stretch.specs.GoesLaws.{Goes}
 use Rattle.many_lines.specs.LedLaws.{Led}
 use Rattle.many_lines.specs.declared.Stood.{Stood}
+use Rattle.many_lines.specs.declared.Looked.{Looked}
+use Rattle.many_lines.specs.declared.Looked.the-variants as looked
 use Rattle.many_lines.specs.declared.Ended.{Ended}
 use Rattle.many_lines.specs.declared.Ended.the-variants as ended
 use Rattle.many_lines.specs.declared.Entered.{Entered}
 use Rattle.many_lines.specs.declared.Entered.the-variants as entered
+
+-- a line body of n bytes at v, whose header stands at p of the area s
+pub record Look (s : List ℕ) (p v n : ℕ) : Type 0 where
+  pub short : length s ≤ longest
+  pub place : p + 8 ≡ v
+  pub kind : u32At s p ≡ 0xf2
+  pub len : u32At s (p + 4) ≡ n
+  pub inside : v + n ≤ length s
+
+abbrev pub LookedIs : List ℕ → ℕ → ℕ → Looked → Type 0
+LookedIs s p v (looked.At n) = Look s p v n
+LookedIs s p v looked.No = Unit {0}
 
 pub record EndsTo (h : LineHeader) (t u : Rest) : Type 0 where
   pub turn : pass (Between u) ≡ endOf h t

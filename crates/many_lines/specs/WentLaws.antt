@@ -4,7 +4,7 @@ use mathlib.Core.Path.{_≡_, refl, sym, ap, _∙_, subst}
 use mathlib.Core.List.{List}
 use mathlib.Core.Bool.{Bool, true, false, cond}
 use native.Mathlib.Omega.{arith}
-use lib.ListN.{length, take}
+use lib.ListN.{length, getD, take}
 use Rattle.word.specs.Word.{store}
 use Rattle.walk.specs.Listing.{item, pass, Answer, gives, none, gave}
 use Rattle.walk.specs.First.{onFirst}
@@ -12,12 +12,15 @@ use Rattle.walk.specs.Many.{Many, noMore, thenMany, many}
 use Rattle.walk.specs.ManyLaws.{NoRecord, many-step, many-none, many-zero}
 use Rattle.refusal.specs.Told.{Told, longest}
 use Rattle.area.specs.Kind.{ruled}
+use Rattle.area.specs.Subs.{stepAt}
+use Rattle.area.specs.SubsLaws.{whole-known, head-whole, step-gives}
 use Rattle.line_record.specs.Record.{maxOffset, closedAt}
 use Rattle.line_record.specs.declared.LineRecord.{LineRecord}
 use Rattle.line_words.specs.LineWords.{recordWords}
 use Rattle.body.specs.Lines.{lineHead, columned}
 use Rattle.find.specs.Find.{bytesAt}
 use Rattle.lines.specs.Slots.{slotAt}
+use Rattle.lines.specs.SlotsLaws.{seek-hit, scan-on, slot-is}
 use Rattle.lines.specs.Told.{toldHeader}
 use Rattle.lines.specs.declared.LineHeader.{LineHeader}
 use Rattle.turns.specs.Turn.{LineMove, withHeld, placeAt, restAt, enterAt, betweenTurn, turnOf}
@@ -37,9 +40,24 @@ use Rattle.stretch.specs.Stretch.{Used, Rode}
 use Rattle.stretch.specs.GoesLaws.{Going, Goes, goes-same, goes-pass, goes-on}
 use Rattle.stretch.specs.FillLaws.{Filled, Fills, turns-start, turns-pass, turns-record, turns-full, turns-stop, turns-none, turns-behind, record-falls}
 use Rattle.many_lines.specs.LedLaws.{Led, begin-same, led-kept}
-use Rattle.many_lines.specs.Went.{EndsTo, Leaves, EntersTo, EnteredIs, Went}
+use Rattle.many_lines.specs.Went.{Look, EndsTo, Leaves, EntersTo, EnteredIs, Went}
 use Rattle.many_lines.specs.declared.Entered.{Entered}
 use Rattle.many_lines.specs.declared.Stood.{Stood}
+
+-- ---- a search that ends at its first look
+
+module _ (s : List ℕ) (p u n : ℕ) (h : Look s p u n) where
+  look-step : gives (record { kind = 0xf2; start = p + 8; len = n }) (p + 8 + n) ≡ stepAt ruled s p
+  look-step = step-gives ruled s p (record { kind = 0xf2; start = p + 8; len = n }) (p + 8 + n)
+      (whole-known 0xf2 p n (omega arith) (omega arith)
+      ∙ head-whole ruled s p (h .short) (omega (arith, h .place, h .inside)) (omega (arith, h .place, h .inside)) (omega (arith, h .place, h .inside))
+      (omega (arith, h .place, h .inside, h .len)) 0xf2 n (sym (h .kind)) (sym (h .len)))
+
+  pub look-slot : (v : List ℕ) (i : ℕ) → i < length v → getD v i 0 ≡ u → gave (record { start = u; len = n }) ≡ slotAt ruled s v i p
+  look-slot v i l e =
+      ap (λ (k : ℕ). gave (record { start = k; len = n })) (sym (h .place))
+      ∙ slot-is ruled s v i p l p (gave (record { start = p + 8; len = n })) (scan-on p (getD v i 0) (omega (arith, h .place)))
+      (seek-hit ruled s p (getD v i 0) (record { kind = 0xf2; start = p + 8; len = n }) (p + 8 + n) look-step (h .place ∙ sym e) refl)
 
 -- ---- the end of a body, and the next one
 

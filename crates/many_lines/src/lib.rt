@@ -11,6 +11,8 @@ ghost use lib.ListN.{length};
 ghost use Rattle.walk.specs.Listing.{gives};
 ghost use Rattle.walk.specs.Many.{many};
 ghost use Rattle.area.specs.Kind.{ruled};
+ghost use Rattle.lines.specs.Slots.{slotAt};
+ghost use Rattle.lines.specs.Told.{toldNamed};
 ghost use Rattle.records.specs.Next.{nextOf};
 ghost use Rattle.records.specs.Told.{toldLine};
 ghost use Rattle.turns.specs.Turn.{enterAt, betweenTurn, turnOf};
@@ -21,7 +23,7 @@ ghost use Rattle.many_lines.specs.LedLaws.{Led};
 ghost use Rattle.given.specs.Fill.{noRoom};
 ghost use Rattle.many_lines.specs.Lines.{linesOf, counted, filled};
 ghost use Rattle.many_lines.specs.Told.{toldLines};
-ghost use Rattle.many_lines.specs.Went.{EndedIs, EnteredIs, Went};
+ghost use Rattle.many_lines.specs.Went.{LookedIs, EndedIs, EnteredIs, Went};
 use line_record::LineRecord;
 use line_record::closed;
 use line_words::put_record;
@@ -30,6 +32,7 @@ use lines::header_of;
 use lines::slot_body;
 use records::LineStep;
 use records::next_line;
+use refusal::LONGEST;
 use refusal::Refusal;
 use stretch::Lined;
 use stretch::body_lines;
@@ -41,6 +44,7 @@ use turns::Turn;
 use turns::take_turn;
 use whole_list::begin_at;
 use whole_list::tested_list;
+use word::u32_at;
 
 // The words of a record.
 pub const RECORD: usize = 12;
@@ -242,6 +246,54 @@ fn enter_body(area: &[u8], t: Rest, start: usize, len: usize) -> Entered
     )
 }
 
+// What the first look of a search finds: the length of a line body, or nothing yet.
+enum Looked {
+    At(usize),
+    No,
+}
+
+// Does the header of the line body at `body` stand at `begin`? That is where most searches end.
+fn first_look(area: &[u8], begin: usize, body: usize) -> Looked
+    ensures { λ r. ⌜ LookedIs (now (area .entry)) begin body r ⌝ }
+{
+    if LONGEST < area.len() {
+        return Looked::No;
+    }
+    if area.len() < body {
+        return Looked::No;
+    }
+    if body < 8 {
+        return Looked::No;
+    }
+    if body - 8 != begin {
+        return Looked::No;
+    }
+    let head = &area[begin..begin + 8];
+    let kind = u32_at(head, 0);
+    let len = u32_at(head, 4) as usize;
+    if kind != 0xf2 {
+        return Looked::No;
+    }
+    if area.len() - body < len {
+        return Looked::No;
+    }
+    Looked::At(len)
+}
+
+// The line body that a slot names, as `slot_body` finds it.
+fn named_body(area: &[u8], slots: &[u32], slot: usize, begin: usize) -> Named
+    ensures { λ r. ⌜ toldNamed r ≡ slotAt ruled (now (area .entry)) (now (slots .entry)) slot begin ⌝ }
+{
+    if slots.len() <= slot {
+        return Named::Refused(Refusal::WrongSlot);
+    }
+    let start = slots[slot] as usize;
+    match first_look(area, begin, start) {
+        Looked::At(len) => Named::Body { start, len },
+        Looked::No => slot_body(area, slots, slot, begin),
+    }
+}
+
 // Into the body that the next slot names.
 fn next_body(area: &[u8], slots: &[u32], whole: usize, t: Rest) -> Entered
     requires { ⌜ Led ruled (now area) (now slots) whole (Between t) ⌝ }
@@ -250,7 +302,7 @@ fn next_body(area: &[u8], slots: &[u32], whole: usize, t: Rest) -> Entered
     if t.left == 0 {
         return Entered::Stuck;
     }
-    match slot_body(area, slots, t.slot, begin_at(slots, whole, t.slot, t.scan)) {
+    match named_body(area, slots, t.slot, begin_at(slots, whole, t.slot, t.scan)) {
         Named::Body { start, len } => enter_body(area, t, start, len),
         Named::Refused(_) => Entered::Stuck,
     }

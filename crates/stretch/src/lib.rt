@@ -5,8 +5,9 @@ ghost use mathlib.Core.Path.{_≡_};
 ghost use Prim.Native.Nat.{_+_, _*_, _<_, _≤_, _^_};
 ghost use mathlib.Core.Bool.{true, false};
 ghost use lib.ListN.{length};
-ghost use Rattle.word.specs.Word.{u32At};
+ghost use Rattle.word.specs.Word.{u32At, store};
 ghost use Rattle.line_record.specs.Record.{columnIf, maxOffset};
+ghost use Rattle.line_words.specs.LineWords.{recordWords};
 ghost use Rattle.turns.specs.Turn.{columnPlace};
 ghost use Rattle.stretch.specs.Stretch.{atLine, plainOf, Fit, Stride, Strode, HeldPut, FirstLine, Ran, OpenedIs, Rode};
 use line_record::LineRecord;
@@ -71,6 +72,14 @@ pub struct Plain {
     pub word: u32,
 }
 
+// A record whose words have room. They are put as a part of their own, of a length that is known.
+fn put_words(out: &mut [u64], at: usize, r: LineRecord)
+    requires { ⌜ at + 12 ≤ length (now out) ⌝ }
+    ensures { λ _. ⌜ now (out .exit) ≡ store (now (out .entry)) at (recordWords r) ⌝ }
+{
+    put_record(&mut out[at..at + 12], 0, r);
+}
+
 // A line that gives a record: the held one is put, closed by it, and the line's own is held.
 fn stride(area: &[u8], p: Place, x: Plain, e: Line, out: &mut [u64]) -> Plain
     requires { ⌜ Fit (now area) p ⌝ }
@@ -84,7 +93,7 @@ fn stride(area: &[u8], p: Place, x: Plain, e: Line, out: &mut [u64]) -> Plain
     let end = h.offset + e.offset;
     let word = column_at(area, has_columns(h.flags), p.column + 4 * x.done);
     let r = record_in(p, x.offset, x.flags, x.word);
-    put_record(out, at, closed(r, h.section, end));
+    put_words(out, at, closed(r, h.section, end));
     Plain {
         n,
         done,
@@ -145,7 +154,7 @@ fn put_held(out: &mut [u64], n: usize, held: Held, section: u16, end: u32) -> us
         Held::Nothing => n,
         Held::One(q) => {
             let more = n + 1;
-            put_record(out, 12 * n, closed(q, section, end));
+            put_words(out, 12 * n, closed(q, section, end));
             more
         }
     }

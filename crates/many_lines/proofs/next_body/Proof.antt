@@ -12,7 +12,7 @@ use Rattle.many_lines.proofs.next_body.Tie as tie
 enter-body-requires : tie.Need-enter-body-requires
 enter-body-requires c κs =
     let m = c .before in
-    let e = slot-inside _ _ _ _ _ _ (ap toldNamed (sym (m .start .given .1)) ∙ m .before .before .slot-body .ensures) in
+    let e = slot-inside _ _ _ _ _ _ (ap toldNamed (sym (m .start .given .1)) ∙ m .before .before .named-body .ensures) in
     let l = m .before .before .before .before .if1 .left in
     (e .1, omega arith, omega arith)
 
@@ -21,7 +21,7 @@ returns-2 c =
     let m = c .before .before in
     let b = m .before .before .before in
     let a = b .before .before .before .before .before in
-    enters-next _ _ _ (a .args .t) (a .pre) (b .before .if1 .left) _ _ _ (c .enter-body .result) (b .begin-at .ensures) (ap toldNamed (sym (m .start .given .1)) ∙ m .before .before .slot-body .ensures) (c .enter-body .ensures)
+    enters-next _ _ _ (a .args .t) (a .pre) (b .before .if1 .left) _ _ _ (c .enter-body .result) (b .begin-at .ensures) (ap toldNamed (sym (m .start .given .1)) ∙ m .before .before .named-body .ensures) (c .enter-body .ensures)
 
 pub next-body-spec : {M : Type 1} → statement M
 next-body-spec =

@@ -14,14 +14,14 @@ enum-known-held c = search needs
 add-more : tie.Need-add-more
 add-more c = search needs
 
-mul-put-record : tie.Need-mul-put-record
-mul-put-record c = search needs
+mul-put-words : tie.Need-mul-put-words
+mul-put-words c = search needs
 
 closed-requires : tie.Need-closed-requires
 closed-requires c κs = search needs
 
-put-record-requires : tie.Need-put-record-requires
-put-record-requires c κs = search needs
+put-words-requires : tie.Need-put-words-requires
+put-words-requires c κs = search needs
 
 returns : tie.Need-returns
 returns c = held-none _ _ _ _ _ (c .enum-told .given .1)
@@ -30,7 +30,7 @@ same-length : tie.Need-same-length
 same-length c = search needs
 
 returns-2 : tie.Need-returns-2
-returns-2 c = held-some _ _ _ _ _ _ _ _ (c .before .before .before .before .before .before .held .given .1) (c .before .before .before .closed .ensures) (c .before .before .put-record .ensures)
+returns-2 c = held-some _ _ _ _ _ _ _ _ (c .before .before .before .before .before .before .held .given .1) (c .before .before .before .closed .ensures) (c .before .before .put-words .ensures)
 
 pub put-held-spec : {M : Type 1} → statement M
 put-held-spec =
@@ -39,9 +39,9 @@ put-held-spec =
     enum-told
     enum-known-held
     add-more
-    mul-put-record
+    mul-put-words
     closed-requires
-    put-record-requires
+    put-words-requires
     returns
     same-length
     returns-2)

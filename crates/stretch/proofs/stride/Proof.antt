@@ -1,6 +1,7 @@
 -- `stretch::stride` meets its contract: the held record is put as its end closes it, and the line's words are kept.
 -- Assumes nothing.
 use mathlib.Core.Path.{refl}
+use native.Mathlib.Omega.{arith}
 use Rattle.stretch.specs.StretchLaws.{columns-as, put-closed}
 use borrow.Author.Needs.{needs}
 use Rattle.stretch.proofs.stride.Statement.{statement}
@@ -36,8 +37,8 @@ record-in-requires c κs = search needs
 closed-requires : tie.Need-closed-requires
 closed-requires c κs = search needs
 
-put-record-requires : tie.Need-put-record-requires
-put-record-requires c κs = search needs
+put-words-requires : tie.Need-put-words-requires
+put-words-requires c κs = omega (arith, c .before .before .before .before .before .before .before .before .before .before .before .before .before .before .before .pre .1)
 
 same-length : tie.Need-same-length
 same-length c = search needs
@@ -51,7 +52,7 @@ returns c =
       offset = refl;
       flags = refl;
       word = columns-as _ _ _ _ (q .before .before .before .has-columns .ensures) (q .column-at .ensures);
-      words = put-closed _ _ _ _ _ _ _ _ (c .before .before .before .before .before .record-in .ensures) (c .before .before .before .closed .ensures) (c .before .before .put-record .ensures);
+      words = put-closed _ _ _ _ _ _ _ _ (c .before .before .before .before .before .record-in .ensures) (c .before .before .before .closed .ensures) (c .before .before .put-words .ensures);
     }
 
 pub stride-spec : {M : Type 1} → statement M
@@ -68,6 +69,6 @@ stride-spec =
     column-at-requires
     record-in-requires
     closed-requires
-    put-record-requires
+    put-words-requires
     same-length
     returns)
