@@ -1,6 +1,6 @@
 -- Names for the proofs: the first look of a search, the end of a body, the next body, and where a call stands behind many turns made at once.
 -- Definitions only; no public contract cites them.
-use mathlib.Core.Bool.{false}
+use mathlib.Core.Bool.{Bool, true, false}
 use Prim.Native.Nat.{ℕ, _+_, _<_, _≤_}
 use mathlib.Core.Path.{_≡_}
 use mathlib.Core.List.{List}
@@ -25,6 +25,14 @@ use Rattle.many_lines.specs.declared.Ended.{Ended}
 use Rattle.many_lines.specs.declared.Ended.the-variants as ended
 use Rattle.many_lines.specs.declared.Entered.{Entered}
 use Rattle.many_lines.specs.declared.Entered.the-variants as entered
+
+abbrev pub nowhere : Place
+nowhere = record { head = record { offset = 0; section = 0; flags = 0; code = 0 }; end = 0; next = 0; file = 0; lines = 0; line = 0; column = 0 }
+
+-- the walk that is inside a body, or between two
+abbrev pub standsAt : Bool → Place → Rest → LineWalk
+standsAt true p t = Inside p t
+standsAt false p t = Between t
 
 -- a line body of n bytes at v, whose header stands at p of the area s
 pub record Look (s : List ℕ) (p v n : ℕ) : Type 0 where

@@ -5,7 +5,10 @@ use mathlib.Core.List.{List}
 use mathlib.Core.Bool.{Bool, true, false, cond}
 use native.Mathlib.Omega.{arith}
 use lib.ListN.{length, getD, take}
+use lib.Dec.{eqb}
+use borrow.Author.Tests.{eqb-true, eqb-false}
 use Rattle.word.specs.Word.{store}
+use Rattle.walk.specs.Cases.{by-cases}
 use Rattle.walk.specs.Listing.{item, pass, Answer, gives, none, gave}
 use Rattle.walk.specs.First.{onFirst}
 use Rattle.walk.specs.Many.{Many, noMore, thenMany, many}
@@ -19,18 +22,20 @@ use Rattle.line_record.specs.declared.LineRecord.{LineRecord}
 use Rattle.line_words.specs.LineWords.{recordWords}
 use Rattle.body.specs.Lines.{lineHead, columned}
 use Rattle.find.specs.Find.{bytesAt}
+use Rattle.lines.specs.Lines.{countLines}
+use Rattle.lines.specs.LinesLaws.{counted-short}
 use Rattle.lines.specs.Slots.{slotAt}
 use Rattle.lines.specs.SlotsLaws.{seek-hit, scan-on, slot-is}
 use Rattle.lines.specs.Told.{toldHeader}
 use Rattle.lines.specs.declared.LineHeader.{LineHeader}
-use Rattle.turns.specs.Turn.{LineMove, withHeld, placeAt, restAt, enterAt, betweenTurn, turnOf}
+use Rattle.turns.specs.Turn.{LineMove, withHeld, placeAt, restAt, enterAt, betweenTurn, openOf, turnOf}
 use Rattle.turns.specs.TurnLaws.{end-nothing, end-close, enter-in, sub-is, between-sub, block-is, inside-block, turn-is}
 use Rattle.turns.specs.declared.Held.the-variants.{Nothing, One}
 use Rattle.turns.specs.declared.Held.{Held}
 use Rattle.turns.specs.declared.Rest.{Rest}
 use Rattle.turns.specs.declared.Place.{Place}
 use Rattle.turns.specs.declared.LineWalk.{LineWalk}
-use Rattle.turns.specs.declared.LineWalk.the-variants.{Between, Inside}
+use Rattle.turns.specs.declared.LineWalk.the-variants.{New, Between, Inside}
 use Rattle.records.specs.Next.{todo, nextOf}
 use Rattle.records.specs.NextLaws.{next-is, next-falls}
 use Rattle.given.specs.Fill.{noRoom, counted}
@@ -40,9 +45,26 @@ use Rattle.stretch.specs.Stretch.{Used, Rode}
 use Rattle.stretch.specs.GoesLaws.{Going, Goes, goes-same, goes-pass, goes-on}
 use Rattle.stretch.specs.FillLaws.{Filled, Fills, turns-start, turns-pass, turns-record, turns-full, turns-stop, turns-none, turns-behind, record-falls}
 use Rattle.many_lines.specs.LedLaws.{Led, begin-same, led-kept}
-use Rattle.many_lines.specs.Went.{Look, EndsTo, Leaves, EntersTo, EnteredIs, Went}
+use Rattle.many_lines.specs.Went.{standsAt, Look, EndsTo, Leaves, EntersTo, EnteredIs, Went}
 use Rattle.many_lines.specs.declared.Entered.{Entered}
 use Rattle.many_lines.specs.declared.Stood.{Stood}
+
+-- ---- the measure of a loop that goes one of two ways
+
+-- m is to be done, and `first` whether the first of two ways is tried
+abbrev pub toGo : Bool → ℕ → ℕ
+toGo true m = 2 * m + 1
+toGo false m = 2 * m
+
+pub go-first : (first : Bool) (k m : ℕ) → first ≡ true → k ≤ m → toGo false k < toGo first m
+go-first first k m e h = subst (λ x. toGo false k < toGo x m) (sym e) (omega arith)
+
+pub go-turn : (first : Bool) (k m : ℕ) → first ≡ false → k < m → (next : Bool) → toGo next k < toGo first m
+go-turn first k m e h next = subst (λ x. toGo next k < toGo x m) (sym e) (to next)
+  where
+    to : (x : Bool) → toGo x k < 2 * m
+    to true = omega arith
+    to false = omega arith
 
 -- ---- a search that ends at its first look
 
@@ -82,6 +104,14 @@ module _ (s v : List ℕ) (whole : ℕ) (t : Rest) (h : Led ruled s v whole (Bet
       subst (λ m. EnteredIs m t r)
       (sub-is ruled s v t (gave (record { start = a; len = n })) (e ∙ ap (slotAt ruled s v (t .slot)) ey ∙ begin-same ruled s v whole t h) ∙ between-sub ruled s v t l) k
 
+-- the turn that opens a walk, k being how many line subsections there are
+pub open-turn : (s v : List ℕ) (k : ℕ) → gave k ≡ countLines ruled s → pass (Between (record { slot = 0; left = k; scan = 0; held = Nothing })) ≡ turnOf ruled s v New
+open-turn s v k e = ap openOf e ∙ turn-is ruled s v New (counted-short ruled s k e) New refl
+
+-- the turn into a body
+pub enter-turn : (s v : List ℕ) (t : Rest) (q : Place) (u : Rest) → length s ≤ longest → EntersTo (betweenTurn ruled s v t) t q u → pass (Inside q u) ≡ turnOf ruled s v (Between t)
+enter-turn s v t q u f z = z .turn ∙ turn-is ruled s v (Between t) f (Between t) refl
+
 -- ---- many turns at once
 
 module _ (s v : List ℕ) (whole room n : ℕ) (w : LineWalk) (o : List ℕ) where
@@ -91,6 +121,15 @@ module _ (s v : List ℕ) (whole room n : ℕ) (w : LineWalk) (o : List ℕ) whe
 
   pub went-as : (x : LineWalk) → w ≡ x → (r : Stood) (o′ : List ℕ) → Went s v whole room n x o r o′ → Went s v whole room n w o r o′
   went-as x e r o′ h = subst (λ y. Went s v whole room n y o r o′) (sym e) h
+
+  -- b says whether it is inside a body
+  pub went-at : (b c : Bool) → b ≡ c → (m : ℕ) (p : Place) (t : Rest) (o′ : List ℕ) → Went s v whole room n w o (record { n = m; walk = standsAt b p t }) o′
+      → Went s v whole room n w o (record { n = m; walk = standsAt c p t }) o′
+  went-at b c e m p t o′ = subst (λ x. Went s v whole room n w o (record { n = m; walk = standsAt x p t }) o′) e
+
+  -- a turn before them
+  pub went-pass : (x : LineWalk) → pass x ≡ turnOf ruled s v w → n < room → (r : Stood) (o′ : List ℕ) → Went s v whole room n x o r o′ → Went s v whole room n w o r o′
+  went-pass x e l r o′ h = record { size = h .size; led = h .led; goes = goes-on s v room (goes-pass s v room l x e) (h .goes) }
 
   module _ (m : ℕ) (o′ : List ℕ) where
     went-lines : (p : Place) (t : Rest) (r : Lined) (o″ : List ℕ) → Went s v whole room n w o (record { n = m; walk = Inside p t }) o′ → Rode s room p (t .held) m o′ r o″
@@ -120,7 +159,7 @@ module _ (s v : List ℕ) (whole room n : ℕ) (w : LineWalk) (o : List ℕ) whe
     pub went-enter : (t : Rest) (q : Place) (u : Rest) → length s ≤ longest → m < room → Went s v whole room n w o (record { n = m; walk = Between t }) o′
         → EntersTo (betweenTurn ruled s v t) t q u → Went s v whole room n w o (record { n = m; walk = Inside q u }) o′
     went-enter t q u f l h z =
-        let e = z .turn ∙ turn-is ruled s v (Between t) f (Between t) refl in
+        let e = enter-turn s v t q u f z in
         record {
           size = h .size;
           led = led-kept ruled s v whole (Between t) (h .led) (pass (Inside q u)) e;
@@ -184,34 +223,31 @@ module _ (s v : List ℕ) (w₀ : LineWalk) (o₀ : List ℕ) where
     stand-record r t o′ e l q =
         record { going = record { last = t; fills = turns-record ruled s v w₀ o₀ (h .going .fills) r t o′ e l q; full = λ f. refl }; exactly = λ x. refl }
 
-    pub stand-pass : (whole room : ℕ) (t : LineWalk) (x : Stood) (o′ : List ℕ) → pass t ≡ turnOf ruled s v w → n < room → length o₀ / 12 ≡ room → Went s v whole room n t o x o′
-        → Standing (x .n) (x .walk) false o′
-    stand-pass whole room t x o′ e l er k = record {
-      going = k .goes .going w₀ o₀ er (goes-pass s v room l t e .going w₀ o₀ er (h .going));
-      exactly = λ z. let y : _≡_ {A = ℕ} 0 1 = cc in absurd (omega arith);
-    }
+    -- many turns, or one that passes on
+    pub stand-goes : (room m : ℕ) (t : LineWalk) (o′ : List ℕ) → length o₀ / 12 ≡ room → Goes s v room n w o m t o′ → Standing m t false o′
+    stand-goes room m t o′ er k = record { going = k .going w₀ o₀ er (h .going); exactly = λ z. let y : _≡_ {A = ℕ} 0 1 = cc in absurd (omega arith) }
 
     module _ (room : 12 ≤ length o₀) where
       pub stand-full : length o₀ / 12 ≤ n → Filled ruled s v w₀ o₀ (gives n w) o
       stand-full l = subst (λ x. Filled ruled s v w₀ o₀ (gives n x) o) (h .going .full l) (turns-full ruled s v w₀ o₀ (h .going .fills) room l)
 
       -- u is a turn that gives no record and does not pass on
-      pub stand-none : (u : LineMove) → u ≡ turnOf ruled s v w → NoRecord (onFirst (nextOf ruled s v) u) → n ≡ 0
-          → Filled ruled s v w₀ o₀ (counted (noRoom (onFirst (nextOf ruled s v) u))) o
-      stand-none u e f z = turns-none ruled s v w₀ o₀ (h .going .fills) room u e f z
+      module _ (u : LineMove) (e : u ≡ turnOf ruled s v w) (f : NoRecord (onFirst (nextOf ruled s v) u)) where
+        stop-told : (n ≡ 0 → ⊥) → Filled ruled s v w₀ o₀ (gives n (cond exact w (many (nextOf ruled s v) n w₀ .next))) o
+        stop-told z =
+            let q = turns-stop ruled s v w₀ o₀ (h .going .fills) room u e f z in
+            let b = turns-behind ruled s v w₀ o₀ (h .going .fills) u e f in
+            subst (λ x. Filled ruled s v w₀ o₀ x o) (ap (gives n) (which exact (h .exactly) b)) q
+          where
+            which : (x : Bool) → (x ≡ true → h .going .last ≡ w) → h .going .last ≡ many (nextOf ruled s v) n w₀ .next
+                → h .going .last ≡ cond x w (many (nextOf ruled s v) n w₀ .next)
+            which true f g = f refl
+            which false f g = g
 
-      pub stand-stop : (u : LineMove) → u ≡ turnOf ruled s v w → NoRecord (onFirst (nextOf ruled s v) u) → (n ≡ 0 → ⊥) → (a : Answer LineWalk ℕ Told)
-          → a ≡ gives n (cond exact w (many (nextOf ruled s v) n w₀ .next)) → Filled ruled s v w₀ o₀ a o
-      stand-stop u e f z a ea =
-          let q = turns-stop ruled s v w₀ o₀ (h .going .fills) room u e f z in
-          let b = turns-behind ruled s v w₀ o₀ (h .going .fills) u e f in
-          subst (λ x. Filled ruled s v w₀ o₀ x o) (ap (gives n) (which exact (h .exactly) b) ∙ sym ea) q
-        where
-          which : (x : Bool) → (x ≡ true → h .going .last ≡ w) → h .going .last ≡ many (nextOf ruled s v) n w₀ .next
-              → h .going .last ≡ cond x w (many (nextOf ruled s v) n w₀ .next)
-          which true f g = f refl
-          which false f g = g
-
-module _ (s v : List ℕ) where
-  pub went-less : (whole room n : ℕ) (w t : LineWalk) (o o′ : List ℕ) (x : Stood) → pass t ≡ turnOf ruled s v w → Went s v whole room n t o x o′ → todo ruled s (x .walk) < todo ruled s w
-  went-less whole room n w t o o′ x e k = omega (arith, next-falls ruled s v w t e, k .goes .less)
+        pub stand-stop : (a : Answer LineWalk ℕ Told)
+            → a ≡ cond (eqb n 0) (counted (noRoom (onFirst (nextOf ruled s v) u))) (gives n (cond exact w (many (nextOf ruled s v) n w₀ .next)))
+            → Filled ruled s v w₀ o₀ a o
+        stand-stop a ea =
+            subst (λ x. Filled ruled s v w₀ o₀ x o) (sym ea)
+            (by-cases (λ x. Filled ruled s v w₀ o₀ x o) (eqb n 0) (λ z. turns-none ruled s v w₀ o₀ (h .going .fills) room u e f (eqb-true n 0 z))
+            (λ z. stop-told (eqb-false n 0 z)))

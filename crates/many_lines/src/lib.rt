@@ -8,26 +8,31 @@ ghost use mathlib.Core.Path.{_≡_};
 ghost use Prim.Native.Nat.{_+_, _<_, _≤_, _^_};
 ghost use mathlib.Core.Bool.{cond};
 ghost use lib.ListN.{length};
+ghost use lib.Dec.{eqb};
 ghost use Rattle.walk.specs.Listing.{gives};
 ghost use Rattle.walk.specs.Many.{many};
+ghost use Rattle.refusal.specs.Told.{longest};
 ghost use Rattle.area.specs.Kind.{ruled};
 ghost use Rattle.lines.specs.Slots.{slotAt};
 ghost use Rattle.lines.specs.Told.{toldNamed};
 ghost use Rattle.records.specs.Next.{nextOf};
 ghost use Rattle.records.specs.Told.{toldLine};
 ghost use Rattle.turns.specs.Turn.{enterAt, betweenTurn, turnOf};
-ghost use Rattle.turns.specs.declared.LineWalk.the-variants.{Between, Inside};
+ghost use Rattle.turns.specs.declared.LineWalk.the-variants.{New, Between, Inside};
 ghost use Rattle.turns.specs.Told.{toldTurn};
 ghost use Rattle.many_lines.specs.Led.{scanOf, fewLeft, testedFor, ledRest, ledWalk};
 ghost use Rattle.many_lines.specs.LedLaws.{Led};
 ghost use Rattle.given.specs.Fill.{noRoom};
 ghost use Rattle.many_lines.specs.Lines.{linesOf, counted, filled};
 ghost use Rattle.many_lines.specs.Told.{toldLines};
-ghost use Rattle.many_lines.specs.Went.{LookedIs, EndedIs, EnteredIs, Went};
+ghost use Rattle.many_lines.specs.Went.{nowhere, standsAt, LookedIs, EndedIs, EnteredIs, Went};
 use line_record::LineRecord;
 use line_record::closed;
 use line_words::put_record;
+use lines::Counted;
+use lines::LineHeader;
 use lines::Named;
+use lines::count_lines;
 use lines::header_of;
 use lines::slot_body;
 use records::LineStep;
@@ -308,48 +313,103 @@ fn next_body(area: &[u8], slots: &[u32], whole: usize, t: Rest) -> Entered
     }
 }
 
-// Body after body, from inside one, as many turns at once as can be.
+// Body after body, as many turns at once as can be, from inside one at `place` or from between two.
 fn bodies(
     area: &[u8],
     slots: &[u32],
     whole: usize,
     n0: usize,
     room: usize,
+    within: bool,
     place: Place,
     rest: Rest,
     out: &mut [u64],
 ) -> Stood
-    requires { ⌜ Led ruled (now area) (now slots) whole (Inside place rest) ⌝ }
-    ensures { λ r. ⌜ Went (now (area .entry)) (now (slots .entry)) whole room n0 (Inside place rest) (now (out .entry)) r (now (out .exit)) ⌝ }
+    requires { ⌜ Led ruled (now area) (now slots) whole (standsAt within place rest) ⌝ }
+    requires { ⌜ (n0 < room) × (length (now area) ≤ longest) ⌝ }
+    ensures { λ r. ⌜ Went (now (area .entry)) (now (slots .entry)) whole room n0 (standsAt within place rest) (now (out .entry)) r (now (out .exit)) ⌝ }
 {
     let mut n = n0;
+    let mut inside = within;
     let mut p = place;
     let mut t = rest;
     loop {
-        let held = t.held;
-        let x = body_lines(area, p, held, n, room, out);
-        n = x.n;
-        match end_body(x, t) {
-            Ended::At(v) => match next_body(area, slots, whole, v) {
+        if inside {
+            let held = t.held;
+            let x = body_lines(area, p, held, n, room, out);
+            n = x.n;
+            match end_body(x, t) {
+                Ended::At(v) => {
+                    inside = false;
+                    t = v;
+                }
+                Ended::Stuck(u) => {
+                    let q = x.place;
+                    let walk = LineWalk::Inside(q, u);
+                    return Stood { n, walk };
+                }
+            }
+        } else {
+            match next_body(area, slots, whole, t) {
                 Entered::At(a, b) => {
+                    inside = true;
                     p = a;
                     t = b;
                 }
                 Entered::Stuck => {
-                    let walk = LineWalk::Between(v);
+                    let walk = LineWalk::Between(t);
                     return Stood { n, walk };
                 }
-            },
-            Ended::Stuck(u) => {
-                let q = x.place;
-                let walk = LineWalk::Inside(q, u);
-                return Stood { n, walk };
             }
         }
     }
 }
 
-// As many turns at once as can be made, where the walk is inside a body.
+// The place of a walk that is in no body.
+fn nowhere() -> Place
+    ensures { λ r. ⌜ r ≡ nowhere ⌝ }
+{
+    let head = LineHeader {
+        offset: 0,
+        section: 0,
+        flags: 0,
+        code: 0,
+    };
+    Place {
+        head,
+        end: 0,
+        next: 0,
+        file: 0,
+        lines: 0,
+        line: 0,
+        column: 0,
+    }
+}
+
+// From its beginning on.
+fn opened(area: &[u8], slots: &[u32], whole: usize, n: usize, room: usize, out: &mut [u64]) -> Stood
+    requires { ⌜ Led ruled (now area) (now slots) whole New ⌝ }
+    requires { ⌜ (n < room) × (length (now area) ≤ longest) ⌝ }
+    ensures { λ r. ⌜ Went (now (area .entry)) (now (slots .entry)) whole room n New (now (out .entry)) r (now (out .exit)) ⌝ }
+{
+    match count_lines(area) {
+        Counted::Lines(left) => {
+            let t = Rest {
+                slot: 0,
+                left,
+                scan: 0,
+                held: Held::Nothing,
+            };
+            bodies(area, slots, whole, n, room, false, nowhere(), t, out)
+        }
+        Counted::Refused(_) => Stood {
+            n,
+            walk: LineWalk::New,
+        },
+    }
+}
+
+// As many turns at once as can be made.
 fn faster(
     area: &[u8],
     slots: &[u32],
@@ -360,22 +420,21 @@ fn faster(
     out: &mut [u64],
 ) -> Stood
     requires { ⌜ Led ruled (now area) (now slots) whole w ⌝ }
+    requires { ⌜ n < room ⌝ }
     ensures { λ r. ⌜ Went (now (area .entry)) (now (slots .entry)) whole room n w (now (out .entry)) r (now (out .exit)) ⌝ }
 {
+    if LONGEST < area.len() {
+        return Stood { n, walk: w };
+    }
     match w {
-        LineWalk::New => Stood {
-            n,
-            walk: LineWalk::New,
-        },
-        LineWalk::Between(t) => Stood {
-            n,
-            walk: LineWalk::Between(t),
-        },
-        LineWalk::Inside(p, t) => bodies(area, slots, whole, n, room, p, t, out),
+        LineWalk::New => opened(area, slots, whole, n, room, out),
+        LineWalk::Between(t) => { bodies(area, slots, whole, n, room, false, nowhere(), t, out) }
+        LineWalk::Inside(p, t) => bodies(area, slots, whole, n, room, true, p, t, out),
     }
 }
 
-// What is answered behind n records. `exact` says that w is the walk behind the last of them; else it is looked for.
+// What is answered where no record comes behind the first n: without any what there is to tell, else the walk behind the last. `exact` says that this
+// is w; else it is looked for.
 fn stopped(
     area: &[u8],
     slots: &[u32],
@@ -384,10 +443,14 @@ fn stopped(
     n: usize,
     w: LineWalk,
     exact: bool,
+    told: LinesStep,
 ) -> LinesStep
     requires { ⌜ Led ruled (now area) (now slots) whole walk ⌝ }
-    ensures { λ r. ⌜ toldLines r ≡ gives n (cond exact w (many (nextOf ruled (now (area .entry)) (now (slots .entry))) n walk .next)) ⌝ }
+    ensures { λ r. ⌜ toldLines r ≡ cond (eqb n 0) (toldLines told) (gives n (cond exact w (many (nextOf ruled (now (area .entry)) (now (slots .entry))) n walk .next))) ⌝ }
 {
+    if n == 0 {
+        return told;
+    }
     if exact {
         return LinesStep::Lines { count: n, next: w };
     }
@@ -395,7 +458,7 @@ fn stopped(
     LinesStep::Lines { count: n, next }
 }
 
-// Turn after turn, and many at once where that can be.
+// As many turns at once as can be, and turn by turn what they leave.
 fn fill(area: &[u8], slots: &[u32], walk: LineWalk, out: &mut [u64]) -> LinesStep
     requires { ⌜ 12 ≤ length (now out) ⌝ }
     ensures { λ r. ⌜ toldLines r ≡ counted (linesOf ruled (now (area .entry)) (now (slots .entry)) (length (now (out .entry))) walk) ⌝ }
@@ -406,32 +469,36 @@ fn fill(area: &[u8], slots: &[u32], walk: LineWalk, out: &mut [u64]) -> LinesSte
     let mut n: usize = 0;
     let mut w = walk;
     let mut exact = true;
+    let mut fast = true;
     while n < room {
-        match led_turn(area, slots, whole, w) {
-            Turn::Line(r, t) => {
-                let at = RECORD * n;
-                n += 1;
-                put_record(out, at, r);
-                w = t;
-                exact = true;
-            }
-            Turn::Pass(t) => {
-                let x = faster(area, slots, whole, n, room, t, out);
-                n = x.n;
-                w = x.walk;
-                exact = false;
-            }
-            Turn::Over => {
-                if n == 0 {
-                    return LinesStep::None;
+        if fast {
+            let x = faster(area, slots, whole, n, room, w, out);
+            n = x.n;
+            w = x.walk;
+            exact = false;
+            fast = false;
+        } else {
+            match led_turn(area, slots, whole, w) {
+                Turn::Line(r, t) => {
+                    let at = RECORD * n;
+                    n += 1;
+                    put_record(out, at, r);
+                    w = t;
+                    exact = true;
                 }
-                return stopped(area, slots, whole, walk, n, w, exact);
-            }
-            Turn::Refused(why) => {
-                if n == 0 {
-                    return LinesStep::Refused(why);
+                Turn::Pass(t) => {
+                    w = t;
+                    exact = false;
+                    fast = true;
                 }
-                return stopped(area, slots, whole, walk, n, w, exact);
+                Turn::Over => {
+                    let told = LinesStep::None;
+                    return stopped(area, slots, whole, walk, n, w, exact, told);
+                }
+                Turn::Refused(why) => {
+                    let told = LinesStep::Refused(why);
+                    return stopped(area, slots, whole, walk, n, w, exact, told);
+                }
             }
         }
     }

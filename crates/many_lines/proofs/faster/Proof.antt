@@ -1,48 +1,56 @@
--- `many_lines::faster` meets its contract: inside a body what `bodies` does, else nothing.
+-- `many_lines::faster` meets its contract: each way is one of where the walk stands.
 -- Assumes nothing.
-use mathlib.Core.Path.{subst}
+use borrow.Author.Needs.{needs}
+use native.Mathlib.Omega.{arith}
+use mathlib.Core.Path.{refl, subst}
 use Rattle.area.specs.Kind.{ruled}
 use Rattle.many_lines.specs.LedLaws.{Led}
 use Rattle.many_lines.specs.WentLaws.{went-same, went-as}
-use borrow.Author.Needs.{needs}
 use Rattle.many_lines.proofs.faster.Statement.{statement}
 use Rattle.many_lines.proofs.faster.Tie as tie
 
-enum-told : tie.Need-enum-told
-enum-told c = search needs
+returns : tie.Need-returns
+returns c = went-same _ _ _ _ _ _ _ (c .before .before .before .before .pre .0) _ refl
 
-enum-known-w : tie.Need-enum-known-w
-enum-known-w c = search needs
-
-enum-known-w-2 : tie.Need-enum-known-w-2
-enum-known-w-2 c = search needs
+opened-requires : tie.Need-opened-requires
+opened-requires c κs =
+    let p = c .before .before .before .before .before .before .before .pre in
+    (subst (Led ruled _ _ _) (c .before .enum-told .given .1) (p .0), (p .1, omega (arith, c .before .before .before .if1 .left)))
 
 bodies-requires : tie.Need-bodies-requires
 bodies-requires c κs =
-    subst (Led ruled _ _ _) (c .before .before .w2 .given .1) (c .before .before .before .before .before .before .before .pre)
+    let p = c .before .before .before .before .before .before .before .before .before .pre in
+    (subst (Led ruled _ _ _) (c .before .before .before .w .given .1) (p .0), (p .1, omega (arith, c .before .before .before .before .before .if1 .left)))
 
-returns : tie.Need-returns
-returns c = went-same _ _ _ _ _ _ _ (c .before .before .before .before .before .pre) _ (c .enum-told .given .1)
+bodies-requires-2 : tie.Need-bodies-requires-2
+bodies-requires-2 c κs =
+    let p = c .before .before .before .before .before .before .before .before .pre in
+    (subst (Led ruled _ _ _) (c .before .before .w2 .given .1) (p .0), (p .1, omega (arith, c .before .before .before .before .if1 .left)))
 
 returns-2 : tie.Need-returns-2
-returns-2 c = went-same _ _ _ _ _ _ _ (c .before .before .before .before .before .before .pre) _ (c .before .w .given .1)
-
-same-length : tie.Need-same-length
-same-length c = search needs
+returns-2 c = went-as _ _ _ _ _ _ _ _ (c .before .before .before .before .enum-told .given .1) _ _ (c .before .before .opened .ensures)
 
 returns-3 : tie.Need-returns-3
-returns-3 c =
-    went-as _ _ _ _ _ _ _ _ (c .before .before .before .before .before .w2 .given .1) _ _ (c .before .before .bodies .ensures)
+returns-3 c = went-as _ _ _ _ _ _ _ _ (c .before .before .before .before .before .before .w .given .1) _ _ (c .before .before .bodies .ensures)
+
+returns-4 : tie.Need-returns-4
+returns-4 c = went-as _ _ _ _ _ _ _ _ (c .before .before .before .before .before .w2 .given .1) _ _ (c .before .before .bodies2 .ensures)
 
 pub faster-spec : {M : Type 1} → statement M
 faster-spec =
     tie.close
     (tie.spec
-    enum-told
-    enum-known-w
-    enum-known-w-2
-    bodies-requires
     returns
+    (λ c. search needs)
+    opened-requires
+    (λ c. search needs)
+    (λ c κs. search needs)
+    bodies-requires
+    (λ c. search needs)
+    bodies-requires-2
+    (λ c. search needs)
     returns-2
-    same-length
-    returns-3)
+    (λ c. search needs)
+    returns-3
+    (λ c. search needs)
+    returns-4)

@@ -1,27 +1,30 @@
 -- `many_lines::fill` meets its contract. The invariant: n records are put, and the records from the walk w on come behind them (`Standing`). The measure
--- is what is to be done.
+-- is what is to be done, many turns at once coming before one.
 -- Assumes nothing.
 use borrow.Author.Needs.{needs}
 use native.Mathlib.Omega.{arith}
 use mathlib.Core.Path.{_≡_, refl, sym, ap, _∙_}
 use Prim.Native.Nat.{_/_}
+use mathlib.Core.Bool.{true}
 use lib.ListN.{length}
 use Rattle.area.specs.Kind.{ruled}
 use Rattle.walk.specs.Listing.{item, pass, over, fail}
 use Rattle.turns.specs.Told.{toldTurn}
 use Rattle.records.specs.Next.{todo}
+use Rattle.records.specs.NextLaws.{next-falls}
 use Rattle.stretch.specs.FillLaws.{record-falls}
+use Rattle.stretch.specs.GoesLaws.{goes-pass}
 use Rattle.many_lines.specs.LedLaws.{Led, led-start, led-kept}
-use Rattle.many_lines.specs.WentLaws.{Standing, stand-start, stand-record, stand-pass, stand-full, stand-none, stand-stop, went-less}
+use Rattle.many_lines.specs.WentLaws.{toGo, go-first, go-turn, Standing, stand-start, stand-record, stand-goes, stand-full, stand-stop}
 use Rattle.many_lines.proofs.fill.Statement.{statement}
 use Rattle.many_lines.proofs.fill.Tie as tie
 
 abbrev Inv-loop : tie.InvT-loop
-Inv-loop area slots walk out₀ whole room n₀ w₀ exact₀ out n w exact =
+Inv-loop area slots walk out₀ whole room n₀ w₀ exact₀ fast₀ out n w exact fast =
     Standing area slots walk out₀ n w exact out × (room ≡ length out₀ / 12) × Led ruled area slots whole w × Led ruled area slots whole walk
 
 abbrev μ-loop : tie.MeasureT-loop
-μ-loop area slots walk out₀ whole room n₀ w₀ exact₀ out n w exact = todo ruled area w
+μ-loop area slots walk out₀ whole room n₀ w₀ exact₀ fast₀ out n w exact fast = toGo fast (todo ruled area w)
 
 tested-for-requires : tie.Need-tested-for-requires Inv-loop μ-loop
 tested-for-requires c κs = search needs
@@ -31,93 +34,90 @@ loop-holds c =
     let h = led-start ruled _ _ _ _ (c .tested-for .ensures) in
     (stand-start _ _ _ _, refl, h, h)
 
-led-turn-requires : tie.Need-led-turn-requires Inv-loop μ-loop
-led-turn-requires c κs = c .before .loop .inv .2
-
-enum-known-r : tie.Need-enum-known-r Inv-loop μ-loop
-enum-known-r c = search needs
-
-mul-at : tie.Need-mul-at Inv-loop μ-loop
-mul-at c =
-    let l = c .before .before .before .before .before .loop in
-    omega (arith, l .inv .0 .going .fills .most, l .inv .1)
-
-put-record-requires : tie.Need-put-record-requires Inv-loop μ-loop
-put-record-requires c κs = search needs
-
-add-n : tie.Need-add-n Inv-loop μ-loop
-add-n c =
-    let l = c .before .before .before .before .before .loop in
-    omega (arith, l .inv .0 .going .fills .most, l .inv .1)
+faster-requires : tie.Need-faster-requires Inv-loop μ-loop
+faster-requires c κs = (c .before .before .before .loop .inv .2, omega (arith, c .before .before .loop-test .taken))
 
 loop-less : tie.Need-loop-less Inv-loop μ-loop
-loop-less c = record-falls ruled _ _ _ _ _ (ap toldTurn (sym (c .before .before .before .before .before .r .given .1)) ∙ c .before .before .before .before .before .before .before .led-turn .ensures)
+loop-less c = go-first _ _ _ (c .before .before .before .before .if1 .taken) (c .before .before .faster .ensures .goes .less)
 
 loop-again : tie.Need-loop-again Inv-loop μ-loop
 loop-again c =
-    let l = c .before .before .before .before .before .before .before .before .before .loop in
-    let e = ap toldTurn (sym (c .before .before .before .before .before .r .given .1)) ∙ c .before .before .before .before .before .before .before .led-turn .ensures in
-    (stand-record _ _ _ _ (l .n) (l .w) (l .exact) (l .out) (l .inv .0) _ _ _ e (omega (arith, l .inv .1)) (c .before .before .put-record .ensures), l .inv .1, led-kept ruled _ _ _ _ (l .inv .2) (item _ _) e, l .inv .3)
+    let l = c .before .before .before .before .before .before .loop in
+    let k = c .before .before .faster .ensures in
+    (stand-goes _ _ _ _ (l .n) (l .w) (l .exact) (l .out) (l .inv .0) _ _ _ _ (sym (l .inv .1)) (k .goes), l .inv .1, k .led, l .inv .3)
 
-enum-known-t : tie.Need-enum-known-t Inv-loop μ-loop
-enum-known-t c = search needs
+led-turn-requires : tie.Need-led-turn-requires Inv-loop μ-loop
+led-turn-requires c κs = c .before .before .loop .inv .2
 
-faster-requires : tie.Need-faster-requires Inv-loop μ-loop
-faster-requires c κs =
-    let e = ap toldTurn (sym (c .before .before .t .given .1)) ∙ c .before .before .before .before .led-turn .ensures in
-    led-kept ruled _ _ _ _ (c .before .before .before .before .before .before .loop .inv .2) (pass _) e
+mul-at : tie.Need-mul-at Inv-loop μ-loop
+mul-at c =
+    let l = c .before .before .before .before .before .before .loop in
+    omega (arith, l .inv .0 .going .fills .most, l .inv .1)
+
+add-n : tie.Need-add-n Inv-loop μ-loop
+add-n c =
+    let l = c .before .before .before .before .before .before .loop in
+    omega (arith, l .inv .0 .going .fills .most, l .inv .1)
 
 loop-less-2 : tie.Need-loop-less-2 Inv-loop μ-loop
-loop-less-2 c = went-less _ _ _ _ _ _ _ _ _ _ (ap toldTurn (sym (c .before .before .before .before .before .t .given .1)) ∙ c .before .before .before .before .before .before .before .led-turn .ensures) (c .before .before .faster .ensures)
+loop-less-2 c =
+    let m = c .before .before .before .before .before in
+    let q = m .before .before in
+    go-turn _ _ _ (q .before .if1 .left) (record-falls ruled _ _ _ _ _ (ap toldTurn (sym (m .r .given .1)) ∙ q .led-turn .ensures)) (q .before .before .before .loop .fast)
 
 loop-again-2 : tie.Need-loop-again-2 Inv-loop μ-loop
 loop-again-2 c =
-    let l = c .before .before .before .before .before .before .before .before .before .loop in
-    let e = ap toldTurn (sym (c .before .before .before .before .before .t .given .1)) ∙ c .before .before .before .before .before .before .before .led-turn .ensures in
-    let k = c .before .before .faster .ensures in
-    (stand-pass _ _ _ _ (l .n) (l .w) (l .exact) (l .out) (l .inv .0) _ _ _ _ _ e (omega arith) (sym (l .inv .1)) k, l .inv .1, k .led, l .inv .3)
+    let m = c .before .before .before .before .before in
+    let q = m .before .before in
+    let l = q .before .before .before .loop in
+    let e = ap toldTurn (sym (m .r .given .1)) ∙ q .led-turn .ensures in
+    (stand-record _ _ _ _ (l .n) (l .w) (l .exact) (l .out) (l .inv .0) _ _ _ e (omega (arith, l .inv .1)) (c .before .before .put-record .ensures), l .inv .1, led-kept ruled _ _ _ _ (l .inv .2) (item _ _) e, l .inv .3)
 
-enum-told : tie.Need-enum-told Inv-loop μ-loop
-enum-told c = search needs
+loop-less-3 : tie.Need-loop-less-3 Inv-loop μ-loop
+loop-less-3 c =
+    let m = c .before in
+    let q = m .before .before in
+    go-turn _ _ _ (q .before .if1 .left) (next-falls ruled _ _ _ _ (ap toldTurn (sym (m .t .given .1)) ∙ q .led-turn .ensures)) true
 
-same-length : tie.Need-same-length Inv-loop μ-loop
-same-length c = omega (arith, c .before .before .before .before .before .loop .inv .0 .going .fills .size)
-
-returns : tie.Need-returns Inv-loop μ-loop
-returns c = stand-none _ _ _ _ _ _ _ _ (c .before .before .before .before .before .loop .inv .0) (c .before .before .before .before .before .before .before .before .before .before .pre) over (ap toldTurn (sym (c .before .enum-told .given .1)) ∙ c .before .before .before .led-turn .ensures) tt (c .if1 .taken)
+loop-again-3 : tie.Need-loop-again-3 Inv-loop μ-loop
+loop-again-3 c =
+    let m = c .before in
+    let q = m .before .before in
+    let l = q .before .before .before .loop in
+    let e = ap toldTurn (sym (m .t .given .1)) ∙ q .led-turn .ensures in
+    (stand-goes _ _ _ _ (l .n) (l .w) (l .exact) (l .out) (l .inv .0) _ _ _ _ (sym (l .inv .1)) (goes-pass _ _ _ (omega arith) _ e), l .inv .1, led-kept ruled _ _ _ _ (l .inv .2) (pass _) e, l .inv .3)
 
 stopped-requires : tie.Need-stopped-requires Inv-loop μ-loop
 stopped-requires c κs = c .before .before .before .before .before .loop .inv .3
 
-same-length-2 : tie.Need-same-length-2 Inv-loop μ-loop
-same-length-2 c = omega (arith, c .before .before .before .before .before .before .loop .inv .0 .going .fills .size)
+same-length : tie.Need-same-length Inv-loop μ-loop
+same-length c = omega (arith, c .before .before .before .before .before .before .loop .inv .0 .going .fills .size)
 
-returns-2 : tie.Need-returns-2 Inv-loop μ-loop
-returns-2 c = stand-stop _ _ _ _ _ _ _ _ (c .before .before .before .before .before .before .loop .inv .0) (c .before .before .before .before .before .before .before .before .before .before .before .pre) over (ap toldTurn (sym (c .before .before .enum-told .given .1)) ∙ c .before .before .before .before .led-turn .ensures) tt (c .before .if1 .left) _ (c .stopped .ensures)
-
-enum-known-why : tie.Need-enum-known-why Inv-loop μ-loop
-enum-known-why c = search needs
-
-same-length-3 : tie.Need-same-length-3 Inv-loop μ-loop
-same-length-3 c = omega (arith, c .before .before .before .before .before .before .loop .inv .0 .going .fills .size)
-
-returns-3 : tie.Need-returns-3 Inv-loop μ-loop
-returns-3 c = stand-none _ _ _ _ _ _ _ _ (c .before .before .before .before .before .before .loop .inv .0) (c .before .before .before .before .before .before .before .before .before .before .before .pre) (fail _) (ap toldTurn (sym (c .before .before .why .given .1)) ∙ c .before .before .before .before .led-turn .ensures) tt (c .if2 .taken)
+returns : tie.Need-returns Inv-loop μ-loop
+returns c =
+    let m = c .before in
+    let q = m .before .before in
+    let l = q .before .before .before .loop in
+    stand-stop _ _ _ _ _ _ _ _ (l .inv .0) (q .before .before .before .before .before .before .before .before .pre) over (ap toldTurn (sym (m .enum-told .given .1)) ∙ q .led-turn .ensures) tt _ (c .stopped .ensures)
 
 stopped-requires-2 : tie.Need-stopped-requires-2 Inv-loop μ-loop
 stopped-requires-2 c κs = c .before .before .before .before .before .before .loop .inv .3
 
-same-length-4 : tie.Need-same-length-4 Inv-loop μ-loop
-same-length-4 c = omega (arith, c .before .before .before .before .before .before .before .loop .inv .0 .going .fills .size)
+same-length-2 : tie.Need-same-length-2 Inv-loop μ-loop
+same-length-2 c = omega (arith, c .before .before .before .before .before .before .before .loop .inv .0 .going .fills .size)
 
-returns-4 : tie.Need-returns-4 Inv-loop μ-loop
-returns-4 c = stand-stop _ _ _ _ _ _ _ _ (c .before .before .before .before .before .before .before .loop .inv .0) (c .before .before .before .before .before .before .before .before .before .before .before .before .pre) (fail _) (ap toldTurn (sym (c .before .before .before .why .given .1)) ∙ c .before .before .before .before .before .led-turn .ensures) tt (c .before .if2 .left) _ (c .stopped2 .ensures)
+returns-2 : tie.Need-returns-2 Inv-loop μ-loop
+returns-2 c =
+    let m = c .before .before in
+    let q = m .before .before in
+    let l = q .before .before .before .loop in
+    stand-stop _ _ _ _ _ _ _ _ (l .inv .0) (q .before .before .before .before .before .before .before .before .pre) (fail _) (ap toldTurn (sym (m .why .given .1)) ∙ q .led-turn .ensures) tt _ (c .stopped2 .ensures)
 
-same-length-5 : tie.Need-same-length-5 Inv-loop μ-loop
-same-length-5 c = omega (arith, c .before .loop .inv .0 .going .fills .size)
+same-length-3 : tie.Need-same-length-3 Inv-loop μ-loop
+same-length-3 c = omega (arith, c .before .loop .inv .0 .going .fills .size)
 
-returns-5 : tie.Need-returns-5 Inv-loop μ-loop
-returns-5 c = stand-full _ _ _ _ _ _ _ _ (c .before .loop .inv .0) (c .before .before .before .before .before .before .pre) (omega (arith, c .before .loop .inv .1))
+returns-3 : tie.Need-returns-3 Inv-loop μ-loop
+returns-3 c = stand-full _ _ _ _ _ _ _ _ (c .before .loop .inv .0) (c .before .before .before .before .before .before .pre) (omega (arith, c .before .loop .inv .1))
 
 pub fill-spec : {M : Type 1} → statement M
 fill-spec =
@@ -127,28 +127,26 @@ fill-spec =
     μ-loop
     tested-for-requires
     loop-holds
-    led-turn-requires
-    enum-known-r
-    mul-at
-    add-n
-    put-record-requires
+    faster-requires
     loop-less
     loop-again
-    enum-known-t
-    faster-requires
+    led-turn-requires
+    (λ c. search needs)
+    mul-at
+    add-n
+    (λ c κs. search needs)
     loop-less-2
     loop-again-2
-    enum-told
+    (λ c. search needs)
+    loop-less-3
+    loop-again-3
+    (λ c. search needs)
+    stopped-requires
     same-length
     returns
-    stopped-requires
+    (λ c. search needs)
+    stopped-requires-2
     same-length-2
     returns-2
-    enum-known-why
     same-length-3
-    returns-3
-    stopped-requires-2
-    same-length-4
-    returns-4
-    same-length-5
-    returns-5)
+    returns-3)
