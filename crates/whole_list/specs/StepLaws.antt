@@ -4,7 +4,7 @@ use mathlib.Core.Path.{_≡_, refl, sym, ap, _∙_}
 use mathlib.Core.List.{List, [], _∷_}
 use mathlib.Core.Bool.{Bool, true, false, cond}
 use native.Mathlib.Omega.{arith}
-use lib.ListN.{length, getD}
+use lib.ListN.{length, getD, take}
 use lib.Dec.{ltb, leb, eqb}
 use borrow.Author.Tests.{leb-false, eqb-true, ne-eqb}
 use Rattle.walk.specs.Cases.{tests, by-cases}
@@ -14,18 +14,9 @@ use Rattle.area.specs.Kind.{Sort}
 use Rattle.area.specs.Subs.{Sub, subsFrom, stepAt}
 use Rattle.area.specs.SubsLaws.{sub-next, sub-end, sub-refused}
 use Rattle.lines.specs.Lines.{countLines}
-use Rattle.rank.specs.Rank.{keyAt, rank, Weighs}
+use Rattle.rank.specs.Rank.{rank}
 use Rattle.order.specs.Order.{startsFrom}
 use Rattle.whole_list.specs.WholeList.{middle, lookAt, halvedIn, halved, holds, slotBehind, allFound, comesBy, comesTo, wholeIn, wholeList}
-
--- ---- what is sought, as it was weighed
-
-module _ (s : List ℕ) (p key slot : ℕ) (h : Weighs s p key slot) where
-  pub weighed : Weighs s slot key slot
-  weighed = record { key-is = h .key-is ∙ ap (keyAt s) (sym (h .slot-is)); slot-is = refl }
-
-  pub halved-weighed : (xs : List ℕ) (a e : ℕ) → halved (rank s) slot xs a e ≡ halved (rank s) p xs a e
-  halved-weighed xs a e = ap (λ (k : ℕ). halved (rank s) k xs a e) (h .slot-is)
 
 -- ---- the halving
 
@@ -80,59 +71,59 @@ module _ (w : ℕ → ℕ) (v : ℕ) (xs : List ℕ) where
 
   -- ---- the slots that are looked at first
 
-  module _ (n i : ℕ) where
-    pub behind-next : holds v xs n i ≡ true → i + 1 ≡ slotBehind w v xs n i
+  module _ (i : ℕ) where
+    pub behind-next : holds v xs i ≡ true → i + 1 ≡ slotBehind w v xs i
     unfolding slotBehind
     behind-next h = sym (simp h)
 
-    module _ (h₁ : holds v xs n i ≡ false) where
-      pub behind-begin : i < 2 → halved w v xs 0 n ≡ slotBehind w v xs n i
+    module _ (h₁ : holds v xs i ≡ false) where
+      pub behind-begin : i < 2 → halved w v xs 0 (length xs) ≡ slotBehind w v xs i
       unfolding slotBehind
       behind-begin h = sym (simp (tests, h₁))
 
       module _ (h₂ : 2 ≤ i) where
-        pub behind-front : holds v xs n (i - 2) ≡ true → i - 1 ≡ slotBehind w v xs n i
+        pub behind-front : holds v xs (i - 2) ≡ true → i - 1 ≡ slotBehind w v xs i
         unfolding slotBehind
         behind-front h = sym (simp (tests, h₁, h))
 
-        pub behind-other : holds v xs n (i - 2) ≡ false → halved w v xs 0 n ≡ slotBehind w v xs n i
+        pub behind-other : holds v xs (i - 2) ≡ false → halved w v xs 0 (length xs) ≡ slotBehind w v xs i
         unfolding slotBehind
         behind-other h = sym (simp (tests, h₁, h))
 
 -- ---- a slot that is looked at
 
-module _ (v : ℕ) (xs : List ℕ) (n i : ℕ) where
-  pub holds-past : n ≤ i → false ≡ holds v xs n i
+module _ (v : ℕ) (xs : List ℕ) (i : ℕ) where
+  pub holds-past : length xs ≤ i → false ≡ holds v xs i
   unfolding holds
   holds-past h = sym (simp tests)
 
-  pub holds-is : i < n → eqb (getD xs i 0) v ≡ holds v xs n i
+  pub holds-is : i < length xs → eqb (getD xs i 0) v ≡ holds v xs i
   unfolding holds
   holds-is h = sym (simp tests)
 
-  -- a slot that holds v is one of the n, and v stands there
-  pub holds-at : holds v xs n i ≡ true → (i < n) × (getD xs i 0 ≡ v)
+  -- a slot that holds v is one of the list, and v stands there
+  pub holds-at : holds v xs i ≡ true → (i < length xs) × (getD xs i 0 ≡ v)
   unfolding holds
   holds-at =
-      by-cases (λ (t : Bool). t ≡ true → (i < n) × (getD xs i 0 ≡ v)) (leb n i) (λ f q. let z : _≡_ {A = ℕ} 0 1 = cc in absurd (omega arith))
-      (λ f q. (leb-false n i f, eqb-true (getD xs i 0) v q))
+      by-cases (λ (t : Bool). t ≡ true → (i < length xs) × (getD xs i 0 ≡ v)) (leb (length xs) i) (λ f q. let z : _≡_ {A = ℕ} 0 1 = cc in absurd (omega arith))
+      (λ f q. (leb-false (length xs) i f, eqb-true (getD xs i 0) v q))
 
 -- ---- the loop of `all_found`: vs are still to be found, and i is the slot to look at first
 
-module _ (w : ℕ → ℕ) (xs : List ℕ) (n i : ℕ) (vs : List ℕ) where
-  pub all-end : [] ≡ vs → true ≡ allFound w xs n i vs
+module _ (w : ℕ → ℕ) (xs : List ℕ) (i : ℕ) (vs : List ℕ) where
+  pub all-end : [] ≡ vs → true ≡ allFound w xs i vs
   unfolding allFound
-  all-end e = ap (allFound w xs n i) e
+  all-end e = ap (allFound w xs i) e
 
-  module _ (v : ℕ) (us : List ℕ) (e : v ∷ us ≡ vs) (j : ℕ) (f : j ≡ slotBehind w v xs n i) where
-    all-step : cond (eqb j 0) false (allFound w xs n j us) ≡ allFound w xs n i vs
+  module _ (v : ℕ) (us : List ℕ) (e : v ∷ us ≡ vs) (j : ℕ) (f : j ≡ slotBehind w v xs i) where
+    all-step : cond (eqb j 0) false (allFound w xs j us) ≡ allFound w xs i vs
     unfolding allFound
-    all-step = ap (λ k. cond (eqb k 0) false (allFound w xs n k us)) f ∙ ap (allFound w xs n i) e
+    all-step = ap (λ k. cond (eqb k 0) false (allFound w xs k us)) f ∙ ap (allFound w xs i) e
 
-    pub all-on : (j ≡ 0 → ⊥) → allFound w xs n j us ≡ allFound w xs n i vs
+    pub all-on : (j ≡ 0 → ⊥) → allFound w xs j us ≡ allFound w xs i vs
     all-on h = sym (simp tests) ∙ all-step
 
-    pub all-missed : j ≡ 0 → false ≡ allFound w xs n i vs
+    pub all-missed : j ≡ 0 → false ≡ allFound w xs i vs
     all-missed h = sym (simp tests) ∙ all-step
 
 -- ---- the loop of `comes_to`, on an answer of `sub_at`
@@ -179,6 +170,6 @@ module _ (rule : ℕ → Sort) (s v : List ℕ) (p : ℕ) where
       whole-elsewhere h = let f = sym h in sym (simp (tests, f)) ∙ ap (wholeIn rule s v p) e
 
       module _ (h₂ : true ≡ comesTo rule s p) where
-        pub whole-is : (t : Bool) → t ≡ allFound (rank s) v n 0 (startsFrom rule s 0) → cond t n 0 ≡ wholeList rule s v p
+        pub whole-is : (t : Bool) → t ≡ allFound (rank s) (take n v) 0 (startsFrom rule s 0) → cond t n 0 ≡ wholeList rule s v p
         unfolding wholeList wholeIn
         whole-is t h = let f = sym h₂ in ap (λ (x : Bool). cond x n 0) h ∙ sym (simp (tests, f)) ∙ ap (wholeIn rule s v p) e

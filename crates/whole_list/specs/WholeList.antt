@@ -5,7 +5,7 @@
 use Prim.Native.Nat.{ℕ, zero, suc, _+_, _-_, _/_}
 use mathlib.Core.List.{List, [], _∷_}
 use mathlib.Core.Bool.{Bool, true, false, cond}
-use lib.ListN.{length, getD}
+use lib.ListN.{length, getD, take}
 use lib.Dec.{ltb, leb, eqb}
 use Rattle.walk.specs.Listing.{Listing, more, ends, fails, Reply, gave, nothing, refused}
 use Rattle.refusal.specs.Told.{Told}
@@ -34,20 +34,20 @@ halvedIn w v xs (suc k) a e = lookAt w v xs (halvedIn w v xs k) a e
 unfoldable pub halved : (ℕ → ℕ) → ℕ → List ℕ → ℕ → ℕ → ℕ
 halved w v xs a e = halvedIn w v xs (suc (e - a)) a e
 
--- is v in slot i, one of the first n?
-unfoldable pub holds : ℕ → List ℕ → ℕ → ℕ → Bool
-holds v xs n i = cond (leb n i) false (eqb (getD xs i 0) v)
+-- does slot i hold v?
+unfoldable pub holds : ℕ → List ℕ → ℕ → Bool
+holds v xs i = cond (leb (length xs) i) false (eqb (getD xs i 0) v)
 
--- v in slot i, or in that two before it, or else found by halving among the first n
-unfoldable pub slotBehind : (ℕ → ℕ) → ℕ → List ℕ → ℕ → ℕ → ℕ
-slotBehind w v xs n i =
-    cond (holds v xs n i) (i + 1)
-    (cond (leb 2 i) (cond (holds v xs n (i - 2)) (i - 1) (halved w v xs 0 n)) (halved w v xs 0 n))
+-- v in slot i, or in that two before it, or else found by halving
+unfoldable pub slotBehind : (ℕ → ℕ) → ℕ → List ℕ → ℕ → ℕ
+slotBehind w v xs i =
+    cond (holds v xs i) (i + 1)
+    (cond (leb 2 i) (cond (holds v xs (i - 2)) (i - 1) (halved w v xs 0 (length xs))) (halved w v xs 0 (length xs)))
 
 -- each of them found so, i being the place behind the slot found last: the slots on both sides of that one are looked at first
-unfoldable pub allFound : (ℕ → ℕ) → List ℕ → ℕ → ℕ → List ℕ → Bool
-allFound w xs n i [] = true
-allFound w xs n i (v ∷ vs) = cond (eqb (slotBehind w v xs n i) 0) false (allFound w xs n (slotBehind w v xs n i) vs)
+unfoldable pub allFound : (ℕ → ℕ) → List ℕ → ℕ → List ℕ → Bool
+allFound w xs i [] = true
+allFound w xs i (v ∷ vs) = cond (eqb (slotBehind w v xs i) 0) false (allFound w xs (slotBehind w v xs i) vs)
 
 -- does a walk over the subsections that stands at p come to q?
 unfoldable pub comesBy : ℕ → ℕ → Listing Sub Told → Bool
@@ -62,7 +62,7 @@ comesTo rule s q = comesBy q 0 (subsFrom rule s 0)
 unfoldable pub wholeIn : (ℕ → Sort) → List ℕ → List ℕ → ℕ → Reply ℕ Told → ℕ
 wholeIn rule s v p (gave n) =
     cond (ltb (length v) n) 0
-    (cond (comesTo rule s p) (cond (allFound (rank s) v n 0 (startsFrom rule s 0)) n 0) 0)
+    (cond (comesTo rule s p) (cond (allFound (rank s) (take n v) 0 (startsFrom rule s 0)) n 0) 0)
 wholeIn rule s v p nothing = 0
 wholeIn rule s v p (refused t) = 0
 

@@ -31,45 +31,43 @@ use Rattle.whole_list.specs.StepLaws.{holds-at}
 use Rattle.whole_list.specs.MemberLaws.{In, in-at, each-in, Apart, nothing-else}
 use Rattle.whole_list.specs.PlacesLaws.{First, Begins, begins, comes-finds}
 
--- ---- what is found stands among the n slots
+-- ---- what is found stands in the list
 
-module _ (w : ℕ → ℕ) (xs : List ℕ) (n : ℕ) (room : n ≤ length xs) where
-  slot-in : (v i : ℕ) → i < n → getD xs i 0 ≡ v → In v (take n xs)
-  slot-in v i h e =
-      let l : length (take n xs) ≡ n = length-take-le n xs room in
-      subst (λ x. In x (take n xs)) (getD-take n xs i 0 h ∙ e) (in-at (take n xs) i (omega arith))
+module _ (w : ℕ → ℕ) (xs : List ℕ) where
+  slot-in : (v i : ℕ) → i < length xs → getD xs i 0 ≡ v → In v xs
+  slot-in v i h e = subst (λ x. In x xs) e (in-at xs i h)
 
-  held-in : (v i : ℕ) → holds v xs n i ≡ true → In v (take n xs)
-  held-in v i e = let h = holds-at v xs n i e in slot-in v i (h .0) (h .1)
+  held-in : (v i : ℕ) → holds v xs i ≡ true → In v xs
+  held-in v i e = let h = holds-at v xs i e in slot-in v i (h .0) (h .1)
 
-  halved-in : (v k a e : ℕ) → e ≤ n → 0 < halvedIn w v xs k a e → In v (take n xs)
+  halved-in : (v k a e : ℕ) → e ≤ length xs → 0 < halvedIn w v xs k a e → In v xs
   unfolding halvedIn lookAt
   halved-in v zero a e h = λ q. absurd (omega arith)
   halved-in v (suc k) a e h =
       let m = middle a e in
-      by-cases (λ (r : ℕ). 0 < r → In v (take n xs)) (leb e a) (λ f q. absurd (omega arith))
+      by-cases (λ (r : ℕ). 0 < r → In v xs) (leb e a) (λ f q. absurd (omega arith))
       (λ f. let l : a < e = leb-false e a f in
-      by-cases (λ (r : ℕ). 0 < r → In v (take n xs)) (eqb (getD xs m 0) v) (λ g q. slot-in v m (omega arith) (eqb-true (getD xs m 0) v g))
-      (λ g. by-cases (λ (r : ℕ). 0 < r → In v (take n xs)) (ltb (w (getD xs m 0)) (w v))
+      by-cases (λ (r : ℕ). 0 < r → In v xs) (eqb (getD xs m 0) v) (λ g q. slot-in v m (omega arith) (eqb-true (getD xs m 0) v g))
+      (λ g. by-cases (λ (r : ℕ). 0 < r → In v xs) (ltb (w (getD xs m 0)) (w v))
       (λ d. halved-in v k (m + 1) e h)
       (λ d. halved-in v k a m (omega arith))))
 
-  behind-in : (v i : ℕ) → 0 < slotBehind w v xs n i → In v (take n xs)
+  behind-in : (v i : ℕ) → 0 < slotBehind w v xs i → In v xs
   unfolding slotBehind halved
   behind-in v i =
-      let far = halved-in v (suc (n - 0)) 0 n (omega arith) in
-      by-cases (λ (r : ℕ). 0 < r → In v (take n xs)) (holds v xs n i) (λ f q. held-in v i f)
-      (λ f. by-cases (λ (r : ℕ). 0 < r → In v (take n xs)) (leb 2 i)
-      (λ g. by-cases (λ (r : ℕ). 0 < r → In v (take n xs)) (holds v xs n (i - 2)) (λ d q. held-in v (i - 2) d) (λ d. far))
+      let far = halved-in v (suc (length xs - 0)) 0 (length xs) (omega arith) in
+      by-cases (λ (r : ℕ). 0 < r → In v xs) (holds v xs i) (λ f q. held-in v i f)
+      (λ f. by-cases (λ (r : ℕ). 0 < r → In v xs) (leb 2 i)
+      (λ g. by-cases (λ (r : ℕ). 0 < r → In v xs) (holds v xs (i - 2)) (λ d q. held-in v (i - 2) d) (λ d. far))
       (λ g. far))
 
-  all-in : (i : ℕ) (vs : List ℕ) → allFound w xs n i vs ≡ true → Each (λ v. In v (take n xs)) vs
+  all-in : (i : ℕ) (vs : List ℕ) → allFound w xs i vs ≡ true → Each (λ v. In v xs) vs
   unfolding allFound
   all-in i [] = λ q. tt
   all-in i (v ∷ vs) =
-      by-cases (λ (t : Bool). t ≡ true → Each (λ x. In x (take n xs)) (v ∷ vs)) (eqb (slotBehind w v xs n i) 0)
+      by-cases (λ (t : Bool). t ≡ true → Each (λ x. In x xs) (v ∷ vs)) (eqb (slotBehind w v xs i) 0)
       (λ e q. let z : _≡_ {A = ℕ} 0 1 = cc in absurd (omega arith))
-      (λ e q. (behind-in v i (omega (arith, eqb-false (slotBehind w v xs n i) 0 e)), all-in (slotBehind w v xs n i) vs q))
+      (λ e q. (behind-in v i (omega (arith, eqb-false (slotBehind w v xs i) 0 e)), all-in (slotBehind w v xs i) vs q))
 
 -- ---- the starts of line bodies are told apart
 
@@ -88,14 +86,14 @@ module _ (rule : ℕ → Sort) (s v : List ℕ) (p : ℕ) where
     counted : gave n ≡ countLines rule s
     room : n ≤ length v
     place : comesTo rule s p ≡ true
-    all : allFound (rank s) v n 0 (startsFrom rule s 0) ≡ true
+    all : allFound (rank s) (take n v) 0 (startsFrom rule s 0) ≡ true
 
   passed-in : (m : ℕ) (x : Reply ℕ Told) → x ≡ countLines rule s → m < wholeIn rule s v p x → Passed (wholeIn rule s v p x)
   unfolding wholeIn
   passed-in m (gave n) e =
       by-cases (λ (k : ℕ). m < k → Passed k) (ltb (length v) n) (λ a h. absurd (omega arith))
       (λ a. by-cases (λ (k : ℕ). m < k → Passed k) (comesTo rule s p)
-      (λ b. by-cases (λ (k : ℕ). m < k → Passed k) (allFound (rank s) v n 0 (startsFrom rule s 0))
+      (λ b. by-cases (λ (k : ℕ). m < k → Passed k) (allFound (rank s) (take n v) 0 (startsFrom rule s 0))
       (λ c h. record { counted = e; room = ltb-false (length v) n a; place = b; all = c })
       (λ c h. absurd (omega arith)))
       (λ b h. absurd (omega arith)))
@@ -124,7 +122,7 @@ module _ (rule : ℕ → Sort) (s v : List ℕ) (p : ℕ) where
       let there : In (getD (take n v) i 0) (take n v) = in-at (take n v) i (omega arith) in
       let apart = apart-of starts (ascends rule s (counted-short rule s n (w .counted)) (subsFrom rule s 0) 0 (subs-chained rule s 0)) in
       let named = nothing-else starts (take n v) apart
-      (all-in (rank s) v n (w .room) 0 starts (w .all)) (counted-starts rule s n (w .counted) ∙ sym room) (getD (take n v) i 0) there in
+      (all-in (rank s) (take n v) 0 starts (w .all)) (counted-starts rule s n (w .counted) ∙ sym room) (getD (take n v) i 0) there in
       each-in (Begins rule s (subsFrom rule s 0) 0) starts (begins rule s (subsFrom rule s 0) 0 refl) (getD v i 0)
       (subst (λ x. In x starts) (getD-take n v i 0 h) named)
 

@@ -3,74 +3,71 @@
 //
 // No answer of the library depends on the test: a list that fails it, as one that is not in order may, is walked as before.
 ghost use mathlib.Core.Path.{_≡_};
-ghost use Prim.Native.Nat.{_≤_};
 ghost use lib.ListN.{length};
 ghost use Rattle.area.specs.Kind.{ruled};
 ghost use Rattle.order.specs.Order.{startsFrom};
-ghost use Rattle.rank.specs.Rank.{rank, Weighs};
+ghost use Rattle.rank.specs.Rank.{rank};
 ghost use Rattle.whole_list.specs.WholeList.{halved, holds, slotBehind, allFound, comesTo, wholeList};
 ghost use Rattle.whole_list.specs.Begin.{goesBack, backs, tested, beginAt};
 use area::SubStep;
 use area::sub_at;
 use lines::Counted;
 use lines::count_lines;
-use rank::Weighed;
 use rank::lighter;
 use rank::weigh;
 
-// The place behind the slot that holds `start`, among those from `from` to `to`, or 0. Each look at the middle leaves a shorter span. In a list that
-// is not in order a slot may be missed. What is sought was weighed before.
-fn halved(area: &[u8], slots: &[u32], from: usize, to: usize, start: Weighed) -> usize
-    requires { ⌜ to ≤ length (now slots) ⌝ }
-    requires { ⌜ Weighs (now area) (start .slot) (start .key) (start .slot) ⌝ }
-    ensures { λ r. ⌜ r ≡ halved (rank (now (area .entry))) (start .slot) (now (slots .entry)) from to ⌝ }
+// The place behind the slot that holds `start`, or 0. Each look at the middle leaves a shorter span. In a list that is not in order a slot may be
+// missed.
+fn halved(area: &[u8], named: &[u32], start: u32) -> usize
+    ensures { λ r. ⌜ r ≡ halved (rank (now (area .entry))) start (now (named .entry)) 0 (length (now (named .entry))) ⌝ }
 {
-    if to <= from {
-        return 0;
+    let sought = weigh(area, start);
+    let mut from: usize = 0;
+    let mut to = named.len();
+    while from < to {
+        let mid = from + (to - from) / 2;
+        let at = named[mid];
+        if at == start {
+            return mid + 1;
+        }
+        if lighter(weigh(area, at), sought) {
+            from = mid + 1;
+        } else {
+            to = mid;
+        }
     }
-    let mid = from + (to - from) / 2;
-    let at = slots[mid];
-    if at == start.slot {
-        return mid + 1;
-    }
-    if lighter(weigh(area, at), start) {
-        return halved(area, slots, mid + 1, to, start);
-    }
-    halved(area, slots, from, mid, start)
+    0
 }
 
-// Does the slot at i, one of the first n, hold `start`?
-fn holds(slots: &[u32], n: usize, i: usize, start: u32) -> bool
-    requires { ⌜ n ≤ length (now slots) ⌝ }
-    ensures { λ r. ⌜ r ≡ holds start (now (slots .entry)) n i ⌝ }
+// Does the slot at i hold `start`?
+fn holds(named: &[u32], i: usize, start: u32) -> bool
+    ensures { λ r. ⌜ r ≡ holds start (now (named .entry)) i ⌝ }
 {
-    if n <= i {
+    if named.len() <= i {
         return false;
     }
-    slots[i] == start
+    named[i] == start
 }
 
-// The place behind the slot that holds `start`, among the first n slots. `next` is that behind the slot found last. The slots on both sides of that
-// one are looked at first: bodies that follow each other in the area often do so in the list, forwards or backwards.
-fn slot_behind(area: &[u8], slots: &[u32], n: usize, next: usize, start: u32) -> usize
-    requires { ⌜ n ≤ length (now slots) ⌝ }
-    ensures { λ r. ⌜ r ≡ slotBehind (rank (now (area .entry))) start (now (slots .entry)) n next ⌝ }
+// The place behind the slot that holds `start`. `next` is that behind the slot found last. The slots on both sides of that one are looked at first:
+// bodies that follow each other in the area often do so in the list, forwards or backwards.
+fn slot_behind(area: &[u8], named: &[u32], next: usize, start: u32) -> usize
+    ensures { λ r. ⌜ r ≡ slotBehind (rank (now (area .entry))) start (now (named .entry)) next ⌝ }
 {
-    if holds(slots, n, next, start) {
+    if holds(named, next, start) {
         return next + 1;
     }
     if 2 <= next {
-        if holds(slots, n, next - 2, start) {
+        if holds(named, next - 2, start) {
             return next - 1;
         }
     }
-    halved(area, slots, 0, n, weigh(area, start))
+    halved(area, named, start)
 }
 
-// Is the start of each line body found in the first n slots?
-fn all_found(area: &[u8], slots: &[u32], n: usize) -> bool
-    requires { ⌜ n ≤ length (now slots) ⌝ }
-    ensures { λ r. ⌜ r ≡ allFound (rank (now (area .entry))) (now (slots .entry)) n 0 (startsFrom ruled (now (area .entry)) 0) ⌝ }
+// Is the start of each line body found?
+fn all_found(area: &[u8], named: &[u32]) -> bool
+    ensures { λ r. ⌜ r ≡ allFound (rank (now (area .entry))) (now (named .entry)) 0 (startsFrom ruled (now (area .entry)) 0) ⌝ }
 {
     let mut behind: usize = 0;
     let mut p: usize = 0;
@@ -83,7 +80,7 @@ fn all_found(area: &[u8], slots: &[u32], n: usize) -> bool
                 next,
             } => {
                 if kind == 0xf2 {
-                    behind = slot_behind(area, slots, n, behind, start as u32);
+                    behind = slot_behind(area, named, behind, start as u32);
                     if behind == 0 {
                         return false;
                     }
@@ -138,7 +135,7 @@ pub fn whole_list(area: &[u8], slots: &[u32], scan: usize) -> usize
             if !comes_to(area, scan) {
                 return 0;
             }
-            if !all_found(area, slots, n) {
+            if !all_found(area, &slots[..n]) {
                 return 0;
             }
             n

@@ -18,11 +18,10 @@ use Rattle.whole_list.proofs.all_found.Statement.{statement}
 use Rattle.whole_list.proofs.all_found.Tie as tie
 
 abbrev Inv-loop : tie.InvT-loop
-Inv-loop area slots n behind₀ p₀ behind p =
-    allFound (rank area) slots n behind (startsFrom ruled area p) ≡ allFound (rank area) slots n 0 (startsFrom ruled area 0)
+Inv-loop area named behind₀ p₀ behind p = allFound (rank area) named behind (startsFrom ruled area p) ≡ allFound (rank area) named 0 (startsFrom ruled area 0)
 
 abbrev μ-loop : tie.MeasureT-loop
-μ-loop area slots n behind₀ p₀ behind p = length area - p
+μ-loop area named behind₀ p₀ behind p = length area - p
 
 cast-slot-behind : tie.Need-cast-slot-behind Inv-loop μ-loop
 cast-slot-behind c =
@@ -35,7 +34,7 @@ returns c =
     let f = c .before in
     let m = f .before .before .before in
     let e = ap toldStep (sym (m .kind .given .1)) ∙ m .before .before .sub-at .ensures in
-    all-missed _ _ _ _ _ _ _ (starts-line _ _ _ _ _ e (f .before .if1 .taken)) _ (f .slot-behind .ensures) (c .if2 .taken) ∙ m .before .before .before .loop .inv
+    all-missed _ _ _ _ _ _ (starts-line _ _ _ _ _ e (f .before .if1 .taken)) _ (f .slot-behind .ensures) (c .if2 .taken) ∙ m .before .before .before .loop .inv
 
 loop-less : tie.Need-loop-less Inv-loop μ-loop
 loop-less c =
@@ -48,7 +47,7 @@ loop-again c =
     let f = c .before in
     let m = f .before .before .before in
     let e = ap toldStep (sym (m .kind .given .1)) ∙ m .before .before .sub-at .ensures in
-    all-on _ _ _ _ _ _ _ (starts-line _ _ _ _ _ e (f .before .if1 .taken)) _ (f .slot-behind .ensures) (c .if2 .left) ∙ m .before .before .before .loop .inv
+    all-on _ _ _ _ _ _ (starts-line _ _ _ _ _ e (f .before .if1 .taken)) _ (f .slot-behind .ensures) (c .if2 .left) ∙ m .before .before .before .loop .inv
 
 loop-less-2 : tie.Need-loop-less-2 Inv-loop μ-loop
 loop-less-2 c =
@@ -60,17 +59,17 @@ loop-again-2 : tie.Need-loop-again-2 Inv-loop μ-loop
 loop-again-2 c =
     let m = c .before .before in
     let e = ap toldStep (sym (m .kind .given .1)) ∙ m .before .before .sub-at .ensures in
-    ap (allFound _ _ _ _) (starts-other _ _ _ _ _ e (c .if1 .left)) ∙ m .before .before .before .loop .inv
+    ap (allFound _ _ _) (starts-other _ _ _ _ _ e (c .if1 .left)) ∙ m .before .before .before .loop .inv
 
 returns-2 : tie.Need-returns-2 Inv-loop μ-loop
 returns-2 c =
     let h = c .before .before in
-    all-end _ _ _ _ _ (starts-end _ _ _ (ap toldStep (sym (c .enum-told .given .1)) ∙ h .sub-at .ensures)) ∙ h .before .loop .inv
+    all-end _ _ _ _ (starts-end _ _ _ (ap toldStep (sym (c .enum-told .given .1)) ∙ h .sub-at .ensures)) ∙ h .before .loop .inv
 
 returns-3 : tie.Need-returns-3 Inv-loop μ-loop
 returns-3 c =
     let h = c .before .before in
-    all-end _ _ _ _ _ (starts-refused _ _ _ _ (ap toldStep (sym (c .enum-told2 .given .1)) ∙ h .sub-at .ensures)) ∙ h .before .loop .inv
+    all-end _ _ _ _ (starts-refused _ _ _ _ (ap toldStep (sym (c .enum-told2 .given .1)) ∙ h .sub-at .ensures)) ∙ h .before .loop .inv
 
 pub all-found-spec : {M : Type 1} → statement M
 all-found-spec =

@@ -9,7 +9,7 @@ pub holds-spec : {M : Type 1} → statement M
 holds-spec =
     tie.close
     (tie.spec
-    (λ c. holds-past _ _ _ _ (c .if1 .taken))
+    (λ c. holds-past _ _ _ (c .if1 .taken))
     (λ c. search needs)
     (λ c. search needs)
-    (λ c. holds-is _ _ _ _ (c .before .if1 .left)))
+    (λ c. holds-is _ _ _ (c .before .if1 .left)))

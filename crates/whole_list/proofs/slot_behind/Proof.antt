@@ -4,32 +4,28 @@ use borrow.Author.Needs.{needs}
 use mathlib.Core.Path.{sym, _∙_}
 use mathlib.Core.Logic.{⊎-elim}
 use native.Mathlib.Omega.{arith}
-use Rattle.whole_list.specs.StepLaws.{holds-at, behind-next, behind-begin, behind-front, behind-other, weighed, halved-weighed}
+use Rattle.whole_list.specs.StepLaws.{holds-at, behind-next, behind-begin, behind-front, behind-other}
 use Rattle.whole_list.proofs.slot_behind.Statement.{statement}
 use Rattle.whole_list.proofs.slot_behind.Tie as tie
 
 add-result : tie.Need-add-result
-add-result c = omega (arith, holds-at _ _ _ _ (sym (c .before .holds .ensures) ∙ c .if1 .taken))
+add-result c = omega (arith, holds-at _ _ _ (sym (c .before .holds .ensures) ∙ c .if1 .taken))
 
 returns : tie.Need-returns
-returns c = behind-next _ _ _ _ _ (sym (c .before .holds .ensures) ∙ c .if1 .taken)
+returns c = behind-next _ _ _ _ (sym (c .before .holds .ensures) ∙ c .if1 .taken)
 
 returns-2 : tie.Need-returns-2
 returns-2 c =
     let f = c .before .before .before in
-    behind-front _ _ _ _ _ (sym (f .before .holds .ensures) ∙ f .if1 .left) (c .before .before .if2 .taken) (sym (c .before .holds2 .ensures) ∙ c .if3 .taken)
-
-halved-requires : tie.Need-halved-requires
-halved-requires c κs = (omega arith, weighed _ _ _ _ (c .weigh .ensures))
+    behind-front _ _ _ _ (sym (f .before .holds .ensures) ∙ f .if1 .left) (c .before .before .if2 .taken) (sym (c .before .holds2 .ensures) ∙ c .if3 .taken)
 
 returns-3 : tie.Need-returns-3
 returns-3 c =
-    let f = c .before .before .before in
+    let f = c .before .before in
     let other = sym (f .before .holds .ensures) ∙ f .if1 .left in
     c .halved .ensures
-    ∙ halved-weighed _ _ _ _ (c .before .weigh .ensures) _ _ _
-    ∙ ⊎-elim (λ w. behind-other _ _ _ _ _ other (w .0 .taken) (sym (w .1 .ensures) ∙ w .2 .left)) (λ w. behind-begin _ _ _ _ _ other (w .left))
-    (c .before .before .if2 .came)
+    ∙ ⊎-elim (λ w. behind-other _ _ _ _ other (w .0 .taken) (sym (w .1 .ensures) ∙ w .2 .left)) (λ w. behind-begin _ _ _ _ other (w .left))
+    (c .before .if2 .came)
 
 pub slot-behind-spec : {M : Type 1} → statement M
 slot-behind-spec =
@@ -42,5 +38,4 @@ slot-behind-spec =
     (λ c. search needs)
     returns-2
     (λ c κs. search needs)
-    halved-requires
     returns-3)

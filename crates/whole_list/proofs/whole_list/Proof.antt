@@ -3,6 +3,8 @@
 use borrow.Author.Needs.{needs}
 use mathlib.Core.Path.{sym, ap, _∙_}
 use mathlib.Core.Bool.{true, false}
+use lib.Seq.{length-take-le}
+use native.Mathlib.Omega.{arith}
 use borrow.Author.Tests.{not-true, not-false}
 use Rattle.lines.specs.Told.{toldCounted}
 use Rattle.whole_list.specs.StepLaws.{whole-refused, whole-short, whole-elsewhere, whole-is}
@@ -20,16 +22,19 @@ returns-2 c =
     whole-elsewhere _ _ _ _ _ (ap toldCounted (sym (m .n .given .1)) ∙ m .before .before .count-lines .ensures) (c .before .before .if1 .left)
     (sym (not-true _ (c .if2 .taken)) ∙ c .before .comes-to .ensures)
 
+slice-aggregate-all-found : tie.Need-slice-aggregate-all-found
+slice-aggregate-all-found c = sym (length-take-le _ _ (omega arith))
+
 returns-3 : tie.Need-returns-3
 returns-3 c =
-    let f = c .before .before in
+    let f = c .before .before .before in
     let m = f .before .before .before .before in
     whole-is _ _ _ _ _ (ap toldCounted (sym (m .n .given .1)) ∙ m .before .before .count-lines .ensures) (f .before .before .if1 .left)
     (sym (not-false _ (f .if2 .left)) ∙ f .before .comes-to .ensures) false (sym (not-true _ (c .if3 .taken)) ∙ c .before .all-found .ensures)
 
 returns-4 : tie.Need-returns-4
 returns-4 c =
-    let f = c .before .before in
+    let f = c .before .before .before in
     let m = f .before .before .before .before in
     whole-is _ _ _ _ _ (ap toldCounted (sym (m .n .given .1)) ∙ m .before .before .count-lines .ensures) (f .before .before .if1 .left)
     (sym (not-false _ (f .if2 .left)) ∙ f .before .comes-to .ensures) true (sym (not-false _ (c .if3 .left)) ∙ c .before .all-found .ensures)
@@ -46,6 +51,7 @@ whole-list-spec =
     returns
     (λ c κs. search needs)
     returns-2
+    slice-aggregate-all-found
     (λ c κs. search needs)
     returns-3
     (λ c. search needs)
