@@ -14,7 +14,7 @@ use Rattle.area.specs.Kind.{Sort}
 use Rattle.area.specs.Subs.{Sub, subsFrom, stepAt}
 use Rattle.area.specs.SubsLaws.{sub-next, sub-end, sub-refused}
 use Rattle.lines.specs.Lines.{countLines}
-use Rattle.rank.specs.Rank.{rank}
+use Rattle.rank.specs.Rank.{rank, inside}
 use Rattle.order.specs.Order.{startsFrom}
 use Rattle.whole_list.specs.WholeList.{middle, lookAt, halvedIn, halved, holds, slotBehind, allFound, comesBy, comesTo, wholeIn, wholeList}
 
@@ -170,6 +170,14 @@ module _ (rule : ℕ → Sort) (s v : List ℕ) (p : ℕ) where
       whole-elsewhere h = let f = sym h in sym (simp (tests, f)) ∙ ap (wholeIn rule s v p) e
 
       module _ (h₂ : true ≡ comesTo rule s p) where
-        pub whole-is : (t : Bool) → t ≡ allFound (rank s) (take n v) 0 (startsFrom rule s 0) → cond t n 0 ≡ wholeList rule s v p
+        pub whole-outside : false ≡ inside s (take n v) → 0 ≡ wholeList rule s v p
         unfolding wholeList wholeIn
-        whole-is t h = let f = sym h₂ in ap (λ (x : Bool). cond x n 0) h ∙ sym (simp (tests, f)) ∙ ap (wholeIn rule s v p) e
+        whole-outside h = let f = sym h₂ in let g = sym h in sym (simp (tests, f, g)) ∙ ap (wholeIn rule s v p) e
+
+        pub whole-is : true ≡ inside s (take n v) → (t : Bool) → t ≡ allFound (rank s) (take n v) 0 (startsFrom rule s 0)
+            → cond t n 0 ≡ wholeList rule s v p
+        unfolding wholeList wholeIn
+        whole-is h₃ t h =
+            let f = sym h₂ in
+            let g = sym h₃ in
+            ap (λ (x : Bool). cond x n 0) h ∙ sym (simp (tests, f, g)) ∙ ap (wholeIn rule s v p) e

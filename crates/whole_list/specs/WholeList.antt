@@ -12,7 +12,7 @@ use Rattle.refusal.specs.Told.{Told}
 use Rattle.area.specs.Kind.{Sort}
 use Rattle.area.specs.Subs.{Sub, subsFrom}
 use Rattle.lines.specs.Lines.{countLines}
-use Rattle.rank.specs.Rank.{rank}
+use Rattle.rank.specs.Rank.{rank, inside}
 use Rattle.order.specs.Order.{startsFrom}
 
 -- a look for v at the middle of the slots from a to e, w being their order, and then f of the half that is left. Where v is found the answer is the
@@ -58,11 +58,13 @@ comesBy q p (fails t) = eqb p q
 abbrev pub comesTo : (ℕ → Sort) → List ℕ → ℕ → Bool
 comesTo rule s q = comesBy q 0 (subsFrom rule s 0)
 
--- how many slots a whole list v takes, or 0: each line body is found among them, and p is a place that a walk comes to
+-- how many slots a whole list v takes, or 0: a key stands in the area at each of them, each line body is found among them, and p is a place that a
+-- walk comes to
 unfoldable pub wholeIn : (ℕ → Sort) → List ℕ → List ℕ → ℕ → Reply ℕ Told → ℕ
 wholeIn rule s v p (gave n) =
     cond (ltb (length v) n) 0
-    (cond (comesTo rule s p) (cond (allFound (rank s) (take n v) 0 (startsFrom rule s 0)) n 0) 0)
+    (cond (comesTo rule s p)
+    (cond (inside s (take n v)) (cond (allFound (rank s) (take n v) 0 (startsFrom rule s 0)) n 0) 0) 0)
 wholeIn rule s v p nothing = 0
 wholeIn rule s v p (refused t) = 0
 

@@ -21,7 +21,7 @@ use Rattle.lines.specs.LinesLaws.{counted-short}
 use Rattle.lines.specs.Slots.{slotAt}
 use Rattle.lines.specs.SlotsLaws.{Scans, slot-same}
 use Rattle.rank.specs.SortLaws.{Each}
-use Rattle.rank.specs.Rank.{rank}
+use Rattle.rank.specs.Rank.{rank, inside}
 use Rattle.rank.specs.RankLaws.{After, Ascends}
 use Rattle.order.specs.Order.{startsFrom}
 use Rattle.order.specs.OrderLaws.{counted-starts}
@@ -93,9 +93,11 @@ module _ (rule : ℕ → Sort) (s v : List ℕ) (p : ℕ) where
   passed-in m (gave n) e =
       by-cases (λ (k : ℕ). m < k → Passed k) (ltb (length v) n) (λ a h. absurd (omega arith))
       (λ a. by-cases (λ (k : ℕ). m < k → Passed k) (comesTo rule s p)
-      (λ b. by-cases (λ (k : ℕ). m < k → Passed k) (allFound (rank s) (take n v) 0 (startsFrom rule s 0))
+      (λ b. by-cases (λ (k : ℕ). m < k → Passed k) (inside s (take n v))
+      (λ d. by-cases (λ (k : ℕ). m < k → Passed k) (allFound (rank s) (take n v) 0 (startsFrom rule s 0))
       (λ c h. record { counted = e; room = ltb-false (length v) n a; place = b; all = c })
       (λ c h. absurd (omega arith)))
+      (λ d h. absurd (omega arith)))
       (λ b h. absurd (omega arith)))
   passed-in m nothing e = λ h. absurd (omega arith)
   passed-in m (refused t) e = λ h. absurd (omega arith)

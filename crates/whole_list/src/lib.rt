@@ -3,22 +3,38 @@
 //
 // No answer of the library depends on the test: a list that fails it, as one that is not in order may, is walked as before.
 ghost use mathlib.Core.Path.{_≡_};
+ghost use Prim.Native.Nat.{_+_, _≤_};
 ghost use lib.ListN.{length};
+ghost use lib.Dec.{ltb};
 ghost use Rattle.area.specs.Kind.{ruled};
 ghost use Rattle.order.specs.Order.{startsFrom};
-ghost use Rattle.rank.specs.Rank.{rank};
+ghost use Rattle.rank.specs.Rank.{rank, weight, Inside};
 ghost use Rattle.whole_list.specs.WholeList.{halved, holds, slotBehind, allFound, comesTo, wholeList};
 ghost use Rattle.whole_list.specs.Begin.{goesBack, backs, tested, beginAt};
 use area::SubStep;
 use area::sub_at;
 use lines::Counted;
 use lines::count_lines;
+use rank::Weighed;
+use rank::head_key;
+use rank::inside;
 use rank::lighter;
 use rank::weigh;
+
+// Does p come before q? The key at p is read without a test.
+fn earlier(area: &[u8], p: u32, q: Weighed) -> bool
+    requires { ⌜ p + 6 ≤ length (now area) ⌝ }
+    ensures { λ r. ⌜ r ≡ ltb (rank (now (area .entry)) p) (weight (q .key) (q .slot)) ⌝ }
+{
+    let at = p as usize;
+    let key = head_key(&area[at..at + 6]);
+    lighter(Weighed { key, slot: p }, q)
+}
 
 // The place behind the slot that holds `start`, or 0. Each look at the middle leaves a shorter span. In a list that is not in order a slot may be
 // missed.
 fn halved(area: &[u8], named: &[u32], start: u32) -> usize
+    requires { ⌜ Inside (now area) (now named) ⌝ }
     ensures { λ r. ⌜ r ≡ halved (rank (now (area .entry))) start (now (named .entry)) 0 (length (now (named .entry))) ⌝ }
 {
     let sought = weigh(area, start);
@@ -30,7 +46,7 @@ fn halved(area: &[u8], named: &[u32], start: u32) -> usize
         if at == start {
             return mid + 1;
         }
-        if lighter(weigh(area, at), sought) {
+        if earlier(area, at, sought) {
             from = mid + 1;
         } else {
             to = mid;
@@ -52,6 +68,7 @@ fn holds(named: &[u32], i: usize, start: u32) -> bool
 // The place behind the slot that holds `start`. `next` is that behind the slot found last. The slots on both sides of that one are looked at first:
 // bodies that follow each other in the area often do so in the list, forwards or backwards.
 fn slot_behind(area: &[u8], named: &[u32], next: usize, start: u32) -> usize
+    requires { ⌜ Inside (now area) (now named) ⌝ }
     ensures { λ r. ⌜ r ≡ slotBehind (rank (now (area .entry))) start (now (named .entry)) next ⌝ }
 {
     if holds(named, next, start) {
@@ -67,6 +84,7 @@ fn slot_behind(area: &[u8], named: &[u32], next: usize, start: u32) -> usize
 
 // Is the start of each line body found?
 fn all_found(area: &[u8], named: &[u32]) -> bool
+    requires { ⌜ Inside (now area) (now named) ⌝ }
     ensures { λ r. ⌜ r ≡ allFound (rank (now (area .entry))) (now (named .entry)) 0 (startsFrom ruled (now (area .entry)) 0) ⌝ }
 {
     let mut behind: usize = 0;
@@ -135,7 +153,11 @@ pub fn whole_list(area: &[u8], slots: &[u32], scan: usize) -> usize
             if !comes_to(area, scan) {
                 return 0;
             }
-            if !all_found(area, &slots[..n]) {
+            let named = &slots[..n];
+            if !inside(area, named) {
+                return 0;
+            }
+            if !all_found(area, named) {
                 return 0;
             }
             n

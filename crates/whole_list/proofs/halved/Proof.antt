@@ -3,12 +3,13 @@
 -- Assumes nothing.
 use borrow.Author.Needs.{needs}
 use Prim.Native.Nat.{_-_, _≤_}
-use mathlib.Core.Path.{_≡_, refl, _∙_}
+use mathlib.Core.Path.{_≡_, refl, sym, ap, _∙_}
 use native.Mathlib.Omega.{arith}
 use lib.ListN.{length}
+use lib.Dec.{ltb}
 use Rattle.rank.specs.Rank.{rank}
-use Rattle.rank.specs.RankLaws.{lighter-is}
-use Rattle.whole_list.specs.WholeList.{halved}
+use Rattle.rank.specs.RankLaws.{weighs-rank}
+use Rattle.whole_list.specs.WholeList.{middle, halved}
 use Rattle.whole_list.specs.StepLaws.{halved-none, halved-here, halved-back, halved-front}
 use Rattle.whole_list.proofs.halved.Statement.{statement}
 use Rattle.whole_list.proofs.halved.Tie as tie
@@ -23,18 +24,23 @@ abbrev μ-loop : tie.MeasureT-loop
 returns : tie.Need-returns Inv-loop μ-loop
 returns c = halved-here _ _ _ _ _ (c .before .before .loop-test .taken) (c .if1 .taken) ∙ c .before .before .before .loop .inv .1
 
+earlier-requires : tie.Need-earlier-requires Inv-loop μ-loop
+earlier-requires c κs =
+    let l = c .before .before .before in
+    l .before .before .before .before .pre (middle (l .loop .from) (l .loop .to)) (omega arith)
+
 loop-again : tie.Need-loop-again Inv-loop μ-loop
 loop-again c =
-    let f = c .before .before .before in
+    let f = c .before .before in
     let l = f .before .before .before in
-    let e = lighter-is _ _ _ _ _ _ _ _ _ (c .before .before .weigh2 .ensures) (l .before .weigh .ensures) (c .before .lighter .ensures) (c .if2 .taken) in
+    let e = ap (ltb _) (sym (weighs-rank _ _ _ _ (l .before .weigh .ensures))) ∙ sym (c .before .earlier .ensures) ∙ c .if2 .taken in
     (omega arith, halved-back _ _ _ _ _ (f .before .before .loop-test .taken) (f .if1 .left) e ∙ l .loop .inv .1)
 
 loop-again-2 : tie.Need-loop-again-2 Inv-loop μ-loop
 loop-again-2 c =
-    let f = c .before .before .before in
+    let f = c .before .before in
     let l = f .before .before .before in
-    let e = lighter-is _ _ _ _ _ _ _ _ _ (c .before .before .weigh2 .ensures) (l .before .weigh .ensures) (c .before .lighter .ensures) (c .if2 .left) in
+    let e = ap (ltb _) (sym (weighs-rank _ _ _ _ (l .before .weigh .ensures))) ∙ sym (c .before .earlier .ensures) ∙ c .if2 .left in
     (omega arith, halved-front _ _ _ _ _ (f .before .before .loop-test .taken) (f .if1 .left) e ∙ l .loop .inv .1)
 
 pub halved-spec : {M : Type 1} → statement M
@@ -51,8 +57,7 @@ halved-spec =
     (λ c. search needs)
     (λ c. search needs)
     returns
-    (λ c κs. search needs)
-    (λ c κs. search needs)
+    earlier-requires
     (λ c. search needs)
     (λ c. search needs)
     loop-again

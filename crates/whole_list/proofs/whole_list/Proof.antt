@@ -7,7 +7,8 @@ use lib.Seq.{length-take-le}
 use native.Mathlib.Omega.{arith}
 use borrow.Author.Tests.{not-true, not-false}
 use Rattle.lines.specs.Told.{toldCounted}
-use Rattle.whole_list.specs.StepLaws.{whole-refused, whole-short, whole-elsewhere, whole-is}
+use Rattle.rank.specs.RankLaws.{inside-each}
+use Rattle.whole_list.specs.StepLaws.{whole-refused, whole-short, whole-elsewhere, whole-outside, whole-is}
 use Rattle.whole_list.proofs.whole_list.Statement.{statement}
 use Rattle.whole_list.proofs.whole_list.Tie as tie
 
@@ -22,25 +23,39 @@ returns-2 c =
     whole-elsewhere _ _ _ _ _ (ap toldCounted (sym (m .n .given .1)) ∙ m .before .before .count-lines .ensures) (c .before .before .if1 .left)
     (sym (not-true _ (c .if2 .taken)) ∙ c .before .comes-to .ensures)
 
-slice-aggregate-all-found : tie.Need-slice-aggregate-all-found
-slice-aggregate-all-found c = sym (length-take-le _ _ (omega arith))
+slice-aggregate-named : tie.Need-slice-aggregate-named
+slice-aggregate-named c = sym (length-take-le _ _ (omega arith))
 
 returns-3 : tie.Need-returns-3
 returns-3 c =
     let f = c .before .before .before in
     let m = f .before .before .before .before in
-    whole-is _ _ _ _ _ (ap toldCounted (sym (m .n .given .1)) ∙ m .before .before .count-lines .ensures) (f .before .before .if1 .left)
-    (sym (not-false _ (f .if2 .left)) ∙ f .before .comes-to .ensures) false (sym (not-true _ (c .if3 .taken)) ∙ c .before .all-found .ensures)
+    whole-outside _ _ _ _ _ (ap toldCounted (sym (m .n .given .1)) ∙ m .before .before .count-lines .ensures) (f .before .before .if1 .left)
+    (sym (not-false _ (f .if2 .left)) ∙ f .before .comes-to .ensures) (sym (not-true _ (c .if3 .taken)) ∙ c .before .inside .ensures)
+
+all-found-requires : tie.Need-all-found-requires
+all-found-requires c κs = inside-each _ _ (sym (c .before .inside .ensures) ∙ not-false _ (c .if3 .left))
 
 returns-4 : tie.Need-returns-4
 returns-4 c =
-    let f = c .before .before .before in
+    let d = c .before .before in
+    let f = d .before .before .before in
     let m = f .before .before .before .before in
     whole-is _ _ _ _ _ (ap toldCounted (sym (m .n .given .1)) ∙ m .before .before .count-lines .ensures) (f .before .before .if1 .left)
-    (sym (not-false _ (f .if2 .left)) ∙ f .before .comes-to .ensures) true (sym (not-false _ (c .if3 .left)) ∙ c .before .all-found .ensures)
+    (sym (not-false _ (f .if2 .left)) ∙ f .before .comes-to .ensures) (sym (not-false _ (d .if3 .left)) ∙ d .before .inside .ensures) false
+    (sym (not-true _ (c .if4 .taken)) ∙ c .before .all-found .ensures)
 
 returns-5 : tie.Need-returns-5
-returns-5 c = whole-refused _ _ _ _ _ (ap toldCounted (sym (c .enum-told .given .1)) ∙ c .before .before .count-lines .ensures)
+returns-5 c =
+    let d = c .before .before in
+    let f = d .before .before .before in
+    let m = f .before .before .before .before in
+    whole-is _ _ _ _ _ (ap toldCounted (sym (m .n .given .1)) ∙ m .before .before .count-lines .ensures) (f .before .before .if1 .left)
+    (sym (not-false _ (f .if2 .left)) ∙ f .before .comes-to .ensures) (sym (not-false _ (d .if3 .left)) ∙ d .before .inside .ensures) true
+    (sym (not-false _ (c .if4 .left)) ∙ c .before .all-found .ensures)
+
+returns-6 : tie.Need-returns-6
+returns-6 c = whole-refused _ _ _ _ _ (ap toldCounted (sym (c .enum-told .given .1)) ∙ c .before .before .count-lines .ensures)
 
 pub whole-list-spec : {M : Type 1} → statement M
 whole-list-spec =
@@ -51,9 +66,11 @@ whole-list-spec =
     returns
     (λ c κs. search needs)
     returns-2
-    slice-aggregate-all-found
+    slice-aggregate-named
     (λ c κs. search needs)
     returns-3
-    (λ c. search needs)
+    all-found-requires
     returns-4
-    returns-5)
+    (λ c. search needs)
+    returns-5
+    returns-6)
