@@ -272,15 +272,18 @@ mod rattle {
         given(calls::c13_order_list(black_box(&i.bytes), slots, &mut out));
         black_box(&out);
     }
-    pub fn walk(i: &Input, slots: &[u32], t: &mut impl Taker) {
-        let area = black_box(i.bytes.as_slice());
+    /// The records from a walk's state on.
+    fn records(area: &[u8], slots: &[u32], state: &mut [u64], t: &mut impl Taker) {
         RECORDS.with(|records| {
             steps(
-                &mut [0; LINE_STATE + 2],
+                state,
                 |out| calls::c13_lines(area, slots, &mut records.borrow_mut(), out),
                 |out| records.borrow().chunks_exact(RECORD).take(out[LINE_STATE] as usize).for_each(|r| t.take(r)),
             )
         });
+    }
+    pub fn walk(i: &Input, slots: &[u32], t: &mut impl Taker) {
+        records(black_box(i.bytes.as_slice()), slots, &mut [0; LINE_STATE + 2], t);
     }
     /// The same, one record a call.
     pub fn steps_walk(i: &Input, slots: &[u32], t: &mut impl Taker) {
@@ -290,9 +293,9 @@ mod rattle {
     pub fn symbol(i: &Input, slots: &[u32], symbols: &[(u16, u32)], t: &mut impl Taker) {
         let area = black_box(i.bytes.as_slice());
         for (section, offset) in symbols {
-            let mut out = [0; LINE_STATE + RECORD];
+            let mut out = [0; LINE_STATE + 2];
             given(calls::c13_lines_for_symbol(area, slots, *section, *offset, &mut out));
-            steps(&mut out, |out| calls::c13_next_line(area, slots, out), |out| t.take(&out[LINE_STATE..]));
+            records(area, slots, &mut out, t);
         }
     }
     fn file(area: &[u8], words: &[u64], t: &mut impl Taker) {

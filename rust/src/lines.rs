@@ -170,13 +170,13 @@ impl<'a> LineProgram<'a> {
 
     /// All line records, by ascending section and offset of their subsections.
     pub fn lines(&self) -> LineIterator<'_> {
-        LineIterator::new(self.area, &self.slots, Ok(Walk::new()), true)
+        LineIterator::new(self.area, &self.slots, Ok(Walk::new()))
     }
 
     /// The line records of the symbol at a place: those of the subsection that starts there, or else of the last one of the section before it.
     pub fn lines_for_symbol(&self, place: PdbInternalSectionOffset) -> LineIterator<'_> {
         let walk = one(|out| calls::c13_lines_for_symbol(self.area, &self.slots, place.section, place.offset, out)).map(Walk::from);
-        LineIterator::new(self.area, &self.slots, walk, false)
+        LineIterator::new(self.area, &self.slots, walk)
     }
 
     /// The line record whose code covers a place, of the subsection that `lines_for_symbol` takes.
@@ -206,16 +206,13 @@ impl<'a> LineProgram<'a> {
 const LINES_AT_ONCE: usize = 16;
 const LINES_AT_MOST: usize = 1 << 16;
 
-/// Line records. Of all records each call is asked for twice as many as the last one, so that a list that goes back in the area often is tested seldom;
-/// those of a symbol, which need no other slot of the list, are stepped over.
+/// Line records. Each call is asked for twice as many as the last one, so that a list that goes back in the area often is tested seldom.
 #[derive(Clone, Debug)]
 pub struct LineIterator<'a> {
     area: &'a [u8],
     slots: &'a [u32],
     /// The walk, or why there is none.
-    walk: Result<Walk<{ LINE_STATE + RECORD }>, Refusal>,
-    /// Whether a call is asked for many records.
-    many: bool,
+    walk: Result<Walk<{ LINE_STATE + 2 }>, Refusal>,
     /// The records that the last call gave, in words; how many, and how many of them were taken.
     records: Vec<u64>,
     given: usize,
@@ -223,8 +220,8 @@ pub struct LineIterator<'a> {
 }
 
 impl<'a> LineIterator<'a> {
-    fn new(area: &'a [u8], slots: &'a [u32], walk: Result<Walk<{ LINE_STATE + RECORD }>, Refusal>, many: bool) -> Self {
-        LineIterator { area, slots, walk, many, records: vec![], given: 0, taken: 0 }
+    fn new(area: &'a [u8], slots: &'a [u32], walk: Result<Walk<{ LINE_STATE + 2 }>, Refusal>) -> Self {
+        LineIterator { area, slots, walk, records: vec![], given: 0, taken: 0 }
     }
 
     /// Asks for more records.
@@ -235,17 +232,9 @@ impl<'a> LineIterator<'a> {
         }
         let walk = self.walk.as_mut().ok()?;
         let (area, slots, records) = (self.area, self.slots, &mut self.records);
-        let asked = if self.many {
-            records.resize((2 * records.len()).clamp(LINES_AT_ONCE * RECORD, LINES_AT_MOST * RECORD), 0);
-            walk.next(LINE_STATE, |out| calls::c13_lines(area, slots, records, out))?.map(|count| size(count, 0))
-        } else {
-            walk.next(LINE_STATE, |out| calls::c13_next_line(area, slots, out))?.map(|record| {
-                records.clear();
-                records.extend_from_slice(record);
-                1
-            })
-        };
-        Some(asked.map(|count| (self.given, self.taken) = (count, 0)))
+        records.resize((2 * records.len()).clamp(LINES_AT_ONCE * RECORD, LINES_AT_MOST * RECORD), 0);
+        let asked = walk.next(LINE_STATE, |out| calls::c13_lines(area, slots, records, out))?;
+        Some(asked.map(|count| (self.given, self.taken) = (size(count, 0), 0)))
     }
 }
 

@@ -31,7 +31,7 @@ use Rattle.turns.specs.declared.LineWalk.{LineWalk}
 use Rattle.turns.specs.declared.LineWalk.the-variants.{New, Between, Inside}
 use Rattle.turns.specs.Turn.{LineMove, entryAt, withHeld, pastLine, holdIn, lineOf, endIn, blockOf, insideTurn, enterAt, namedOf, finishIn, betweenTurn, openOf, turnIn, turnOf}
 use Rattle.whole_list.specs.Begin.{tested, beginAt}
-use Rattle.whole_list.specs.BeginLaws.{begin-past, begin-scans, tested-right}
+use Rattle.whole_list.specs.BeginLaws.{begin-past, begin-scans, tested-right, tested-counted}
 use Rattle.many_lines.specs.Led.{scanOf, fewLeft, testedFor, withScan, ledRest, ledWalk}
 
 -- if n is not 0 it is what a test of the list answered, at some place, and the walk's place is one at which a search may begin
@@ -82,6 +82,10 @@ module _ (rule : ℕ → Sort) (s v : List ℕ) (n : ℕ) where
   -- the same as code has it: u is the walk that is led, and x what its turn tells
   pub led-turn-is : (w u : LineWalk) (x : LineMove) → Led rule s v n w → u ≡ ledWalk v n w → x ≡ turnOf rule s v u → x ≡ turnOf rule s v w
   led-turn-is w u x h e q = q ∙ ap (turnOf rule s v) e ∙ led-turn w h
+
+  -- what was tested is how many line bodies there are
+  pub led-counted : (w : LineWalk) → Led rule s v n w → 0 < n → gave n ≡ countLines rule s
+  led-counted w h z = tested-counted rule s v (h .place) n (h .whole z) z
 
 -- ---- each way out of the code's tests
 

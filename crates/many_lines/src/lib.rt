@@ -13,8 +13,9 @@ ghost use Rattle.walk.specs.Listing.{gives};
 ghost use Rattle.walk.specs.Many.{many};
 ghost use Rattle.refusal.specs.Told.{longest};
 ghost use Rattle.area.specs.Kind.{ruled};
+ghost use Rattle.lines.specs.Lines.{countLines};
 ghost use Rattle.lines.specs.Slots.{slotAt};
-ghost use Rattle.lines.specs.Told.{toldNamed};
+ghost use Rattle.lines.specs.Told.{toldCounted, toldNamed};
 ghost use Rattle.records.specs.Next.{nextOf};
 ghost use Rattle.records.specs.Told.{toldLine};
 ghost use Rattle.turns.specs.Turn.{enterAt, betweenTurn, turnOf};
@@ -386,13 +387,24 @@ fn nowhere() -> Place
     }
 }
 
+// How many line subsections there are: as many as the slots of a list that was tested.
+fn count_of(area: &[u8], slots: &[u32], whole: usize) -> Counted
+    requires { ⌜ Led ruled (now area) (now slots) whole New ⌝ }
+    ensures { λ r. ⌜ toldCounted r ≡ countLines ruled (now (area .entry)) ⌝ }
+{
+    if 0 < whole {
+        return Counted::Lines(whole);
+    }
+    count_lines(area)
+}
+
 // From its beginning on.
 fn opened(area: &[u8], slots: &[u32], whole: usize, n: usize, room: usize, out: &mut [u64]) -> Stood
     requires { ⌜ Led ruled (now area) (now slots) whole New ⌝ }
     requires { ⌜ (n < room) × (length (now area) ≤ longest) ⌝ }
     ensures { λ r. ⌜ Went (now (area .entry)) (now (slots .entry)) whole room n New (now (out .entry)) r (now (out .exit)) ⌝ }
 {
-    match count_lines(area) {
+    match count_of(area, slots, whole) {
         Counted::Lines(left) => {
             let t = Rest {
                 slot: 0,

@@ -9,10 +9,12 @@ use lib.ListN.{length, getD, drop, drop-of-length-le}
 use lib.Dec.{ltb, leb}
 use borrow.Author.Tests.{leb-false}
 use Rattle.walk.specs.Cases.{tests, by-cases}
+use Rattle.walk.specs.Listing.{gave}
 use Rattle.area.specs.Kind.{Sort}
+use Rattle.lines.specs.Lines.{countLines}
 use Rattle.lines.specs.SlotsLaws.{Scans}
 use Rattle.whole_list.specs.WholeList.{wholeList}
-use Rattle.whole_list.specs.WholeListLaws.{hint-right, scan-right}
+use Rattle.whole_list.specs.WholeListLaws.{whole-counted, hint-right, scan-right}
 use Rattle.whole_list.specs.Begin.{goesBack, backsBehind, backs, tested, beginAt}
 
 module _ (v : List ℕ) (n i p : ℕ) where
@@ -58,6 +60,14 @@ module _ (rule : ℕ → Sort) (s v : List ℕ) (p : ℕ) where
   -- the place that was tested is one at which a search may begin
   pub tested-right : 0 < tested rule s v p → Scans rule s p
   tested-right h = scan-right rule s v p (omega (arith, tested-le))
+
+  -- what was tested is how many line bodies there are
+  counted-in : 0 < tested rule s v p → gave (tested rule s v p) ≡ countLines rule s
+  unfolding tested
+  counted-in = by-cases (λ (k : ℕ). 0 < k → gave k ≡ countLines rule s) (ltb (backs v) 16) (λ e h. absurd (omega arith)) (λ e. whole-counted rule s v p)
+
+  pub tested-counted : (n : ℕ) → n ≡ tested rule s v p → 0 < n → gave n ≡ countLines rule s
+  tested-counted n e h = ap gave e ∙ counted-in (omega arith)
 
   -- a search that may begin at q may begin there
   begin-right : (i q : ℕ) → Scans rule s q → Scans rule s (beginAt v (tested rule s v p) i q)

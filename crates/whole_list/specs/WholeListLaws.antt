@@ -111,6 +111,9 @@ module _ (rule : ℕ → Sort) (s v : List ℕ) (p : ℕ) where
       ⊎-elim (λ (h : wholeList rule s v p ≤ 0). omega arith) (λ (h : 0 < wholeList rule s v p). passed 0 h .room)
       (le-or-gt (wholeList rule s v p) 0)
 
+  pub whole-counted : 0 < wholeList rule s v p → gave (wholeList rule s v p) ≡ countLines rule s
+  whole-counted h = passed 0 h .counted
+
   pub scan-right : 0 < wholeList rule s v p → Scans rule s p
   scan-right h = comes-finds rule s (subsFrom rule s 0) 0 p refl (passed 0 h .place) .1
 

@@ -15,14 +15,14 @@ bodies-requires c κs =
     let m = c .before .before .before in
     let b = m .before .before in
     let p = b .before .before .before .before .pre in
-    (led-kept ruled _ _ _ _ (p .0) (pass _) (open-turn _ _ _ (ap toldCounted (sym (m .left .given .1)) ∙ b .count-lines .ensures)), p .1)
+    (led-kept ruled _ _ _ _ (p .0) (pass _) (open-turn _ _ _ (ap toldCounted (sym (m .left .given .1)) ∙ b .count-of .ensures)), p .1)
 
 returns : tie.Need-returns
 returns c =
     let m = c .before .before .before .before .before .before in
     let b = m .before .before in
     let p = b .before .before .before .before .pre in
-    went-pass _ _ _ _ _ _ _ _ (open-turn _ _ _ (ap toldCounted (sym (m .left .given .1)) ∙ b .count-lines .ensures)) (p .1 .0) _ _ (c .before .before .bodies .ensures)
+    went-pass _ _ _ _ _ _ _ _ (open-turn _ _ _ (ap toldCounted (sym (m .left .given .1)) ∙ b .count-of .ensures)) (p .1 .0) _ _ (c .before .before .bodies .ensures)
 
 returns-2 : tie.Need-returns-2
 returns-2 c = went-same _ _ _ _ _ _ _ (c .before .before .before .before .before .before .pre .0) _ refl
