@@ -32,8 +32,3 @@ withScan t p = record { slot = t .slot; left = t .left; scan = p; held = t .held
 -- v being the slots, of which the first n are tested
 unfoldable pub ledRest : List ℕ → ℕ → Rest → Rest
 ledRest v n t = cond (eqb (t .left) 0) t (withScan t (beginAt v n (t .slot) (t .scan)))
-
-abbrev pub ledWalk : List ℕ → ℕ → LineWalk → LineWalk
-ledWalk v n New = New
-ledWalk v n (Between t) = Between (ledRest v n t)
-ledWalk v n (Inside p t) = Inside p t

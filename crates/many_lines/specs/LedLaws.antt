@@ -32,7 +32,7 @@ use Rattle.turns.specs.declared.LineWalk.the-variants.{New, Between, Inside}
 use Rattle.turns.specs.Turn.{LineMove, entryAt, withHeld, pastLine, holdIn, lineOf, endIn, blockOf, insideTurn, enterAt, namedOf, finishIn, betweenTurn, openOf, turnIn, turnOf}
 use Rattle.whole_list.specs.Begin.{tested, beginAt}
 use Rattle.whole_list.specs.BeginLaws.{begin-past, begin-scans, tested-right, tested-counted}
-use Rattle.many_lines.specs.Led.{scanOf, fewLeft, testedFor, withScan, ledRest, ledWalk}
+use Rattle.many_lines.specs.Led.{scanOf, fewLeft, testedFor, withScan, ledRest}
 
 -- if n is not 0 it is what a test of the list answered, at some place, and the walk's place is one at which a search may begin
 pub record Led (rule : ℕ → Sort) (s v : List ℕ) (n : ℕ) (w : LineWalk) : Type 0 where
@@ -70,18 +70,11 @@ module _ (rule : ℕ → Sort) (s v : List ℕ) (n : ℕ) where
           ∙ ap (namedOf s t) (begin-same t h)
           ∙ ap (λ k. cond k (finishIn (t .held) t) (namedOf s t (slotAt rule s v (t .slot) (t .scan)))) (sym e)
 
-  in-same : (w : LineWalk) → Led rule s v n w → turnIn rule s v (ledWalk v n w) ≡ turnIn rule s v w
-  in-same New h = refl
-  in-same (Between t) h = between-same t h
-  in-same (Inside p t) h = refl
-
-  led-turn : (w : LineWalk) → Led rule s v n w → turnOf rule s v (ledWalk v n w) ≡ turnOf rule s v w
+  -- the same as code has it: u is the rest that is led, and x what the turn tells
+  pub led-turn-is : (t u : Rest) (x : LineMove) → Led rule s v n (Between t) → u ≡ ledRest v n t → x ≡ turnOf rule s v (Between u) → x ≡ turnOf rule s v (Between t)
   unfolding turnOf
-  led-turn w h = ap (λ x. cond (ltb longest (length s)) (fail (told why.TooLong)) x) (in-same w h)
-
-  -- the same as code has it: u is the walk that is led, and x what its turn tells
-  pub led-turn-is : (w u : LineWalk) (x : LineMove) → Led rule s v n w → u ≡ ledWalk v n w → x ≡ turnOf rule s v u → x ≡ turnOf rule s v w
-  led-turn-is w u x h e q = q ∙ ap (turnOf rule s v) e ∙ led-turn w h
+  led-turn-is t u x h e q =
+      q ∙ ap (λ y. turnOf rule s v (Between y)) e ∙ ap (λ y. cond (ltb longest (length s)) (fail (told why.TooLong)) y) (between-same t h)
 
   -- what was tested is how many line bodies there are
   pub led-counted : (w : LineWalk) → Led rule s v n w → 0 < n → gave n ≡ countLines rule s
@@ -98,12 +91,6 @@ module _ (v : List ℕ) (n : ℕ) where
     pub rest-more : (t .left ≡ 0 → ⊥) → (p : ℕ) → p ≡ beginAt v n (t .slot) (t .scan) → withScan t p ≡ ledRest v n t
     unfolding ledRest
     rest-more h p e = ap (withScan t) e ∙ sym (simp tests)
-
-  pub led-between : (w : LineWalk) (t u : Rest) → w ≡ Between t → u ≡ ledRest v n t → Between u ≡ ledWalk v n w
-  led-between w t u e q = ap Between q ∙ ap (ledWalk v n) (sym e)
-
-  pub led-inside : (w : LineWalk) (p : Place) (t : Rest) → w ≡ Inside p t → Inside p t ≡ ledWalk v n w
-  led-inside w p t e = ap (ledWalk v n) (sym e)
 
 -- ---- the turns keep the place
 

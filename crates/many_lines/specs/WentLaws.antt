@@ -5,10 +5,7 @@ use mathlib.Core.List.{List}
 use mathlib.Core.Bool.{Bool, true, false, cond}
 use native.Mathlib.Omega.{arith}
 use lib.ListN.{length, getD, take}
-use lib.Dec.{eqb}
-use borrow.Author.Tests.{eqb-true, eqb-false}
 use Rattle.word.specs.Word.{store}
-use Rattle.walk.specs.Cases.{by-cases}
 use Rattle.walk.specs.Listing.{item, pass, Answer, gives, none, gave}
 use Rattle.walk.specs.First.{onFirst}
 use Rattle.walk.specs.Many.{Many, noMore, thenMany, many}
@@ -233,21 +230,16 @@ module _ (s v : List ℕ) (w₀ : LineWalk) (o₀ : List ℕ) where
 
       -- u is a turn that gives no record and does not pass on
       module _ (u : LineMove) (e : u ≡ turnOf ruled s v w) (f : NoRecord (onFirst (nextOf ruled s v) u)) where
-        stop-told : (n ≡ 0 → ⊥) → Filled ruled s v w₀ o₀ (gives n (cond exact w (many (nextOf ruled s v) n w₀ .next))) o
-        stop-told z =
+        pub stand-none : n ≡ 0 → Filled ruled s v w₀ o₀ (counted (noRoom (onFirst (nextOf ruled s v) u))) o
+        stand-none z = turns-none ruled s v w₀ o₀ (h .going .fills) room u e f z
+
+        pub stand-stop : (n ≡ 0 → ⊥) → (a : Answer LineWalk ℕ Told) → a ≡ gives n (cond exact w (many (nextOf ruled s v) n w₀ .next)) → Filled ruled s v w₀ o₀ a o
+        stand-stop z a ea =
             let q = turns-stop ruled s v w₀ o₀ (h .going .fills) room u e f z in
             let b = turns-behind ruled s v w₀ o₀ (h .going .fills) u e f in
-            subst (λ x. Filled ruled s v w₀ o₀ x o) (ap (gives n) (which exact (h .exactly) b)) q
+            subst (λ x. Filled ruled s v w₀ o₀ x o) (ap (gives n) (which exact (h .exactly) b) ∙ sym ea) q
           where
             which : (x : Bool) → (x ≡ true → h .going .last ≡ w) → h .going .last ≡ many (nextOf ruled s v) n w₀ .next
                 → h .going .last ≡ cond x w (many (nextOf ruled s v) n w₀ .next)
             which true f g = f refl
             which false f g = g
-
-        pub stand-stop : (a : Answer LineWalk ℕ Told)
-            → a ≡ cond (eqb n 0) (counted (noRoom (onFirst (nextOf ruled s v) u))) (gives n (cond exact w (many (nextOf ruled s v) n w₀ .next)))
-            → Filled ruled s v w₀ o₀ a o
-        stand-stop a ea =
-            subst (λ x. Filled ruled s v w₀ o₀ x o) (sym ea)
-            (by-cases (λ x. Filled ruled s v w₀ o₀ x o) (eqb n 0) (λ z. turns-none ruled s v w₀ o₀ (h .going .fills) room u e f (eqb-true n 0 z))
-            (λ z. stop-told (eqb-false n 0 z)))

@@ -8,7 +8,6 @@ ghost use mathlib.Core.Path.{_≡_};
 ghost use Prim.Native.Nat.{_+_, _<_, _≤_, _^_};
 ghost use mathlib.Core.Bool.{cond};
 ghost use lib.ListN.{length};
-ghost use lib.Dec.{eqb};
 ghost use Rattle.walk.specs.Listing.{gives};
 ghost use Rattle.walk.specs.Many.{many};
 ghost use Rattle.refusal.specs.Told.{longest};
@@ -21,7 +20,7 @@ ghost use Rattle.records.specs.Told.{toldLine};
 ghost use Rattle.turns.specs.Turn.{enterAt, betweenTurn, turnOf};
 ghost use Rattle.turns.specs.declared.LineWalk.the-variants.{New, Between, Inside};
 ghost use Rattle.turns.specs.Told.{toldTurn};
-ghost use Rattle.many_lines.specs.Led.{scanOf, fewLeft, testedFor, ledRest, ledWalk};
+ghost use Rattle.many_lines.specs.Led.{scanOf, fewLeft, testedFor, ledRest};
 ghost use Rattle.many_lines.specs.LedLaws.{Led};
 ghost use Rattle.given.specs.Fill.{noRoom};
 ghost use Rattle.many_lines.specs.Lines.{linesOf, counted, filled};
@@ -47,6 +46,7 @@ use turns::LineWalk;
 use turns::Place;
 use turns::Rest;
 use turns::Turn;
+use turns::finish;
 use turns::take_turn;
 use whole_list::begin_at;
 use whole_list::tested_list;
@@ -124,22 +124,29 @@ fn led_rest(slots: &[u32], whole: usize, t: Rest) -> Rest
     }
 }
 
-fn led(slots: &[u32], whole: usize, walk: LineWalk) -> LineWalk
-    ensures { λ r. ⌜ r ≡ ledWalk (now (slots .entry)) whole walk ⌝ }
+// A turn from between two bodies, over a list of which the first `whole` slots are tested: the same as any other turn, found sooner.
+fn led_between(area: &[u8], slots: &[u32], whole: usize, t: Rest) -> Turn
+    requires { ⌜ Led ruled (now area) (now slots) whole (Between t) ⌝ }
+    ensures { λ r. ⌜ toldTurn r ≡ turnOf ruled (now (area .entry)) (now (slots .entry)) (Between t) ⌝ }
 {
-    match walk {
-        LineWalk::New => LineWalk::New,
-        LineWalk::Between(t) => LineWalk::Between(led_rest(slots, whole, t)),
-        LineWalk::Inside(p, t) => LineWalk::Inside(p, t),
+    if LONGEST < area.len() {
+        return Turn::Refused(Refusal::TooLong);
     }
+    if t.left == 0 {
+        return finish(t);
+    }
+    take_turn(area, slots, LineWalk::Between(led_rest(slots, whole, t)))
 }
 
-// A turn, over a list of which the first `whole` slots are tested: the same as any other turn, found sooner.
 fn led_turn(area: &[u8], slots: &[u32], whole: usize, walk: LineWalk) -> Turn
     requires { ⌜ Led ruled (now area) (now slots) whole walk ⌝ }
     ensures { λ r. ⌜ toldTurn r ≡ turnOf ruled (now (area .entry)) (now (slots .entry)) walk ⌝ }
 {
-    take_turn(area, slots, led(slots, whole, walk))
+    match walk {
+        LineWalk::New => take_turn(area, slots, LineWalk::New),
+        LineWalk::Between(t) => led_between(area, slots, whole, t),
+        LineWalk::Inside(p, t) => take_turn(area, slots, LineWalk::Inside(p, t)),
+    }
 }
 
 // The walk behind the first n records.
@@ -445,8 +452,7 @@ fn faster(
     }
 }
 
-// What is answered where no record comes behind the first n: without any what there is to tell, else the walk behind the last. `exact` says that this
-// is w; else it is looked for.
+// What is answered behind n records. `exact` says that w is the walk behind the last of them; else it is looked for.
 fn stopped(
     area: &[u8],
     slots: &[u32],
@@ -455,14 +461,10 @@ fn stopped(
     n: usize,
     w: LineWalk,
     exact: bool,
-    told: LinesStep,
 ) -> LinesStep
     requires { ⌜ Led ruled (now area) (now slots) whole walk ⌝ }
-    ensures { λ r. ⌜ toldLines r ≡ cond (eqb n 0) (toldLines told) (gives n (cond exact w (many (nextOf ruled (now (area .entry)) (now (slots .entry))) n walk .next))) ⌝ }
+    ensures { λ r. ⌜ toldLines r ≡ gives n (cond exact w (many (nextOf ruled (now (area .entry)) (now (slots .entry))) n walk .next)) ⌝ }
 {
-    if n == 0 {
-        return told;
-    }
     if exact {
         return LinesStep::Lines { count: n, next: w };
     }
@@ -504,12 +506,16 @@ fn fill(area: &[u8], slots: &[u32], walk: LineWalk, out: &mut [u64]) -> LinesSte
                     fast = true;
                 }
                 Turn::Over => {
-                    let told = LinesStep::None;
-                    return stopped(area, slots, whole, walk, n, w, exact, told);
+                    if n == 0 {
+                        return LinesStep::None;
+                    }
+                    return stopped(area, slots, whole, walk, n, w, exact);
                 }
                 Turn::Refused(why) => {
-                    let told = LinesStep::Refused(why);
-                    return stopped(area, slots, whole, walk, n, w, exact, told);
+                    if n == 0 {
+                        return LinesStep::Refused(why);
+                    }
+                    return stopped(area, slots, whole, walk, n, w, exact);
                 }
             }
         }

@@ -273,7 +273,7 @@ fn sub_turn(area: &[u8], slots: &[u32], t: Rest) -> Turn
 }
 
 // No subsection is left: the held record is ready.
-fn finish(t: Rest) -> Turn
+pub fn finish(t: Rest) -> Turn
     ensures { λ r. ⌜ toldTurn r ≡ finishOf t ⌝ }
 {
     let held = t.held;

@@ -1,12 +1,35 @@
--- `many_lines::led_turn` meets its contract: a walk that is led turns as it would without.
+-- `many_lines::led_turn` meets its contract: each way is one of where the walk stands.
 -- Assumes nothing.
 use borrow.Author.Needs.{needs}
-use Rattle.many_lines.specs.LedLaws.{led-turn-is}
+use mathlib.Core.Path.{sym, ap, subst, _∙_}
+use Rattle.area.specs.Kind.{ruled}
+use Rattle.turns.specs.Turn.{turnOf}
+use Rattle.many_lines.specs.LedLaws.{Led}
 use Rattle.many_lines.proofs.led_turn.Statement.{statement}
 use Rattle.many_lines.proofs.led_turn.Tie as tie
 
+led-between-requires : tie.Need-led-between-requires
+led-between-requires c κs = subst (Led ruled _ _ _) (c .before .walk .given .1) (c .before .before .before .before .before .pre)
+
 returns : tie.Need-returns
-returns c = led-turn-is _ _ _ _ _ _ _ (c .before .before .before .before .pre) (c .before .led .ensures) (c .take-turn .ensures)
+returns c = c .take-turn .ensures ∙ ap (turnOf ruled _ _) (sym (c .before .enum-told .given .1))
+
+returns-2 : tie.Need-returns-2
+returns-2 c = c .led-between .ensures ∙ ap (turnOf ruled _ _) (sym (c .before .before .walk .given .1))
+
+returns-3 : tie.Need-returns-3
+returns-3 c = c .take-turn2 .ensures ∙ ap (turnOf ruled _ _) (sym (c .before .before .walk2 .given .1))
 
 pub led-turn-spec : {M : Type 1} → statement M
-led-turn-spec = tie.close (tie.spec (λ c κs. search needs) (λ c κs. search needs) returns)
+led-turn-spec =
+    tie.close
+    (tie.spec
+    (λ c. search needs)
+    (λ c κs. search needs)
+    (λ c. search needs)
+    led-between-requires
+    (λ c. search needs)
+    (λ c κs. search needs)
+    returns
+    returns-2
+    returns-3)
