@@ -447,7 +447,12 @@ fn faster(
     }
     match w {
         LineWalk::New => opened(area, slots, whole, n, room, out),
-        LineWalk::Between(t) => { bodies(area, slots, whole, n, room, false, nowhere(), t, out) }
+        LineWalk::Between(t) => {
+            if t.left == 0 {
+                return Stood { n, walk: w };
+            }
+            bodies(area, slots, whole, n, room, false, nowhere(), t, out)
+        }
         LineWalk::Inside(p, t) => bodies(area, slots, whole, n, room, true, p, t, out),
     }
 }

@@ -17,24 +17,27 @@ opened-requires c κs =
     let p = c .before .before .before .before .before .before .before .pre in
     (subst (Led ruled _ _ _) (c .before .enum-told .given .1) (p .0), (p .1, omega (arith, c .before .before .before .if1 .left)))
 
+returns-2 : tie.Need-returns-2
+returns-2 c = went-same _ _ _ _ _ _ _ (c .before .before .before .before .before .before .before .before .before .pre .0) _ (c .before .before .before .w .given .1)
+
 bodies-requires : tie.Need-bodies-requires
 bodies-requires c κs =
-    let p = c .before .before .before .before .before .before .before .before .before .pre in
-    (subst (Led ruled _ _ _) (c .before .before .before .w .given .1) (p .0), (p .1, omega (arith, c .before .before .before .before .before .if1 .left)))
+    let p = c .before .before .before .before .before .before .before .before .before .before .before .pre in
+    (subst (Led ruled _ _ _) (c .before .before .before .before .before .w .given .1) (p .0), (p .1, omega (arith, c .before .before .before .before .before .before .before .if1 .left)))
 
 bodies-requires-2 : tie.Need-bodies-requires-2
 bodies-requires-2 c κs =
     let p = c .before .before .before .before .before .before .before .before .pre in
     (subst (Led ruled _ _ _) (c .before .before .w2 .given .1) (p .0), (p .1, omega (arith, c .before .before .before .before .if1 .left)))
 
-returns-2 : tie.Need-returns-2
-returns-2 c = went-as _ _ _ _ _ _ _ _ (c .before .before .before .before .enum-told .given .1) _ _ (c .before .before .opened .ensures)
-
 returns-3 : tie.Need-returns-3
-returns-3 c = went-as _ _ _ _ _ _ _ _ (c .before .before .before .before .before .before .w .given .1) _ _ (c .before .before .bodies .ensures)
+returns-3 c = went-as _ _ _ _ _ _ _ _ (c .before .before .before .before .enum-told .given .1) _ _ (c .before .before .opened .ensures)
 
 returns-4 : tie.Need-returns-4
-returns-4 c = went-as _ _ _ _ _ _ _ _ (c .before .before .before .before .before .w2 .given .1) _ _ (c .before .before .bodies2 .ensures)
+returns-4 c = went-as _ _ _ _ _ _ _ _ (c .before .before .before .before .before .before .before .before .w .given .1) _ _ (c .before .before .bodies .ensures)
+
+returns-5 : tie.Need-returns-5
+returns-5 c = went-as _ _ _ _ _ _ _ _ (c .before .before .before .before .before .w2 .given .1) _ _ (c .before .before .bodies2 .ensures)
 
 pub faster-spec : {M : Type 1} → statement M
 faster-spec =
@@ -44,13 +47,14 @@ faster-spec =
     (λ c. search needs)
     opened-requires
     (λ c. search needs)
+    returns-2
     (λ c κs. search needs)
     bodies-requires
     (λ c. search needs)
     bodies-requires-2
     (λ c. search needs)
-    returns-2
-    (λ c. search needs)
     returns-3
     (λ c. search needs)
-    returns-4)
+    returns-4
+    (λ c. search needs)
+    returns-5)
