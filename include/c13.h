@@ -107,11 +107,12 @@ uint32_t c13_next_line(const uint8_t *area, size_t area_len, const uint32_t *slo
 /* Many line records in one call: those from the walk on, as many as `records` has room for, 12 words each. State as above, 27 words.
  * Given: the state behind the last of them, and at out[27] how many there are. The records before an end or a refusal are given first; the next call
  * tells it, as c13_next_line would. With room for no record C13_NO_ROOM; with fewer than 29 words of `out` too short, and nothing changes.
- * A list that goes back in the area often is tested once in each call, in some n log n steps for n line subsections, so lend room for many records. */
+ * A list that goes back in the area often is tested once in each call that has 16 subsections or more before it, in some n log n steps for n line
+ * subsections, so lend room for many records. */
 uint32_t c13_lines(const uint8_t *area, size_t area_len, const uint32_t *slots, size_t slots_len, uint64_t *records, size_t records_len,
                    uint64_t *out, size_t out_len);
 
-/* The lines of the symbol at a section and offset: the state of a walk that c13_next_line steps. The walk is over the list's first line subsection
+/* The lines of the symbol at a section and offset: the state of a walk for c13_lines or c13_next_line. The walk is over the list's first line subsection
  * with just that section and offset; where there is none, over the last one in list order of the same section with a smaller offset, whether or
  * not it covers the offset asked; where there is none of these either, it has no records.
  *   out[0] .. out[26] the state */
