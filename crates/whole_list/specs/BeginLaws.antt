@@ -2,12 +2,12 @@
 use Prim.Native.Nat.{ℕ, zero, suc, _+_, _-_, _<_, _≤_}
 use mathlib.Core.Path.{_≡_, refl, sym, ap, _∙_, subst⁻¹}
 use mathlib.Core.List.{List, [], _∷_}
-use mathlib.Core.Bool.{cond}
+use mathlib.Core.Bool.{Bool, true, false, cond}
 use native.Mathlib.Omega.{arith}
 use native.Mathlib.Numerals.{add-one}
 use lib.ListN.{length, getD, drop, drop-of-length-le}
 use lib.Dec.{ltb, leb}
-use borrow.Author.Tests.{leb-false}
+use borrow.Author.Tests.{lt-ltb, le-ltb, leb-false}
 use Rattle.walk.specs.Cases.{tests, by-cases}
 use Rattle.walk.specs.Listing.{gave}
 use Rattle.area.specs.Kind.{Sort}
@@ -45,13 +45,13 @@ unfolding goesBack
 back-above x y h = simp tests
 
 module _ (rule : ℕ → Sort) (s v : List ℕ) (p : ℕ) where
-  pub tested-not : backs v < 16 → 0 ≡ tested rule s v p
+  pub tested-not : true ≡ ltb (backs v) 16 → 0 ≡ tested rule s v p
   unfolding tested
-  tested-not h = simp tests
+  tested-not h = ap (λ (t : Bool). cond t 0 (wholeList rule s v p)) h
 
-  pub tested-whole : 16 ≤ backs v → wholeList rule s v p ≡ tested rule s v p
+  pub tested-whole : false ≡ ltb (backs v) 16 → wholeList rule s v p ≡ tested rule s v p
   unfolding tested
-  tested-whole h = sym (simp tests)
+  tested-whole h = ap (λ (t : Bool). cond t 0 (wholeList rule s v p)) h
 
   tested-le : tested rule s v p ≤ wholeList rule s v p
   unfolding tested
@@ -113,6 +113,9 @@ module _ (v : List ℕ) where
       = ap (backsBehind (getD v j 0)) (drop-step v i h) ∙ ap (λ k. goesBack (getD v j 0) (getD v i 0) + backsBehind (getD v i 0) (drop k v)) (sym (add-one i)) in
       omega arith
 
-  pub backs-end : (n i j : ℕ) → length v ≤ i → n ≡ n + left j i
+  pub backs-end : (n i j : ℕ) → length v ≤ i → n + left j i ≡ backs v → n < 16 → true ≡ ltb (backs v) 16
   unfolding backsBehind
-  backs-end n i j h = omega (arith, ap (backsBehind (getD v j 0)) (drop-of-length-le v h))
+  backs-end n i j h e l = let z = ap (backsBehind (getD v j 0)) (drop-of-length-le v h) in sym (lt-ltb (backs v) 16 (omega arith))
+
+  pub backs-many : (k : ℕ) → 16 + k ≡ backs v → false ≡ ltb (backs v) 16
+  backs-many k e = sym (le-ltb (backs v) 16 (omega arith))

@@ -3,12 +3,14 @@ use Prim.Native.Nat.{ℕ, zero, suc, _+_, _-_, _<_, _≤_}
 use mathlib.Core.Path.{_≡_, refl, sym, ap, _∙_}
 use mathlib.Core.List.{List, [], _∷_}
 use mathlib.Core.Bool.{Bool, true, false, cond}
+use mathlib.Core.Logic.{_⊎_, inl, inr, ⊎-elim}
 use native.Mathlib.Omega.{arith}
 use lib.ListN.{length, getD, take}
 use lib.Dec.{ltb, leb, eqb}
-use borrow.Author.Tests.{leb-false, eqb-true, ne-eqb}
+use lib.Seq.{take-all}
+use borrow.Author.Tests.{ltb-true, leb-false, eqb-true, ne-eqb}
 use Rattle.walk.specs.Cases.{tests, by-cases}
-use Rattle.walk.specs.Listing.{Listing, more, ends, fails, gave, refused, gives, none, refuses}
+use Rattle.walk.specs.Listing.{Listing, more, ends, fails, Reply, gave, nothing, refused, gives, none, refuses}
 use Rattle.refusal.specs.Told.{Told}
 use Rattle.area.specs.Kind.{Sort}
 use Rattle.area.specs.Subs.{Sub, subsFrom, stepAt}
@@ -16,7 +18,7 @@ use Rattle.area.specs.SubsLaws.{sub-next, sub-end, sub-refused}
 use Rattle.lines.specs.Lines.{countLines}
 use Rattle.rank.specs.Rank.{rank, inside}
 use Rattle.order.specs.Order.{startsFrom}
-use Rattle.whole_list.specs.WholeList.{middle, lookAt, halvedIn, halved, holds, slotBehind, allFound, comesBy, comesTo, wholeIn, wholeList}
+use Rattle.whole_list.specs.WholeList.{middle, lookAt, halvedIn, halved, holds, slotBehind, allFound, comesBy, comesTo, foundIn, found, listed, firstIn, firstListed, wholeList}
 
 -- ---- the halving
 
@@ -152,32 +154,76 @@ module _ (rule : ℕ → Sort) (s : List ℕ) (p q : ℕ) (h : p < q) where
   unfolding comesBy
   comes-refused t g = sym (ne-eqb p q not-here) ∙ ap (comesBy q p) (sub-refused rule s p t g)
 
--- ---- each way out of `whole_list`
+-- ---- each way out of `found`, x being what counts the line bodies
 
-module _ (rule : ℕ → Sort) (s v : List ℕ) (p : ℕ) where
-  pub whole-refused : (t : Told) → refused t ≡ countLines rule s → 0 ≡ wholeList rule s v p
-  unfolding wholeList wholeIn
-  whole-refused t e = ap (wholeIn rule s v p) e
+module _ (rule : ℕ → Sort) (s xs : List ℕ) (x : Reply ℕ Told) (e : x ≡ countLines rule s) where
+  pub found-missed : false ≡ allFound (rank s) xs 0 (startsFrom rule s 0) → 0 ≡ found rule s xs
+  found-missed h = on x ∙ ap (foundIn rule s xs) e
+    where
+      on : (y : Reply ℕ Told) → 0 ≡ foundIn rule s xs y
+      on (gave n) = ap (λ (t : Bool). cond t n 0) h
+      on nothing = refl
+      on (refused t) = refl
+
+module _ (rule : ℕ → Sort) (s xs : List ℕ) where
+  pub found-refused : (t : Told) → refused t ≡ countLines rule s → 0 ≡ found rule s xs
+  found-refused t e = ap (foundIn rule s xs) e
+
+  pub found-all : (n : ℕ) → gave n ≡ countLines rule s → true ≡ allFound (rank s) xs 0 (startsFrom rule s 0) → n ≡ found rule s xs
+  found-all n e h = ap (λ (t : Bool). cond t n 0) h ∙ ap (foundIn rule s xs) e
+
+  pub listed-outside : false ≡ inside s xs → 0 ≡ listed rule s xs
+  unfolding listed
+  listed-outside h = ap (λ (t : Bool). cond t (found rule s xs) 0) h
+
+  pub listed-inside : true ≡ inside s xs → (n : ℕ) → n ≡ found rule s xs → n ≡ listed rule s xs
+  unfolding listed
+  listed-inside h n e = e ∙ ap (λ (t : Bool). cond t (found rule s xs) 0) h
+
+same-both : (t : Bool) (k : ℕ) → cond t k k ≡ k
+same-both true k = refl
+same-both false k = refl
+
+one-of : (t u : Bool) (k n : ℕ) → n ≡ cond t (cond u k 0) 0 → (n ≡ 0) ⊎ (n ≡ k)
+one-of true true k n e = inr e
+one-of true false k n e = inl e
+one-of false u k n e = inl e
+
+-- ---- each way out of `first_listed` and of `whole_list`
+
+module _ (rule : ℕ → Sort) (s v : List ℕ) where
+  pub first-refused : (t : Told) → refused t ≡ countLines rule s → 0 ≡ firstListed rule s v
+  first-refused t e = ap (firstIn rule s v) e
 
   module _ (n : ℕ) (e : gave n ≡ countLines rule s) where
-    pub whole-short : length v < n → 0 ≡ wholeList rule s v p
-    unfolding wholeList wholeIn
-    whole-short h = sym (simp tests) ∙ ap (wholeIn rule s v p) e
+    pub first-short : length v < n → 0 ≡ firstListed rule s v
+    first-short h = sym (simp tests) ∙ ap (firstIn rule s v) e
 
-    module _ (h₁ : n ≤ length v) where
-      pub whole-elsewhere : false ≡ comesTo rule s p → 0 ≡ wholeList rule s v p
-      unfolding wholeList wholeIn
-      whole-elsewhere h = let f = sym h in sym (simp (tests, f)) ∙ ap (wholeIn rule s v p) e
+    pub first-is : n ≤ length v → (r : ℕ) → r ≡ listed rule s (take n v) → r ≡ firstListed rule s v
+    first-is h r q = q ∙ sym (simp tests) ∙ ap (firstIn rule s v) e
 
-      module _ (h₂ : true ≡ comesTo rule s p) where
-        pub whole-outside : false ≡ inside s (take n v) → 0 ≡ wholeList rule s v p
-        unfolding wholeList wholeIn
-        whole-outside h = let f = sym h₂ in let g = sym h in sym (simp (tests, f, g)) ∙ ap (wholeIn rule s v p) e
+  -- a list of as many slots as there are line bodies
+  exactly : (x : Reply ℕ Told) → x ≡ countLines rule s → (n : ℕ) → n ≡ cond (inside s v) (foundIn rule s v x) 0 → n ≡ length v → n ≡ firstIn rule s v x
+  unfolding listed
+  exactly (gave k) e n q h =
+      let most = one-of (inside s v) (allFound (rank s) v 0 (startsFrom rule s 0)) k n q in
+      by-cases (λ r. n ≡ r) (ltb (length v) k) (λ z. let l = ltb-true (length v) k z in ⊎-elim (λ (y : n ≡ 0). y) (λ (y : n ≡ k). absurd (omega arith)) most)
+      (λ z.
+      let all : take k v ≡ v = take-all k v (⊎-elim (λ (y : n ≡ 0). omega arith) (λ (y : n ≡ k). omega arith) most) in
+      q ∙ ap (λ (y : Reply ℕ Told). cond (inside s v) (foundIn rule s v y) 0) e ∙ ap (λ (xs : List ℕ). cond (inside s xs) (found rule s xs) 0) (sym all))
+  exactly nothing e n q h = q ∙ same-both (inside s v) 0
+  exactly (refused t) e n q h = q ∙ same-both (inside s v) 0
 
-        pub whole-is : true ≡ inside s (take n v) → (t : Bool) → t ≡ allFound (rank s) (take n v) 0 (startsFrom rule s 0)
-            → cond t n 0 ≡ wholeList rule s v p
-        unfolding wholeList wholeIn
-        whole-is h₃ t h =
-            let f = sym h₂ in
-            let g = sym h₃ in
-            ap (λ (x : Bool). cond x n 0) h ∙ sym (simp (tests, f, g)) ∙ ap (wholeIn rule s v p) e
+  pub first-exact : (n : ℕ) → n ≡ listed rule s v → n ≡ length v → n ≡ firstListed rule s v
+  unfolding listed
+  first-exact n q h = exactly (countLines rule s) refl n q h
+
+  module _ (p : ℕ) where
+    pub whole-elsewhere : false ≡ comesTo rule s p → 0 ≡ wholeList rule s v p
+    unfolding wholeList
+    whole-elsewhere h = ap (λ (t : Bool). cond t (firstListed rule s v) 0) h
+
+    module _ (h₁ : true ≡ comesTo rule s p) where
+      pub whole-first : (n : ℕ) → n ≡ firstListed rule s v → n ≡ wholeList rule s v p
+      unfolding wholeList
+      whole-first n e = e ∙ ap (λ (t : Bool). cond t (firstListed rule s v) 0) h₁

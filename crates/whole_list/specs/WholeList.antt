@@ -58,15 +58,28 @@ comesBy q p (fails t) = eqb p q
 abbrev pub comesTo : (ℕ → Sort) → List ℕ → ℕ → Bool
 comesTo rule s q = comesBy q 0 (subsFrom rule s 0)
 
--- how many slots a whole list v takes, or 0: a key stands in the area at each of them, each line body is found among them, and p is a place that a
--- walk comes to
-unfoldable pub wholeIn : (ℕ → Sort) → List ℕ → List ℕ → ℕ → Reply ℕ Told → ℕ
-wholeIn rule s v p (gave n) =
-    cond (ltb (length v) n) 0
-    (cond (comesTo rule s p)
-    (cond (inside s (take n v)) (cond (allFound (rank s) (take n v) 0 (startsFrom rule s 0)) n 0) 0) 0)
-wholeIn rule s v p nothing = 0
-wholeIn rule s v p (refused t) = 0
+-- the number of the line bodies if each is found in the slots xs, else 0
+abbrev pub foundIn : (ℕ → Sort) → List ℕ → List ℕ → Reply ℕ Told → ℕ
+foundIn rule s xs (gave n) = cond (allFound (rank s) xs 0 (startsFrom rule s 0)) n 0
+foundIn rule s xs nothing = 0
+foundIn rule s xs (refused t) = 0
 
+abbrev pub found : (ℕ → Sort) → List ℕ → List ℕ → ℕ
+found rule s xs = foundIn rule s xs (countLines rule s)
+
+-- the same of slots that need not lie in the area
+unfoldable pub listed : (ℕ → Sort) → List ℕ → List ℕ → ℕ
+listed rule s xs = cond (inside s xs) (found rule s xs) 0
+
+-- the same of the first slots of v, as many as there are line bodies
+abbrev pub firstIn : (ℕ → Sort) → List ℕ → List ℕ → Reply ℕ Told → ℕ
+firstIn rule s v (gave n) = cond (ltb (length v) n) 0 (listed rule s (take n v))
+firstIn rule s v nothing = 0
+firstIn rule s v (refused t) = 0
+
+abbrev pub firstListed : (ℕ → Sort) → List ℕ → List ℕ → ℕ
+firstListed rule s v = firstIn rule s v (countLines rule s)
+
+-- how many slots a whole list v takes, or 0: each line body is found among them, and p is a place that a walk comes to
 unfoldable pub wholeList : (ℕ → Sort) → List ℕ → List ℕ → ℕ → ℕ
-wholeList rule s v p = wholeIn rule s v p (countLines rule s)
+wholeList rule s v p = cond (comesTo rule s p) (firstListed rule s v) 0

@@ -1,10 +1,10 @@
 -- What a whole list gives its callers: each of the n slots says where the search for its body may begin, the place that was given is one too, and the
 -- slots suffice.
 use Prim.Native.Nat.{ℕ, zero, suc, _+_, _-_, _<_, _≤_}
-use mathlib.Core.Path.{_≡_, refl, sym, _∙_, subst}
+use mathlib.Core.Path.{_≡_, refl, sym, _∙_, subst, subst⁻¹}
 use mathlib.Core.Logic.{⊎-elim}
 use mathlib.Core.List.{List, [], _∷_}
-use mathlib.Core.Bool.{Bool, true}
+use mathlib.Core.Bool.{Bool, true, cond}
 use native.Mathlib.Omega.{arith}
 use lib.ListN.{length, getD, take}
 use lib.Seq.{length-take-le, getD-take}
@@ -26,7 +26,7 @@ use Rattle.rank.specs.RankLaws.{After, Ascends}
 use Rattle.order.specs.Order.{startsFrom}
 use Rattle.order.specs.OrderLaws.{counted-starts}
 use Rattle.order.specs.BuiltLaws.{ascends}
-use Rattle.whole_list.specs.WholeList.{middle, lookAt, halvedIn, halved, holds, slotBehind, allFound, comesTo, wholeIn, wholeList}
+use Rattle.whole_list.specs.WholeList.{middle, lookAt, halvedIn, halved, holds, slotBehind, allFound, comesTo, foundIn, listed, firstIn, wholeList}
 use Rattle.whole_list.specs.StepLaws.{holds-at}
 use Rattle.whole_list.specs.MemberLaws.{In, in-at, each-in, Apart, nothing-else}
 use Rattle.whole_list.specs.PlacesLaws.{First, Begins, begins, comes-finds}
@@ -88,23 +88,29 @@ module _ (rule : ℕ → Sort) (s v : List ℕ) (p : ℕ) where
     place : comesTo rule s p ≡ true
     all : allFound (rank s) (take n v) 0 (startsFrom rule s 0) ≡ true
 
-  passed-in : (m : ℕ) (x : Reply ℕ Told) → x ≡ countLines rule s → m < wholeIn rule s v p x → Passed (wholeIn rule s v p x)
-  unfolding wholeIn
-  passed-in m (gave n) e =
+  -- n being how many line bodies there are
+  listed-all : (n m : ℕ) (xs : List ℕ) → gave n ≡ countLines rule s → m < listed rule s xs → (listed rule s xs ≡ n) × (allFound (rank s) xs 0 (startsFrom rule s 0) ≡ true)
+  unfolding listed
+  listed-all n m xs e =
+      subst (λ x. m < cond (inside s xs) (foundIn rule s xs x) 0 → (cond (inside s xs) (foundIn rule s xs x) 0 ≡ n) × (allFound (rank s) xs 0 (startsFrom rule s 0) ≡ true)) e
+      (by-cases (λ k. m < k → (k ≡ n) × (allFound (rank s) xs 0 (startsFrom rule s 0) ≡ true)) (inside s xs)
+      (λ a. by-cases (λ k. m < k → (k ≡ n) × (allFound (rank s) xs 0 (startsFrom rule s 0) ≡ true)) (allFound (rank s) xs 0 (startsFrom rule s 0))
+      (λ b h. (refl, b)) (λ b h. absurd (omega arith)))
+      (λ a h. absurd (omega arith)))
+
+  passed-in : (m : ℕ) → comesTo rule s p ≡ true → (x : Reply ℕ Told) → x ≡ countLines rule s → m < firstIn rule s v x → Passed (firstIn rule s v x)
+  passed-in m b (gave n) e =
       by-cases (λ (k : ℕ). m < k → Passed k) (ltb (length v) n) (λ a h. absurd (omega arith))
-      (λ a. by-cases (λ (k : ℕ). m < k → Passed k) (comesTo rule s p)
-      (λ b. by-cases (λ (k : ℕ). m < k → Passed k) (inside s (take n v))
-      (λ d. by-cases (λ (k : ℕ). m < k → Passed k) (allFound (rank s) (take n v) 0 (startsFrom rule s 0))
-      (λ c h. record { counted = e; room = ltb-false (length v) n a; place = b; all = c })
-      (λ c h. absurd (omega arith)))
-      (λ d h. absurd (omega arith)))
-      (λ b h. absurd (omega arith)))
-  passed-in m nothing e = λ h. absurd (omega arith)
-  passed-in m (refused t) e = λ h. absurd (omega arith)
+      (λ a h.
+      let q = listed-all n m (take n v) e h in
+      subst⁻¹ Passed (q .0) (record { counted = e; room = ltb-false (length v) n a; place = b; all = q .1 }))
+  passed-in m b nothing e = λ h. absurd (omega arith)
+  passed-in m b (refused t) e = λ h. absurd (omega arith)
 
   passed : (m : ℕ) → m < wholeList rule s v p → Passed (wholeList rule s v p)
   unfolding wholeList
-  passed m h = passed-in m (countLines rule s) refl h
+  passed m =
+      by-cases (λ (k : ℕ). m < k → Passed k) (comesTo rule s p) (λ b. passed-in m b (countLines rule s) refl) (λ b h. absurd (omega arith))
 
   pub whole-room : wholeList rule s v p ≤ length v
   whole-room =

@@ -7,9 +7,8 @@ ghost use Prim.Native.Nat.{_+_, _≤_};
 ghost use lib.ListN.{length};
 ghost use lib.Dec.{ltb};
 ghost use Rattle.area.specs.Kind.{ruled};
-ghost use Rattle.order.specs.Order.{startsFrom};
 ghost use Rattle.rank.specs.Rank.{rank, weight, Inside};
-ghost use Rattle.whole_list.specs.WholeList.{halved, holds, slotBehind, allFound, comesTo, wholeList};
+ghost use Rattle.whole_list.specs.WholeList.{halved, holds, slotBehind, found, listed, firstListed, comesTo, wholeList};
 ghost use Rattle.whole_list.specs.Begin.{goesBack, backs, tested, beginAt};
 use area::SubStep;
 use area::sub_at;
@@ -82,11 +81,12 @@ fn slot_behind(area: &[u8], named: &[u32], next: usize, start: u32) -> usize
     halved(area, named, start)
 }
 
-// Is the start of each line body found?
-fn all_found(area: &[u8], named: &[u32]) -> bool
+// How many line bodies there are, after the tests of `count_lines`, if the start of each is found; else 0.
+fn found(area: &[u8], named: &[u32]) -> usize
     requires { ⌜ Inside (now area) (now named) ⌝ }
-    ensures { λ r. ⌜ r ≡ allFound (rank (now (area .entry))) (now (named .entry)) 0 (startsFrom ruled (now (area .entry)) 0) ⌝ }
+    ensures { λ r. ⌜ r ≡ found ruled (now (area .entry)) (now (named .entry)) ⌝ }
 {
+    let mut n: usize = 0;
     let mut behind: usize = 0;
     let mut p: usize = 0;
     loop {
@@ -94,25 +94,39 @@ fn all_found(area: &[u8], named: &[u32]) -> bool
             SubStep::Sub {
                 kind,
                 start,
-                len: _,
+                len,
                 next,
             } => {
                 if kind == 0xf2 {
+                    if len < 12 {
+                        return 0;
+                    }
                     behind = slot_behind(area, named, behind, start as u32);
                     if behind == 0 {
-                        return false;
+                        return 0;
                     }
+                    n += 1;
                 }
                 p = next;
             }
             SubStep::None => {
-                return true;
+                return n;
             }
             SubStep::Refused(_) => {
-                return true;
+                return 0;
             }
         }
     }
+}
+
+// The same of any slots: they are tested to lie in the area.
+fn listed(area: &[u8], named: &[u32]) -> usize
+    ensures { λ r. ⌜ r ≡ listed ruled (now (area .entry)) (now (named .entry)) ⌝ }
+{
+    if inside(area, named) {
+        return found(area, named);
+    }
+    0
 }
 
 // Is it a place that a walk over the subsections comes to?
@@ -141,29 +155,33 @@ fn comes_to(area: &[u8], place: usize) -> bool
     p == place
 }
 
-// The number of the area's line bodies if the list is whole and a search may begin at `scan`, else 0.
-pub fn whole_list(area: &[u8], slots: &[u32], scan: usize) -> usize
-    ensures { λ r. ⌜ r ≡ wholeList ruled (now (area .entry)) (now (slots .entry)) scan ⌝ }
+// The number of the area's line bodies if the first of the slots, as many, are a whole list; else 0.
+fn first_listed(area: &[u8], slots: &[u32]) -> usize
+    ensures { λ r. ⌜ r ≡ firstListed ruled (now (area .entry)) (now (slots .entry)) ⌝ }
 {
     match count_lines(area) {
         Counted::Lines(n) => {
             if slots.len() < n {
                 return 0;
             }
-            if !comes_to(area, scan) {
-                return 0;
-            }
-            let named = &slots[..n];
-            if !inside(area, named) {
-                return 0;
-            }
-            if !all_found(area, named) {
-                return 0;
-            }
-            n
+            listed(area, &slots[..n])
         }
         Counted::Refused(_) => 0,
     }
+}
+
+// The same if a search may begin at `scan`, else 0. Most lists have no other slots, so that the line bodies need not be counted first.
+pub fn whole_list(area: &[u8], slots: &[u32], scan: usize) -> usize
+    ensures { λ r. ⌜ r ≡ wholeList ruled (now (area .entry)) (now (slots .entry)) scan ⌝ }
+{
+    if !comes_to(area, scan) {
+        return 0;
+    }
+    let n = listed(area, slots);
+    if n == slots.len() {
+        return n;
+    }
+    first_listed(area, slots)
 }
 
 // 1 where y lies before x.
@@ -176,24 +194,27 @@ fn back(x: u32, y: u32) -> usize
     0
 }
 
-// How often a slot lies before the one in front of it.
-fn backs_of(slots: &[u32]) -> usize
-    ensures { λ r. ⌜ r ≡ backs (now (slots .entry)) ⌝ }
+// Does a slot lie before the one in front of it fewer than 16 times?
+fn seldom_back(slots: &[u32]) -> bool
+    ensures { λ r. ⌜ r ≡ ltb (backs (now (slots .entry))) 16 ⌝ }
 {
     let mut n: usize = 0;
     let mut i: usize = 1;
     while i < slots.len() {
         n += back(slots[i - 1], slots[i]);
         i += 1;
+        if n == 16 {
+            return false;
+        }
     }
-    n
+    true
 }
 
 // As `whole_list` where the test is worth it. A list that hardly goes back in the area is found in few passes over it, and is not tested: 0.
 pub fn tested_list(area: &[u8], slots: &[u32], scan: usize) -> usize
     ensures { λ r. ⌜ r ≡ tested ruled (now (area .entry)) (now (slots .entry)) scan ⌝ }
 {
-    if backs_of(slots) < 16 {
+    if seldom_back(slots) {
         return 0;
     }
     whole_list(area, slots, scan)
