@@ -1,19 +1,34 @@
--- Laws of words put piece by piece: they are the same as all of them put at once.
-use Prim.Native.Nat.{ℕ, _+_, _≤_}
+-- Laws of words put piece by piece, and into a part that is lent: they are the same as all of them put at once.
+use Prim.Native.Nat.{ℕ, _+_, _-_, _≤_}
 use mathlib.Core.Path.{_≡_, sym, ap, _∙_}
-use mathlib.Core.List.{List, [], _++_, append-assoc}
+use mathlib.Core.List.{List, [], _++_, append-assoc, append-nil}
 use native.Mathlib.Omega.{arith}
 use native.Mathlib.Nat.{add-assoc, add-zero}
-use lib.ListN.{length, take, drop, length-append, take-append-drop}
+use lib.ListN.{length, take, drop, length-append, take-append-drop, drop-of-length-le}
 use lib.Seq.{length-take-le, take-at, drop-drop, drop-append-add}
 use borrow.Author.Tests.{le-leb}
+use borrow.Rule.Slice.PartMut.{putMid, post-is, mid-len}
 use Rattle.word.specs.Word.{put, store}
+use Rattle.word.specs.WordLaws.{store-put}
 use Rattle.given.specs.Given.{given, Gives}
 use Rattle.given.specs.GivenLaws.{gives-put}
 
 -- no words
 pub put-nothing : (o : List ℕ) (a : ℕ) → o ≡ put o a []
 put-nothing o a = sym (ap (λ (k : ℕ). take a o ++ drop k o) (add-zero a) ∙ take-append-drop a o)
+
+-- words put into a part of their own length, as it is given back
+pub put-part : (o y ws : List ℕ) (at k : ℕ) → length ws ≡ k → at + k ≤ length o → y ≡ store (take (at + k - at) (drop at o)) 0 ws
+    → putMid at (at + k - at) o y ≡ store o at ws
+put-part o y ws at k e h q =
+    let mid = take (at + k - at) (drop at o) in
+    let n : at + k - at ≡ k = omega arith in
+    let size : length mid ≡ k = mid-len at (at + k) o h ∙ n in
+    let all : y ≡ ws
+    = q ∙ sym (store-put mid 0 ws k e (omega arith)) ∙ ap (λ (l : List ℕ). ws ++ l) (drop-of-length-le mid {i = 0 + length ws} (omega arith)) ∙ append-nil ws in
+    (λ i. take at o ++ (all i ++ drop (at + k - at) (drop at o)))
+    ∙ ap (λ (l : List ℕ). take at o ++ (ws ++ l)) (post-is at (at + k) o (omega arith) ∙ ap (λ (j : ℕ). drop (at + j) o) (sym e))
+    ∙ store-put o at ws k e h
 
 -- a put that fits
 pub gives-is : {o left : List ℕ} {r : ℕ} (status at : ℕ) (ws : List ℕ) → Gives o (given status at ws) r left → at + length ws ≤ length o → left ≡ put o at ws

@@ -1,8 +1,10 @@
 -- Laws of many files at once: a turn of the loop that puts a file, and that the files given, and the steps behind them, are the files of the area.
-use Prim.Native.Nat.{ℕ, _+_, _*_, _/_, _<_}
+use Prim.Native.Nat.{ℕ, _+_, _-_, _*_, _/_, _<_}
 use mathlib.Core.Path.{_≡_, sym, ap, _∙_}
 use mathlib.Core.List.{List}
-use lib.ListN.{length}
+use native.Mathlib.Omega.{arith}
+use lib.ListN.{length, take, drop}
+use borrow.Rule.Slice.PartMut.{putMid}
 use Rattle.word.specs.Word.{store}
 use Rattle.walk.specs.Listing.{gives, calls, replies}
 use Rattle.walk.specs.Many.{many}
@@ -14,6 +16,7 @@ use Rattle.files.specs.Files.{File, fileStep, filesIn}
 use Rattle.files.specs.FilesLaws.{files-walk}
 use Rattle.given.specs.Given.{given, Gives}
 use Rattle.given.specs.FillLaws.{Filling, fill-stored}
+use Rattle.given.specs.PiecesLaws.{put-part}
 use Rattle.many_files.specs.FileWords.{fileWords}
 use Rattle.many_files.specs.FileWordsLaws.{file-length}
 
@@ -22,11 +25,12 @@ module _ (rule : ℕ → Sort) (s : List ℕ) (w₀ : TableWalk) (o₀ : List �
   abbrev pub Put : ℕ → TableWalk → List ℕ → Type 0
   Put n w o = Filling 5 fileWords file-length (fileStep rule s) w₀ o₀ n w w o
 
-  -- a turn
-  pub put-file : {n : ℕ} {w : TableWalk} {o : List ℕ} → Put n w o → (f : File) (t : TableWalk) {o′ ws : List ℕ} {status r : ℕ} → gives f t ≡ fileStep rule s w
-      → n < length o₀ / 5 → fileWords f ≡ ws → Gives o (given status (5 * n) ws) r o′ → Put (n + 1) t o′
-  put-file {n} {w} {o} h f t {o′} e l q g =
-      fill-stored 5 fileWords file-length (fileStep rule s) w₀ o₀ h f t o′ e l (g .words ∙ ap (store o (5 * n)) (sym q))
+  -- a turn: its words are put as a part of their own, whose length is known
+  pub put-file : {n : ℕ} {w : TableWalk} {o : List ℕ} → Put n w o → (f : File) (t : TableWalk) {y ws : List ℕ} {status r : ℕ} → gives f t ≡ fileStep rule s w
+      → n < length o₀ / 5 → fileWords f ≡ ws → Gives (take (5 * n + 5 - 5 * n) (drop (5 * n) o)) (given status 0 ws) r y → Put (n + 1) t (putMid (5 * n) (5 * n + 5 - 5 * n) o y)
+  put-file {n} {w} {o} h f t {y} {ws} e l q g =
+      fill-stored 5 fileWords file-length (fileStep rule s) w₀ o₀ h f t (putMid (5 * n) (5 * n + 5 - 5 * n) o y) e l
+      (put-part o y ws (5 * n) 5 (ap length (sym q) ∙ file-length f) (omega (arith, h .size)) (g .words) ∙ ap (store o (5 * n)) (sym q))
 
 -- THE LAW: k files at once, and j steps behind them, answer what the files of the area ask
 pub many-files : (rule : ℕ → Sort) (s : List ℕ) (k j : ℕ)

@@ -66,9 +66,10 @@ fn fill(area: &[u8], walk: TableWalk, out: &mut [u64]) -> FilesStep
                 next,
             } => {
                 let k = number(kind) as u64;
+                let at = FILE * n;
                 put(
-                    out,
-                    FILE * n,
+                    &mut out[at..at + FILE],
+                    0,
                     &[index as u64, name as u64, k, start as u64, len as u64],
                     GIVEN,
                 );

@@ -1,14 +1,13 @@
 -- Laws of a stretch of lines: each line is a turn.
 use Prim.Native.Nat.{ℕ, _+_, _-_, _*_, _/_, _≤_, _<_}
 use mathlib.Core.Path.{_≡_, refl, sym, ap, _∙_, subst}
-use mathlib.Core.List.{List, _++_, append-nil}
+use mathlib.Core.List.{List}
 use mathlib.Core.Bool.{Bool, true, false}
 use native.Mathlib.Omega.{arith}
-use lib.ListN.{length, take, drop, drop-of-length-le}
+use lib.ListN.{length, take, drop}
 use lib.Seq.{length-take-le}
-use borrow.Rule.Slice.PartMut.{putMid, post-is, mid-len}
 use Rattle.word.specs.Word.{u32At, store}
-use Rattle.word.specs.WordLaws.{u32-drop, u32-take, put-length, store-put}
+use Rattle.word.specs.WordLaws.{u32-drop, u32-take, put-length}
 use Rattle.walk.specs.Listing.{item, pass, gives, none}
 use Rattle.refusal.specs.Told.{longest}
 use Rattle.area.specs.Kind.{ruled}
@@ -40,19 +39,6 @@ use Rattle.stretch.specs.Stretch.{atLine, plainOf, Fit, Stride, insideAt
 -- the part of k bytes at `at`, of the length as code has it
 pub part-word : (s : List ℕ) (at k i j : ℕ) → i + 4 ≤ k → at + i ≡ j → u32At (take (at + k - at) (drop at s)) i ≡ u32At s j
 part-word s at k i j h e = u32-take (drop at s) (at + k - at) i (omega arith) ∙ u32-drop s at i ∙ ap (u32At s) e
-
--- words put into a part of their own length, as it is given back
-pub put-part : (o y ws : List ℕ) (at k : ℕ) → length ws ≡ k → at + k ≤ length o → y ≡ store (take (at + k - at) (drop at o)) 0 ws
-    → putMid at (at + k - at) o y ≡ store o at ws
-put-part o y ws at k e h q =
-    let mid = take (at + k - at) (drop at o) in
-    let n : at + k - at ≡ k = omega arith in
-    let size : length mid ≡ k = mid-len at (at + k) o h ∙ n in
-    let all : y ≡ ws
-    = q ∙ sym (store-put mid 0 ws k e (omega arith)) ∙ ap (λ (l : List ℕ). ws ++ l) (drop-of-length-le mid {i = 0 + length ws} (omega arith)) ∙ append-nil ws in
-    (λ i. take at o ++ (all i ++ drop (at + k - at) (drop at o)))
-    ∙ ap (λ (l : List ℕ). take at o ++ (ws ++ l)) (post-is at (at + k) o (omega arith) ∙ ap (λ (j : ℕ). drop (at + j) o) (sym e))
-    ∙ store-put o at ws k e h
 
 pub no-columns : (c : Bool) (v w : ℕ) → c ≡ false → columnIf c v ≡ columnIf c w
 no-columns c v w e = rw e

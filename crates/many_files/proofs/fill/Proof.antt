@@ -25,8 +25,11 @@ abbrev μ-loop : tie.MeasureT-loop
 loop-holds : tie.Need-loop-holds Inv-loop μ-loop
 loop-holds c = (fill-start 5 fileWords file-length (fileStep ruled _) _ _, refl)
 
-mul-put : tie.Need-mul-put Inv-loop μ-loop
-mul-put c = search needs
+add-put : tie.Need-add-put Inv-loop μ-loop
+add-put c = let l = c .before .before .before .before .before .before .loop in omega (arith, l .inv .0 .size, l .inv .1)
+
+part-put-end : tie.Need-part-put-end Inv-loop μ-loop
+part-put-end c = let l = c .before .before .before .before .before .before .loop in omega (arith, l .inv .0 .size, l .inv .1)
 
 add-n : tie.Need-add-n Inv-loop μ-loop
 add-n c = search needs
@@ -81,7 +84,12 @@ fill-spec =
     (λ c. search needs)
     (λ c κs. search needs)
     (λ c. search needs)
-    mul-put
+    (λ c. search needs)
+    add-put
+    (λ c. search needs)
+    (λ c. search needs)
+    (λ c. search needs)
+    part-put-end
     (λ c. search needs)
     (λ c. search needs)
     (λ c. search needs)

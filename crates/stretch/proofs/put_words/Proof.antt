@@ -1,8 +1,8 @@
 -- `stretch::put_words` meets its contract: words put into a part of their own length are put at its place.
 -- Assumes nothing.
 use borrow.Author.Needs.{needs}
+use Rattle.given.specs.PiecesLaws.{put-part}
 use Rattle.line_words.specs.LineWordsLaws.{record-length}
-use Rattle.stretch.specs.StretchLaws.{put-part}
 use Rattle.stretch.proofs.put_words.Statement.{statement}
 use Rattle.stretch.proofs.put_words.Tie as tie
 
