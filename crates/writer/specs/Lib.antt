@@ -1,3 +1,4 @@
 pub mod Told
 pub mod Untold
 pub mod LentLaws
+pub mod AddLaws

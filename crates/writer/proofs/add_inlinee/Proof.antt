@@ -2,60 +2,30 @@
 -- changes.
 -- Assumes nothing.
 use borrow.Author.Needs.{needs}
-use mathlib.Core.Path.{sym, ap, _∙_}
+use mathlib.Core.Path.{refl}
 use native.Mathlib.Omega.{arith}
 use Prim.Native.Nat.{_+_}
 use lib.ListN.{length}
 use Rattle.body.specs.Inlinees.{extended}
 use Rattle.body.specs.InlineesLaws.{extraLength, inlinee-length}
-use Rattle.calls.specs.Calls.{bytesFor, extraRule, act, patch, callInlinee}
-use Rattle.calls.specs.Told.{toldAct}
-use Rattle.writer.specs.Told.{toldWrote}
-use Rattle.calls.specs.CallLaws.{inlinee-act, Grows, grow-goes, kept-go, kept-stop, extra-small}
-use Rattle.writer.specs.LentLaws.{lent-room, lent-grown}
+use Rattle.calls.specs.Calls.{callInlinee}
+use Rattle.calls.specs.CallLaws.{extra-small}
+use Rattle.writer.specs.AddLaws.{Adds, adds-known, adds-room, adds-length, adds-goes, adds-stops}
 use Rattle.writer.proofs.add_inlinee.Statement.{statement}
 use Rattle.writer.proofs.add_inlinee.Tie as tie
 
--- what is known where the call goes on
-abbrev start : tie.After-known-told → tie.Start
-start c = c .before .before .before .before .before .before .before
-
-known : (c : tie.After-known-told) → Grows 0xf6 (λ m. extraRule m (length (start c .args .extra .now))) (λ m. 12 + extraLength (extended m) (length (start c .args .extra .now)))
-    (start c .args .buf .now) (start c .args .written) (c .before .header .given .0 .0) (c .before .header .given .0 .1 .0) (c .before .header .given .0 .1 .1 .0)
-known c =
-    grow-goes 0xf6 (λ m. extraRule m (length (start c .args .extra .now))) (λ m. 12 + extraLength (extended m) (length (start c .args .extra .now))) (start c .args .buf .now) (start c .args .written) _ _ _ (λ z. omega arith)
-    (sym (c .before .before .before .inlinee-step .ensures) ∙ ap toldAct (c .before .header .given .1))
+-- the entry, its length, and what the step says
+adds : (c : tie.After-inlinee-step) → let a = c .before .before .before .before .args in
+    Adds (callInlinee (a .inlinee) (a .file) (a .line) (a .extra .now)) (λ m. 12 + extraLength (extended m) (length (a .extra .now))) (a .buf .now) (a .written) (c .inlinee-step .result)
+adds c =
+    let a = c .before .before .before .before .args in
+    record { entry = refl; kind = λ z. omega arith; size = λ m. inlinee-length (extended m) (record { inlinee = a .inlinee; file = a .file; line = a .line; extra = a .extra .now }); says = c .inlinee-step .ensures }
 
 put-inlinee-requires : tie.Need-put-inlinee-requires
 put-inlinee-requires c κs =
-    let a = start (c .before) .args in
-    let g = known (c .before) in
-    let m = c .before .before .header .given .0 .1 .0 in
-    (lent-room (a .written) (12 + extraLength (extended m) (length (a .extra .now))) (a .buf .now) (omega arith), extra-small m (length (a .extra .now)) (g .obeyed) (omega arith))
-
-put-length-requires : tie.Need-put-length-requires
-put-length-requires c κs = (omega (arith, known (c .before .before .before .before .before)), omega (arith, known (c .before .before .before .before .before)))
-
-returns : tie.Need-returns
-returns c =
-    let p = c .before .before .before .before .before .before .before .before in
-    let a = start p .args in
-    let g = known p in
-    let m = p .before .header .given .0 .1 .0 in
-    let it = callInlinee (a .inlinee) (a .file) (a .line) (a .extra .now) in
-    let l = inlinee-length (extended m) (record { inlinee = a .inlinee; file = a .file; line = a .line; extra = a .extra .now }) in
-    kept-go (act it (a .buf .now) (a .written)) (patch it (a .buf .now) (a .written)) (a .buf .now) _ _ _ _ _
-    (ap toldAct (sym (p .before .header .given .1)) ∙ p .before .before .before .inlinee-step .ensures ∙ inlinee-act (a .buf .now) (a .written) (a .inlinee) (a .file) (a .line) (a .extra .now))
-    (ap toldWrote (c .before .before .put-length .ensures .0))
-    (lent-grown (a .written) (a .buf .now) (bytesFor m it) _ _ (p .before .header .given .0 .0) (p .before .header .given .0 .1 .1 .0) (omega arith) (omega arith)
-    (c .before .before .before .before .before .before .put-inlinee .ensures) (omega arith) (c .before .before .put-length .ensures .1))
-
-returns-2 : tie.Need-returns-2
-returns-2 c =
-    let a = c .before .before .before .before .before .before .before .args in
-    let it = callInlinee (a .inlinee) (a .file) (a .line) (a .extra .now) in
-    kept-stop (act it (a .buf .now) (a .written)) (patch it (a .buf .now) (a .written)) (a .buf .now) _
-    (ap toldAct (sym (c .before .why .given .1)) ∙ c .before .before .before .inlinee-step .ensures ∙ inlinee-act (a .buf .now) (a .written) (a .inlinee) (a .file) (a .line) (a .extra .now))
+    let p = c .before .before in
+    let g = adds-known (adds (p .before .before)) (p .header .given .1) in
+    (adds-room (adds (p .before .before)) (p .header .given .1), extra-small (p .header .given .0 .1 .0) _ (g .obeyed) (omega arith))
 
 pub add-inlinee-spec : {M : Type 1} → statement M
 add-inlinee-spec =
@@ -63,13 +33,14 @@ add-inlinee-spec =
     (tie.spec
     (λ c κs. search needs)
     (λ c. search needs)
-    (λ c. omega (arith, known c))
-    (λ c. omega (arith, known c))
+    (λ c. omega (arith, adds-known (adds (c .before .before .before)) (c .before .header .given .1)))
+    (λ c. omega (arith, adds-known (adds (c .before .before .before)) (c .before .header .given .1)))
     (λ c. search needs)
     put-inlinee-requires
-    put-length-requires
+    (λ c κs. let p = c .before .before .before .before .before .before in adds-length (adds (p .before .before)) (p .header .given .1))
     (λ c. search needs)
     (λ c. search needs)
-    returns
+    (λ c. let w = c .before .before .before .before .before .before in let p = w .before .before .before in
+    adds-goes (adds (p .before .before)) (p .header .given .1) (w .put-inlinee .ensures) (c .before .before .put-length .ensures))
     (λ c. search needs)
-    returns-2)
+    (λ c. adds-stops (adds (c .before .before .before)) (c .before .why .given .1)))

@@ -2,57 +2,20 @@
 -- changes.
 -- Assumes nothing.
 use borrow.Author.Needs.{needs}
-use mathlib.Core.Path.{sym, ap, _∙_}
+use mathlib.Core.Path.{refl}
 use native.Mathlib.Omega.{arith}
-use lib.Dec.{leb}
 use Rattle.word.specs.WordLaws.{header-length}
-use Rattle.calls.specs.Calls.{bytesFor, act, patch, callPair}
-use Rattle.calls.specs.Told.{toldAct}
-use Rattle.writer.specs.Told.{toldWrote}
-use Rattle.calls.specs.CallLaws.{pair-act, Grows, grow-goes, kept-go, kept-stop}
-use Rattle.writer.specs.LentLaws.{lent-room, lent-grown}
+use Rattle.calls.specs.Calls.{callPair}
+use Rattle.writer.specs.AddLaws.{Adds, adds-known, adds-room, adds-length, adds-goes, adds-stops}
 use Rattle.writer.proofs.add_pair.Statement.{statement}
 use Rattle.writer.proofs.add_pair.Tie as tie
 
--- what is known where the call goes on
-abbrev start : tie.After-known-told → tie.Start
-start c = c .before .before .before .before .before .before
-
-known : (c : tie.After-known-told) → Grows 0xf8 (λ m. leb m (start c .args .local)) (λ m. 8)
-    (start c .args .buf .now) (start c .args .written) (c .before .header .given .0 .0) (c .before .header .given .0 .1 .0) (c .before .header .given .0 .1 .1 .0)
-known c =
-    grow-goes 0xf8 (λ m. leb m (start c .args .local)) (λ m. 8) (start c .args .buf .now) (start c .args .written) _ _ _ (λ z. omega arith)
-    (sym (c .before .before .before .pair-step .ensures) ∙ ap toldAct (c .before .header .given .1))
-
-put-two-requires : tie.Need-put-two-requires
-put-two-requires c κs =
-    let a = start (c .before) .args in
-    let g = known (c .before) in
-    lent-room (a .written) 8 (a .buf .now) (omega arith)
-
-put-length-requires : tie.Need-put-length-requires
-put-length-requires c κs = (omega (arith, known (c .before .before .before .before .before)), omega (arith, known (c .before .before .before .before .before)))
-
-returns : tie.Need-returns
-returns c =
-    let p = c .before .before .before .before .before .before .before .before in
-    let a = start p .args in
-    let g = known p in
-    let m = p .before .header .given .0 .1 .0 in
-    let it = callPair (a .local) (a .global) in
-    let l = header-length (a .local) (a .global) in
-    kept-go (act it (a .buf .now) (a .written)) (patch it (a .buf .now) (a .written)) (a .buf .now) _ _ _ _ _
-    (ap toldAct (sym (p .before .header .given .1)) ∙ p .before .before .before .pair-step .ensures ∙ pair-act (a .buf .now) (a .written) (a .local) (a .global))
-    (ap toldWrote (c .before .before .put-length .ensures .0))
-    (lent-grown (a .written) (a .buf .now) (bytesFor m it) _ _ (p .before .header .given .0 .0) (p .before .header .given .0 .1 .1 .0) (omega arith) (omega arith)
-    (c .before .before .before .before .before .before .put-two .ensures) (omega arith) (c .before .before .put-length .ensures .1))
-
-returns-2 : tie.Need-returns-2
-returns-2 c =
-    let a = c .before .before .before .before .before .before .args in
-    let it = callPair (a .local) (a .global) in
-    kept-stop (act it (a .buf .now) (a .written)) (patch it (a .buf .now) (a .written)) (a .buf .now) _
-    (ap toldAct (sym (c .before .why .given .1)) ∙ c .before .before .before .pair-step .ensures ∙ pair-act (a .buf .now) (a .written) (a .local) (a .global))
+-- the entry, its length, and what the step says
+adds : (c : tie.After-pair-step) → let a = c .before .before .before .args in
+    Adds (callPair (a .local) (a .global)) (λ m. 8) (a .buf .now) (a .written) (c .pair-step .result)
+adds c =
+    let a = c .before .before .before .args in
+    record { entry = refl; kind = λ z. omega arith; size = λ m. header-length (a .local) (a .global); says = c .pair-step .ensures }
 
 pub add-pair-spec : {M : Type 1} → statement M
 add-pair-spec =
@@ -60,13 +23,14 @@ add-pair-spec =
     (tie.spec
     (λ c κs. search needs)
     (λ c. search needs)
-    (λ c. omega (arith, known c))
-    (λ c. omega (arith, known c))
+    (λ c. omega (arith, adds-known (adds (c .before .before .before)) (c .before .header .given .1)))
+    (λ c. omega (arith, adds-known (adds (c .before .before .before)) (c .before .header .given .1)))
     (λ c. search needs)
-    put-two-requires
-    put-length-requires
+    (λ c κs. let p = c .before .before in adds-room (adds (p .before .before)) (p .header .given .1))
+    (λ c κs. let p = c .before .before .before .before .before .before in adds-length (adds (p .before .before)) (p .header .given .1))
     (λ c. search needs)
     (λ c. search needs)
-    returns
+    (λ c. let w = c .before .before .before .before .before .before in let p = w .before .before .before in
+    adds-goes (adds (p .before .before)) (p .header .given .1) (w .put-two .ensures) (c .before .before .put-length .ensures))
     (λ c. search needs)
-    returns-2)
+    (λ c. adds-stops (adds (c .before .before .before)) (c .before .why .given .1)))
