@@ -10,23 +10,19 @@ use lib.Seq.{length-take-le}
 use lib.Dec.{leb, eqb}
 use borrow.Author.Tests.{leb-true, eqb-true, le-leb, lt-leb, eq-eqb, ne-eqb}
 use Rattle.word.specs.Word.{put, header}
-use Rattle.word.specs.WordLaws.{header-length}
 use Rattle.walk.specs.Listing.{Reply, gave, refused}
 use Rattle.refusal.specs.Told.{Told, told}
 use Rattle.refusal.specs.declared.Refusal.the-variants as why
 use Rattle.body.specs.Lines.{columned, columnsOf}
-use Rattle.body.specs.LinesLaws.{block-length}
 use Rattle.body.specs.Checksums.{up4}
-use Rattle.body.specs.ChecksumsLaws.{checksum-length}
 use Rattle.body.specs.Inlinees.{extended}
-use Rattle.body.specs.InlineesLaws.{extraLength, inlinee-length}
-use Rattle.body.specs.ImportsLaws.{module-length}
-use Rattle.reading.specs.Reading.{Item}
+use Rattle.body.specs.InlineesLaws.{extraLength}
+use Rattle.reading.specs.Reading.{Item, openLines, block, openChecksums, checksum, openInlinees, inlinee, openImports, imports, openExports, exports, opaque, opens}
 use Rattle.plain.specs.Plain.{sizeOf, isOpaque, Last, plainOf}
 use Rattle.plain.specs.RecordLaws.{padding-two}
 use Rattle.plain.specs.LastLaws.{last-lies}
 use Rattle.walk.specs.Cases.{by-cases, and-true}
-use Rattle.calls.specs.Calls.{blockRule, checksumRule, extraRule, opaqueRule, obeys, Act, goes, stops, limit, place, ofKind, lastFor, room, ruled, needs, onLast, act, wrote, kept, callBlock, callChecksum, callInlinee, callModule, callPair, openAct, growAct}
+use Rattle.calls.specs.Calls.{kindOf, bytesFor, blockRule, checksumRule, extraRule, opaqueRule, obeys, Act, goes, stops, limit, place, ofKind, lastFor, room, ruled, needs, onLast, act, grown, patch, wrote, kept, openAct, growAct}
 
 -- ---- the tests of the code
 
@@ -121,26 +117,39 @@ block-rule-odd m n k h = rw (ne-eqb (n % 2) 0 h)
 pub block-rule : (m n k : ℕ) (t : Bool) → n % 2 ≡ 0 → t ≡ eqb k (columnsOf (columned m) (n / 2)) → t ≡ blockRule m n k
 block-rule m n k t h e = e ∙ (rw (eq-eqb (n % 2) 0 h))
 
-module _ (b : List ℕ) (w : ℕ) where
-  pub pair-act : (l g : ℕ) → growAct 0xf8 (λ m. leb m l) (λ m. 8) b w ≡ act (callPair l g) b w
-  pair-act l g = sym (λ i. growAct 0xf8 (λ m. leb m l) (λ m. header-length l g i) b w)
+-- ---- a call by whether it opens a subsection
 
-  pub module-act : (name : ℕ) (ws : List ℕ) → growAct 0xf7 (λ m. true) (λ m. 8 + 4 * length ws) b w ≡ act (callModule name ws) b w
-  module-act name ws = sym (λ i. growAct 0xf7 (λ m. true) (λ m. module-length (record { name = name; words = ws }) i) b w)
+module _ (it : Item) {t : Bool} (e : opens it ≡ t) where
+  pub needs-is : (m : ℕ) → needs m it ≡ cond t (8 + length (bytesFor m it)) (length (bytesFor m it))
+  needs-is m = ap (λ (x : Bool). cond x (8 + length (bytesFor m it)) (length (bytesFor m it))) e
 
-  pub inlinee-act : (e f l : ℕ) (ws : List ℕ)
-      → growAct 0xf6 (λ m. extraRule m (length ws)) (λ m. 12 + extraLength (extended m) (length ws)) b w ≡ act (callInlinee e f l ws) b w
-  inlinee-act e f l ws =
-      sym (λ i. growAct 0xf6 (λ m. extraRule m (length ws)) (λ m. inlinee-length (extended m) (record { inlinee = e; file = f; line = l; extra = ws }) i) b w)
+  pub patch-is : (b : List ℕ) (w h m : ℕ)
+      → patch it b w h m ≡ cond t (put b w (header (kindOf it) (length (bytesFor m it)) ++ bytesFor m it)) (grown b w (bytesFor m it) h)
+  patch-is b w h m = ap (λ (x : Bool). cond x (put b w (header (kindOf it) (length (bytesFor m it)) ++ bytesFor m it)) (grown b w (bytesFor m it) h)) e
 
-  pub checksum-act : (name k : ℕ) (bs : List ℕ) → growAct 0xf4 (λ m. checksumRule k (length bs)) (λ m. up4 (6 + length bs)) b w ≡ act (callChecksum name k bs) b w
-  checksum-act name k bs =
-      sym (λ i. growAct 0xf4 (λ m. checksumRule k (length bs)) (λ m. checksum-length (record { name = name; kind = k; bytes = bs }) i) b w)
+  pub act-is : (b : List ℕ) (w : ℕ)
+      → act it b w ≡ onLast (cond t (place b w) (ofKind (kindOf it) (place b w))) (stops (told why.WrongPlace))
+      (λ l. ruled (obeys (l .mark) it) (room (length b) w (l .header) (l .mark) (needs (l .mark) it)))
+  act-is b w =
+      ap (λ (x : Bool). onLast (cond x (place b w) (ofKind (kindOf it) (place b w))) (stops (told why.WrongPlace))
+      (λ l. ruled (obeys (l .mark) it) (room (length b) w (l .header) (l .mark) (needs (l .mark) it)))) e
 
-  pub block-act : (f : ℕ) (xs ys : List ℕ)
-      → growAct 0xf2 (λ m. blockRule m (length xs) (length ys)) (λ m. 12 + 4 * length xs + 4 * length ys) b w ≡ act (callBlock f xs ys) b w
-  block-act f xs ys =
-      sym (λ i. growAct 0xf2 (λ m. blockRule m (length xs) (length ys)) (λ m. block-length (record { file = f; lines = xs; columns = ys }) i) b w)
+never : {A : Type 0} → _≡_ {A = Bool} true false → A
+never e = let z : _≡_ {A = ℕ} 0 1 = cc in absurd (omega arith)
+
+-- no entry is of kind 0, the kind before the first subsection
+pub kind-some : (it : Item) → opens it ≡ false → kindOf it ≡ 0 → ⊥
+kind-some (openLines h) b e = never b
+kind-some (block x) b e = omega arith
+kind-some openChecksums b e = never b
+kind-some (checksum c) b e = omega arith
+kind-some (openInlinees n) b e = never b
+kind-some (inlinee i) b e = omega arith
+kind-some openImports b e = never b
+kind-some (imports m) b e = omega arith
+kind-some openExports b e = never b
+kind-some (exports p) b e = omega arith
+kind-some (opaque k d) b e = never b
 
 -- ---- what is known where a call goes on
 
@@ -242,9 +251,9 @@ kept-go a f b r h m n x e ex q = (ex ∙ ap wrote e, q ∙ ap (λ (y : Act). kep
 pub kept-stop : (a : Act) (f : ℕ → ℕ → List ℕ) (b : List ℕ) (t : Told) → stops t ≡ a → (refused t ≡ wrote a) × (b ≡ kept a f b)
 kept-stop a f b t e = (ap wrote e, ap (λ (x : Act). kept x f b) e)
 
--- the same with other bytes that are equal
-pub opened : (t : Bool) (b : List ℕ) (w k : ℕ) (hd bs : List ℕ) (x : Reply ℕ Told) (y : List ℕ) → hd ≡ bs → x ≡ wrote (openAct t (8 + length hd) b w)
+-- the same with another test and other bytes that are equal
+pub opened : (t u : Bool) {hd bs : List ℕ} {x : Reply ℕ Told} {y : List ℕ} (b : List ℕ) (w k : ℕ) → t ≡ u → hd ≡ bs → x ≡ wrote (openAct t (8 + length hd) b w)
     → y ≡ kept (openAct t (8 + length hd) b w) (λ h m. put b w (header k (length hd) ++ hd)) b
-    → (x ≡ wrote (openAct t (8 + length bs) b w)) × (y ≡ kept (openAct t (8 + length bs) b w) (λ h m. put b w (header k (length bs) ++ bs)) b)
-opened t b w k hd bs x y e ex ey =
-    (ex ∙ ap (λ (l : List ℕ). wrote (openAct t (8 + length l) b w)) e, ey ∙ ap (λ (l : List ℕ). kept (openAct t (8 + length l) b w) (λ h m. put b w (header k (length l) ++ l)) b) e)
+    → (x ≡ wrote (openAct u (8 + length bs) b w)) × (y ≡ kept (openAct u (8 + length bs) b w) (λ h m. put b w (header k (length bs) ++ bs)) b)
+opened t u b w k et e ex ey =
+    (ex ∙ (λ i. wrote (openAct (et i) (8 + length (e i)) b w)), ey ∙ (λ i. kept (openAct (et i) (8 + length (e i)) b w) (λ h m. put b w (header k (length (e i)) ++ e i)) b))

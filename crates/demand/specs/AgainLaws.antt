@@ -3,7 +3,7 @@ use Prim.Native.Nat.{ℕ, _+_, _-_, _/_, _%_, _≤_}
 use mathlib.Core.Path.{_≡_, refl, sym, ap, _∙_}
 use mathlib.Core.List.{List, [], _∷_, _++_, map, append-assoc, append-nil}
 use mathlib.Core.Bool.{Bool, true, false, cond}
-use mathlib.Core.Option.{Option, none, some}
+use mathlib.Core.Option.{Option, some}
 use native.Mathlib.Omega.{arith}
 use lib.ListN.{length, length-append}
 use lib.Dec.{eqb}
@@ -26,13 +26,13 @@ use Rattle.body.specs.LinesLaws.{Filled}
 use Rattle.body.specs.InlineesLaws.{Fits}
 use Rattle.reading.specs.Reading.{Item, openLines, block, openChecksums, checksum, openInlinees, inlinee, openImports, imports, openExports, exports, opaque, reading, opens}
 use Rattle.plain.specs.Plain.{sizeOf, Last, nothing-yet, plainOf}
-use Rattle.calls.specs.Calls.{kindOf, bytesFor, blockRule, checksumRule, obeys, goes, stops, limit, place, ofKind, room, ruled as obeyed-room, needs, onLast, act, grown, patch}
-use Rattle.calls.specs.CallLaws.{room-there}
+use Rattle.calls.specs.Calls.{kindOf, bytesFor, blockRule, checksumRule, obeys, goes, stops, limit, place, ofKind, room, ruled as obeyed-room, needs, onLast, act, patch}
+use Rattle.calls.specs.CallLaws.{room-there, kind-same, needs-is, patch-is, act-is}
 use Rattle.demand.specs.Secs.{Sec, linesOf, checksumsOf, inlineesOf, importsOf, exportsOf, opaqueOf, kindSec, bodySec, rawSec, callsSec, Sized, Ascend, floorAfter, GoodSec, markSec, rawsOf, callsOf, lastOf}
 use Rattle.demand.specs.SecLaws.{reads-join}
 use Rattle.demand.specs.Run.{State, called, run, empty, written, accepted}
 use Rattle.demand.specs.HoldLaws.{join-length, last-snoc, bigger-block, bigger-checksum, bigger-inlinee, bigger-module, bigger-pair, bigger, fresh}
-use Rattle.demand.specs.RoundLaws.{Holds, called-goes, at-is, place-here, holds-fresh, holds-bigger, grow-is, empty-holds}
+use Rattle.demand.specs.RoundLaws.{Holds, called-goes, at-is, place-here, holds-fresh, holds-bigger, empty-holds}
 use Rattle.demand.specs.BackLaws.{plain-back}
 
 -- ---- a call is accepted
@@ -40,20 +40,11 @@ use Rattle.demand.specs.BackLaws.{plain-back}
 ruled-goes : (t : Bool) (n w h m need : ℕ) → t ≡ true → w + need ≤ limit n → obeyed-room t (room n w h m need) ≡ goes h m (w + need)
 ruled-goes t n w h m need e l = ap (λ (x : Bool). obeyed-room x (room n w h m need)) e ∙ sym (room-there n w h m need l)
 
-act-fresh : (it : Item) (b : List ℕ) (w : ℕ) (l : Last) → opens it ≡ true → place b w ≡ some l → obeys (l .mark) it ≡ true → w + needs (l .mark) it ≤ limit (length b)
-    → act it b w ≡ goes (l .header) (l .mark) (w + needs (l .mark) it)
-act-fresh it b w l e p o r =
-    ap (λ (t : Bool). onLast (cond t (place b w) (ofKind (kindOf it) (place b w))) (stops (told why.WrongPlace))
-    (λ x. obeyed-room (obeys (x .mark) it) (room (length b) w (x .header) (x .mark) (needs (x .mark) it)))) e
+act-on : (it : Item) (b : List ℕ) (w : ℕ) (l : Last) {t : Bool} → opens it ≡ t → cond t (place b w) (ofKind (kindOf it) (place b w)) ≡ some l
+    → obeys (l .mark) it ≡ true → w + needs (l .mark) it ≤ limit (length b) → act it b w ≡ goes (l .header) (l .mark) (w + needs (l .mark) it)
+act-on it b w l e p o r =
+    act-is it e b w
     ∙ ap (λ (z : Option Last). onLast z (stops (told why.WrongPlace)) (λ x. obeyed-room (obeys (x .mark) it) (room (length b) w (x .header) (x .mark) (needs (x .mark) it)))) p
-    ∙ ruled-goes (obeys (l .mark) it) (length b) w (l .header) (l .mark) (needs (l .mark) it) o r
-
-act-bigger : (it : Item) (b : List ℕ) (w : ℕ) (l : Last) → opens it ≡ false → place b w ≡ some l → l .kind ≡ kindOf it → obeys (l .mark) it ≡ true → w + needs (l .mark) it ≤ limit (length b)
-    → act it b w ≡ goes (l .header) (l .mark) (w + needs (l .mark) it)
-act-bigger it b w l e p k o r =
-    let q : ofKind (kindOf it) (place b w) ≡ some l = ap (ofKind (kindOf it)) p ∙ ap (λ (t : Bool). cond t (some l) none) (eq-eqb (l .kind) (kindOf it) k) in
-    sym (grow-is it b w e)
-    ∙ ap (λ (z : Option Last). onLast z (stops (told why.WrongPlace)) (λ x. obeyed-room (obeys (x .mark) it) (room (length b) w (x .header) (x .mark) (needs (x .mark) it)))) q
     ∙ ruled-goes (obeys (l .mark) it) (length b) w (l .header) (l .mark) (needs (l .mark) it) o r
 
 -- ---- it leaves the buffer as long as it was
@@ -63,17 +54,16 @@ length-fresh it b w h m e l =
     let B : List ℕ = bytesFor m it in
     let bs : List ℕ = header (kindOf it) (length B) ++ B in
     let lb : length bs ≡ 8 + length B = length-append (header (kindOf it) (length B)) B ∙ omega (arith, header-length (kindOf it) (length B)) in
-    let n : needs m it ≡ 8 + length B = ap (λ (t : Bool). cond t (8 + length B) (length B)) e in
-    ap length (ap (λ (t : Bool). cond t (put b w bs) (grown b w B h)) e) ∙ put-length b w bs (omega arith)
+    let n : needs m it ≡ 8 + length B = needs-is it e m in
+    ap length (patch-is it e b w h m) ∙ put-length b w bs (omega arith)
 
 length-bigger : (it : Item) (b : List ℕ) (w h m : ℕ) → opens it ≡ false → w + needs m it ≤ length b → h + 8 ≤ w → length (patch it b w h m) ≡ length b
 length-bigger it b w h m e l k =
     let B : List ℕ = bytesFor m it in
-    let n : needs m it ≡ length B = ap (λ (t : Bool). cond t (8 + length B) (length B)) e in
+    let n : needs m it ≡ length B = needs-is it e m in
     let v = w + length B - h - 8 in
     let l₁ : length (put b w B) ≡ length b = put-length b w B (omega arith) in
-    ap length (ap (λ (t : Bool). cond t (put b w (header (kindOf it) (length B) ++ B)) (grown b w B h)) e)
-    ∙ put-length (put b w B) (h + 4) (le32 v) (omega (arith, le32-length v)) ∙ l₁
+    ap length (patch-is it e b w h m) ∙ put-length (put b w B) (h + 4) (le32 v) (omega (arith, le32-length v)) ∙ l₁
 
 -- ---- a state that goes on holding
 
@@ -95,10 +85,10 @@ new-sec st ss H it b o s es r =
     let m = l .mark in
     let F = fresh it m b (o m) in
     let lb : length (bodySec s) ≡ length (bytesFor m it) = ap (λ (x : Sec). length (bodySec x)) (sym (es m)) ∙ ap length (F .body) in
-    let n : needs m it ≡ 8 + length (bytesFor m it) = ap (λ (t : Bool). cond t (8 + length (bytesFor m it)) (length (bytesFor m it))) b in
+    let n : needs m it ≡ 8 + length (bytesFor m it) = needs-is it b m in
     let w : st .at ≡ length (join (rawsOf ss)) = at-is st ss H in
     let f : st .at + needs m it ≤ limit (length (st .buf)) = omega (arith, join-length ss s) in
-    let q = act-fresh it (st .buf) (st .at) l b (place-here st ss H) (o m) f in
+    let q = act-on it (st .buf) (st .at) l b (place-here st ss H) (o m) f in
     let c = called-goes it st (l .header) m (st .at + needs m it) q in
     let K = holds-fresh st ss H it (l .header) m (st .at + needs m it) b (o m) refl f in
     record {
@@ -115,12 +105,12 @@ more-sec st ss s H it b g k o t et r =
     let F = bigger it s b g k o in
     let lt : length (bodySec t) ≡ length (bodySec s) + length (bytesFor m it) =
     ap (λ (x : Sec). length (bodySec x)) (sym et) ∙ ap length (F .body) ∙ length-append (bodySec s) (bytesFor m it) in
-    let n : needs m it ≡ length (bytesFor m it) = ap (λ (x : Bool). cond x (8 + length (bytesFor m it)) (length (bytesFor m it))) b in
+    let n : needs m it ≡ length (bytesFor m it) = needs-is it b m in
     let w : st .at ≡ length (join (rawsOf (ss ++ (s ∷ [])))) = at-is st (ss ++ (s ∷ [])) H in
     let js = join-length ss s in
     let f : st .at + needs m it ≤ limit (length (st .buf)) = omega (arith, join-length ss t) in
     let p : place (st .buf) (st .at) ≡ some l = place-here st (ss ++ (s ∷ [])) H ∙ ap some (last-snoc ss s 0 nothing-yet) in
-    let q = act-bigger it (st .buf) (st .at) l b p k o f in
+    let q = act-on it (st .buf) (st .at) l b (sym (kind-same (kindOf it) (place (st .buf) (st .at)) l (sym p) k)) o f in
     let c = called-goes it st (0 + J) m (st .at + needs m it) q in
     let K = holds-bigger st ss s H it (0 + J) m (st .at + needs m it) b g k o (omega arith) refl refl f in
     record {

@@ -15,9 +15,8 @@ use Rattle.refusal.specs.Told.{Told, told}
 use Rattle.refusal.specs.declared.Refusal.the-variants as why
 use Rattle.reading.specs.Reading.{Item, opens}
 use Rattle.plain.specs.Plain.{Last}
-use Rattle.calls.specs.Calls.{kindOf, bytesFor, obeys, Act, goes, stops, needs, act, grown, patch, wrote, kept, answered, after, lastFor, room, ruled, onLast, limit}
-use Rattle.calls.specs.CallLaws.{act-goes, grow-goes}
-use Rattle.demand.specs.RoundLaws.{kind-some, grow-is}
+use Rattle.calls.specs.Calls.{kindOf, bytesFor, obeys, Act, goes, stops, needs, act, patch, wrote, kept, answered, after, lastFor, room, ruled, onLast, limit}
+use Rattle.calls.specs.CallLaws.{needs-is, patch-is, act-is, kind-some, act-goes, grow-goes}
 
 never : {A : Type 0} {n : ℕ} {t : Told} → _≡_ {A = Reply ℕ Told} (gave n) (refused t) → A
 never e = let z : _≡_ {A = ℕ} 0 1 = cc in absurd (omega arith)
@@ -46,17 +45,17 @@ module _ (it : Item) (b : List ℕ) (w h m n : ℕ) (q : act it b w ≡ goes h m
       let B : List ℕ = bytesFor m it in
       let bs : List ℕ = header (kindOf it) (length B) ++ B in
       let lb : length bs ≡ 8 + length B = length-append (header (kindOf it) (length B)) B ∙ omega (arith, header-length (kindOf it) (length B)) in
-      let k : needs m it ≡ 8 + length B = ap (λ (t : Bool). cond t (8 + length B) (length B)) e in
-      ap (drop n) (ap (λ (t : Bool). cond t (put b w bs) (grown b w B h)) e) ∙ drop-put b bs w n (omega (arith, g .fits)) (omega (arith, g .next))
+      let k : needs m it ≡ 8 + length B = needs-is it e m in
+      ap (drop n) (patch-is it e b w h m) ∙ drop-put b bs w n (omega (arith, g .fits)) (omega (arith, g .next))
 
   behind-bigger : opens it ≡ false → drop n (patch it b w h m) ≡ drop n b
   behind-bigger e =
-      let g = grow-goes (kindOf it) (λ k. obeys k it) (λ k. needs k it) b w h m n (kind-some it e) (grow-is it b w e ∙ q) in
+      let g = grow-goes (kindOf it) (λ k. obeys k it) (λ k. needs k it) b w h m n (kind-some it e) (sym (act-is it e b w) ∙ q) in
       let B : List ℕ = bytesFor m it in
-      let k : needs m it ≡ length B = ap (λ (t : Bool). cond t (8 + length B) (length B)) e in
+      let k : needs m it ≡ length B = needs-is it e m in
       let v = w + length B - h - 8 in
       let l : length (put b w B) ≡ length b = put-length b w B (omega (arith, g .fits)) in
-      ap (drop n) (ap (λ (t : Bool). cond t (put b w (header (kindOf it) (length B) ++ B)) (grown b w B h)) e)
+      ap (drop n) (patch-is it e b w h m)
       ∙ drop-put (put b w B) (le32 v) (h + 4) n (omega (arith, g .head, g .fits)) (omega (arith, g .head, g .next, le32-length v))
       ∙ drop-put b B w n (omega (arith, g .fits)) (omega (arith, g .next))
 

@@ -3,7 +3,7 @@ use Prim.Native.Nat.{ℕ, _+_, _-_, _≤_}
 use mathlib.Core.Path.{_≡_, refl, sym, ap, _∙_}
 use mathlib.Core.Logic.{_⊎_, ⊎-elim}
 use mathlib.Core.List.{List, [], _∷_, _++_, append-assoc}
-use mathlib.Core.Bool.{Bool, true, false, cond}
+use mathlib.Core.Bool.{Bool, true, false}
 use mathlib.Core.Option.{some}
 use native.Mathlib.Omega.{arith}
 use lib.ListN.{length, take, length-append}
@@ -11,15 +11,14 @@ use lib.Seq.{length-take-le}
 use Rattle.word.specs.Word.{le32, put, header}
 use Rattle.word.specs.WordLaws.{header-length, le32-length, put-length}
 use Rattle.walk.specs.Listing.{Listing, ends, before}
-use Rattle.refusal.specs.Told.{Told, told}
-use Rattle.refusal.specs.declared.Refusal.the-variants as why
+use Rattle.refusal.specs.Told.{Told}
 use Rattle.area.specs.Kind.{ruled}
 use Rattle.area.specs.Join.{join}
 use Rattle.body.specs.RunLaws.{Each, each-snoc}
-use Rattle.reading.specs.Reading.{Item, openLines, block, openChecksums, checksum, openInlinees, inlinee, openImports, imports, openExports, exports, opaque, reading, opens}
+use Rattle.reading.specs.Reading.{Item, reading, opens}
 use Rattle.plain.specs.Plain.{Last, nothing-yet, plainOf}
-use Rattle.calls.specs.Calls.{kindOf, bytesFor, obeys, Act, goes, stops, limit, place, ofKind, room, ruled as obeyed-room, needs, onLast, act, grown, patch, wrote, kept, growAct}
-use Rattle.calls.specs.CallLaws.{place-in, act-goes, Grows, grow-goes}
+use Rattle.calls.specs.Calls.{kindOf, bytesFor, obeys, Act, goes, stops, limit, place, needs, act, grown, patch, wrote, kept}
+use Rattle.calls.specs.CallLaws.{place-in, needs-is, patch-is, act-is, kind-some, act-goes, Grows, grow-goes}
 use Rattle.demand.specs.Secs.{Sec, kindSec, bodySec, callsSec, GoodSec, markSec, rawsOf, callsOf, lastOf}
 use Rattle.demand.specs.SecLaws.{plain-join, reads-join}
 use Rattle.demand.specs.Run.{State, placeAfter, doneAfter, called, run, empty, written, accepted}
@@ -56,12 +55,6 @@ module _ (st : State) (ss : List Sec) (H : Holds st ss) where
 
 -- ---- a new subsection
 
-needs-new : (it : Item) (m : ℕ) → opens it ≡ true → needs m it ≡ 8 + length (bytesFor m it)
-needs-new it m b = ap (λ (t : Bool). cond t (8 + length (bytesFor m it)) (length (bytesFor m it))) b
-
-needs-more : (it : Item) (m : ℕ) → opens it ≡ false → needs m it ≡ length (bytesFor m it)
-needs-more it m b = ap (λ (t : Bool). cond t (8 + length (bytesFor m it)) (length (bytesFor m it))) b
-
 pub holds-fresh : (st : State) (ss : List Sec) → Holds st ss → (it : Item) (h m n : ℕ) (b : opens it ≡ true) (o : obeys m it ≡ true) → n ≡ st .at + needs m it
     → st .at + needs m it ≤ limit (length (st .buf)) → Holds (gone it st h m n) (ss ++ (fresh it m b o .sec ∷ []))
 holds-fresh st ss H it h m n b o en l =
@@ -69,12 +62,12 @@ holds-fresh st ss H it h m n b o en l =
     let s = F .sec in
     let B : List ℕ = bytesFor m it in
     let bs : List ℕ = header (kindOf it) (length B) ++ B in
-    let e : patch it (st .buf) (st .at) h m ≡ put (st .buf) (st .at) bs = ap (λ (t : Bool). cond t (put (st .buf) (st .at) bs) (grown (st .buf) (st .at) B h)) b in
+    let e : patch it (st .buf) (st .at) h m ≡ put (st .buf) (st .at) bs = patch-is it b (st .buf) (st .at) h m in
     let eb : put (st .buf) (st .at) bs ≡ put (st .buf) (st .at) (header (kindSec s) (length (bodySec s)) ++ bodySec s) =
     ap (λ (x : List ℕ). put (st .buf) (st .at) (header (kindOf it) (length x) ++ x)) (sym (F .body)) ∙ ap (λ (k : ℕ). put (st .buf) (st .at) (header k (length (bodySec s)) ++ bodySec s)) (sym (F .kind)) in
     let lb : length bs ≡ 8 + length B = length-append (header (kindOf it) (length B)) B ∙ omega (arith, header-length (kindOf it) (length B)) in
     let ls : length (bodySec s) ≡ length B = ap length (F .body) in
-    let nn = needs-new it m b in
+    let nn = needs-is it b m in
     let nx : n ≡ st .at + (8 + length (bodySec s)) = omega arith in
     let len : length (patch it (st .buf) (st .at) h m) ≡ length (st .buf) = ap length e ∙ put-length (st .buf) (st .at) bs (omega arith) in
     record {
@@ -97,9 +90,8 @@ holds-bigger st ss s H it h m n b g k o eh em en l =
     let B : List ℕ = bytesFor (markSec s) it in
     let J = length (join (rawsOf ss)) in
     let e : patch it (st .buf) w h m ≡ grown (st .buf) w B J =
-    ap (λ (x : Bool). cond x (put (st .buf) w (header (kindOf it) (length (bytesFor m it)) ++ bytesFor m it)) (grown (st .buf) w (bytesFor m it) h)) b
-    ∙ ap (λ (x : ℕ). grown (st .buf) w (bytesFor x it) h) em ∙ ap (grown (st .buf) w B) eh in
-    let nm : needs m it ≡ length B = needs-more it m b ∙ ap (λ (x : ℕ). length (bytesFor x it)) em in
+    patch-is it b (st .buf) w h m ∙ ap (λ (x : ℕ). grown (st .buf) w (bytesFor x it) h) em ∙ ap (grown (st .buf) w B) eh in
+    let nm : needs m it ≡ length B = needs-is it b m ∙ ap (λ (x : ℕ). length (bytesFor x it)) em in
     let nx : n ≡ w + length B = omega arith in
     let aw : w ≡ length (join (rawsOf (ss ++ (s ∷ [])))) = at-is st (ss ++ (s ∷ [])) H in
     let lj = join-length ss s in
@@ -117,27 +109,6 @@ holds-bigger st ss s H it h m n b g k o eh em en l =
 
 -- ---- any call
 
-never : {A : Type 0} → _≡_ {A = Bool} true false → A
-never e = let z : _≡_ {A = ℕ} 0 1 = cc in absurd (omega arith)
-
-pub kind-some : (it : Item) → opens it ≡ false → kindOf it ≡ 0 → ⊥
-kind-some (openLines h) b e = never b
-kind-some (block x) b e = omega arith
-kind-some openChecksums b e = never b
-kind-some (checksum c) b e = omega arith
-kind-some (openInlinees n) b e = never b
-kind-some (inlinee i) b e = omega arith
-kind-some openImports b e = never b
-kind-some (imports m) b e = omega arith
-kind-some openExports b e = never b
-kind-some (exports p) b e = omega arith
-kind-some (opaque k d) b e = never b
-
-pub grow-is : (it : Item) (b : List ℕ) (w : ℕ) → opens it ≡ false → growAct (kindOf it) (λ k. obeys k it) (λ k. needs k it) b w ≡ act it b w
-grow-is it b w f =
-    ap (λ (t : Bool). onLast (cond t (place b w) (ofKind (kindOf it) (place b w))) (stops (told why.WrongPlace))
-    (λ l. obeyed-room (obeys (l .mark) it) (room (length b) w (l .header) (l .mark) (needs (l .mark) it)))) (sym f)
-
 abbrev Held : State → Type 0
 Held st = (ss : List Sec) × Holds st ss
 
@@ -151,7 +122,7 @@ module _ (st : State) (ss : List Sec) (H : Holds st ss) (it : Item) (h m n : ℕ
   goes-bigger b = ⊎-elim at-none at-last (snoc-view ss)
     where
       G : Grows (kindOf it) (λ k. obeys k it) (λ k. needs k it) (st .buf) (st .at) h m n
-      G = grow-goes (kindOf it) (λ k. obeys k it) (λ k. needs k it) (st .buf) (st .at) h m n (kind-some it b) (grow-is it (st .buf) (st .at) b ∙ q)
+      G = grow-goes (kindOf it) (λ k. obeys k it) (λ k. needs k it) (st .buf) (st .at) h m n (kind-some it b) (sym (act-is it b (st .buf) (st .at)) ∙ q)
 
       same : some (lastOf 0 nothing-yet ss) ≡ some (record { header = h; kind = kindOf it; mark = m })
       same = sym (plain-here st ss H) ∙ G .plain

@@ -2,23 +2,22 @@
 -- differ in the entry and its length alone, so each proof says only these.
 use Prim.Native.Nat.{ℕ, _+_, _-_, _≤_}
 use mathlib.Core.Path.{_≡_, sym, ap, _∙_}
-use mathlib.Core.List.{List, _++_}
-use mathlib.Core.Bool.{Bool, false, cond}
+use mathlib.Core.List.{List}
+use mathlib.Core.Bool.{false}
 use native.Mathlib.Omega.{arith}
 use lib.ListN.{length}
 use borrow.Rule.Slice.PartMut.{putMid}
 use Rattle.word.specs.PartLaws.{lent}
-use Rattle.word.specs.Word.{le32, put, store, header}
+use Rattle.word.specs.Word.{le32, store}
 use Rattle.refusal.specs.Told.{told}
 use Rattle.walk.specs.Listing.{refused}
 use Rattle.refusal.specs.declared.Refusal.{Refusal}
-use Rattle.refusal.specs.declared.Refusal.the-variants as why
 use Rattle.reading.specs.Reading.{Item, opens}
 use Rattle.calls.specs.declared.Step.{Step}
 use Rattle.calls.specs.declared.Step.the-variants as step
-use Rattle.calls.specs.Calls.{kindOf, bytesFor, obeys, stops, place, ofKind, room, ruled, onLast, act, grown, patch, answered, after, growAct}
+use Rattle.calls.specs.Calls.{kindOf, bytesFor, obeys, needs, act, patch, answered, after, growAct}
 use Rattle.calls.specs.Told.{toldAct}
-use Rattle.calls.specs.CallLaws.{Grows, grow-goes, kept-go, kept-stop}
+use Rattle.calls.specs.CallLaws.{needs-is, patch-is, act-is, kind-some, Grows, grow-goes, kept-go, kept-stop}
 use Rattle.writer.specs.declared.Wrote.{Wrote}
 use Rattle.writer.specs.declared.Wrote.the-variants as wrote
 use Rattle.writer.specs.Told.{toldWrote}
@@ -27,21 +26,17 @@ use Rattle.writer.specs.LentLaws.{over, lent-room, lent-grown}
 -- a call for an entry of `need` bytes, and the answer s of its step
 pub record Adds (it : Item) (need : ℕ → ℕ) (b : List ℕ) (w : ℕ) (s : Step) : Type 0 where
   pub entry : opens it ≡ false
-  pub kind : kindOf it ≡ 0 → ⊥
-  pub size : (m : ℕ) → length (bytesFor m it) ≡ need m
+  pub size : (m : ℕ) → needs m it ≡ need m
   pub says : toldAct s ≡ growAct (kindOf it) (λ m. obeys m it) need b w
 
 -- the step says what the call does
 acts : {it : Item} {need : ℕ → ℕ} {b : List ℕ} {w : ℕ} {s : Step} → Adds it need b w s → toldAct s ≡ act it b w
-acts {it} {need} {b} {w} d =
-    d .says ∙ sym (λ i. growAct (kindOf it) (λ m. obeys m it) (λ m. d .size m i) b w)
-    ∙ ap (λ (t : Bool). onLast (cond t (place b w) (ofKind (kindOf it) (place b w))) (stops (told why.WrongPlace))
-    (λ l. ruled (obeys (l .mark) it) (room (length b) w (l .header) (l .mark) (cond t (8 + length (bytesFor (l .mark) it)) (length (bytesFor (l .mark) it)))))) (sym (d .entry))
+acts {it} {need} {b} {w} d = d .says ∙ sym (λ i. growAct (kindOf it) (λ m. obeys m it) (λ m. d .size m i) b w) ∙ sym (act-is it (d .entry) b w)
 
 -- it goes on
 module _ {it : Item} {need : ℕ → ℕ} {b : List ℕ} {w : ℕ} {s : Step} {h m n : ℕ} (d : Adds it need b w s) (e : s ≡ step.Go h m n) where
   pub adds-known : Grows (kindOf it) (λ k. obeys k it) need b w h m n
-  adds-known = grow-goes (kindOf it) (λ k. obeys k it) need b w h m n (d .kind) (sym (d .says) ∙ ap toldAct e)
+  adds-known = grow-goes (kindOf it) (λ k. obeys k it) need b w h m n (kind-some it (d .entry)) (sym (d .says) ∙ ap toldAct e)
 
   -- what the writer of the entry and the writer of the last length ask
   pub adds-room : need m ≤ length (lent w b)
@@ -55,10 +50,9 @@ module _ {it : Item} {need : ℕ → ℕ} {b : List ℕ} {w : ℕ} {s : Step} {h
   adds-goes {y} {z} {r} ey er =
       let g = adds-known in
       let bs = bytesFor m it in
-      let l = d .size m in
-      let p : patch it b w h m ≡ grown b w bs h = ap (λ (t : Bool). cond t (put b w (header (kindOf it) (length bs) ++ bs)) (grown b w bs h)) (d .entry) in
+      let l : length bs ≡ need m = sym (needs-is it (d .entry) m) ∙ d .size m in
       kept-go (act it b w) (patch it b w) b z h m n (toldWrote r) (ap toldAct (sym e) ∙ acts d) (ap toldWrote (er .0))
-      (lent-grown w b bs y z h n (omega arith) (omega arith) ey (omega arith) (er .1) ∙ sym p)
+      (lent-grown w b bs y z h n (omega arith) (omega arith) ey (omega arith) (er .1) ∙ sym (patch-is it (d .entry) b w h m))
 
 -- it stops, and nothing changes
 pub adds-stops : {it : Item} {need : ℕ → ℕ} {b : List ℕ} {w : ℕ} {s : Step} {t : Refusal} → Adds it need b w s → s ≡ step.Stop t

@@ -17,7 +17,7 @@ adds : (c : tie.After-block-step) → let a = c .before .before .before .before 
     Adds (callBlock (a .file) (a .lines .now) (a .columns .now)) (λ m. 12 + 4 * length (a .lines .now) + 4 * length (a .columns .now)) (a .buf .now) (a .written) (c .block-step .result)
 adds c =
     let a = c .before .before .before .before .before .args in
-    record { entry = refl; kind = λ z. omega arith; size = λ m. block-length (record { file = a .file; lines = a .lines .now; columns = a .columns .now }); says = c .block-step .ensures }
+    record { entry = refl; size = λ m. block-length (record { file = a .file; lines = a .lines .now; columns = a .columns .now }); says = c .block-step .ensures }
 
 pub add-block-spec : {M : Type 1} → statement M
 add-block-spec =

@@ -19,7 +19,7 @@ adds : (c : tie.After-checksum-step) → let a = c .before .before .before .befo
     Adds (callChecksum (a .name) (a .kind) (a .bytes .now)) (λ m. up4 (6 + length (a .bytes .now))) (a .buf .now) (a .written) (c .checksum-step .result)
 adds c =
     let a = c .before .before .before .before .args in
-    record { entry = refl; kind = λ z. omega arith; size = λ m. checksum-length (record { name = a .name; kind = a .kind; bytes = a .bytes .now }); says = c .checksum-step .ensures }
+    record { entry = refl; size = λ m. checksum-length (record { name = a .name; kind = a .kind; bytes = a .bytes .now }); says = c .checksum-step .ensures }
 
 put-checksum-requires : tie.Need-put-checksum-requires
 put-checksum-requires c κs =

@@ -19,7 +19,7 @@ adds : (c : tie.After-inlinee-step) → let a = c .before .before .before .befor
     Adds (callInlinee (a .inlinee) (a .file) (a .line) (a .extra .now)) (λ m. 12 + extraLength (extended m) (length (a .extra .now))) (a .buf .now) (a .written) (c .inlinee-step .result)
 adds c =
     let a = c .before .before .before .before .args in
-    record { entry = refl; kind = λ z. omega arith; size = λ m. inlinee-length (extended m) (record { inlinee = a .inlinee; file = a .file; line = a .line; extra = a .extra .now }); says = c .inlinee-step .ensures }
+    record { entry = refl; size = λ m. inlinee-length (extended m) (record { inlinee = a .inlinee; file = a .file; line = a .line; extra = a .extra .now }); says = c .inlinee-step .ensures }
 
 put-inlinee-requires : tie.Need-put-inlinee-requires
 put-inlinee-requires c κs =

@@ -17,7 +17,7 @@ adds : (c : tie.After-module-step) → let a = c .before .before .before .before
     Adds (callModule (a .name) (a .words .now)) (λ m. 8 + 4 * length (a .words .now)) (a .buf .now) (a .written) (c .module-step .result)
 adds c =
     let a = c .before .before .before .before .args in
-    record { entry = refl; kind = λ z. omega arith; size = λ m. module-length (record { name = a .name; words = a .words .now }); says = c .module-step .ensures }
+    record { entry = refl; size = λ m. module-length (record { name = a .name; words = a .words .now }); says = c .module-step .ensures }
 
 pub add-module-spec : {M : Type 1} → statement M
 add-module-spec =

@@ -15,7 +15,7 @@ adds : (c : tie.After-pair-step) → let a = c .before .before .before .args in
     Adds (callPair (a .local) (a .global)) (λ m. 8) (a .buf .now) (a .written) (c .pair-step .result)
 adds c =
     let a = c .before .before .before .args in
-    record { entry = refl; kind = λ z. omega arith; size = λ m. header-length (a .local) (a .global); says = c .pair-step .ensures }
+    record { entry = refl; size = λ m. header-length (a .local) (a .global); says = c .pair-step .ensures }
 
 pub add-pair-spec : {M : Type 1} → statement M
 add-pair-spec =

@@ -1,5 +1,6 @@
 -- `writer::open_inlinees` meets its contract: a new subsection with the signature in it.
 -- Assumes nothing.
+use mathlib.Core.Path.{refl}
 use lib.Dec.{leb}
 use borrow.Author.Needs.{needs}
 use Rattle.calls.specs.CallLaws.{opened}
@@ -11,7 +12,7 @@ returns : tie.Need-returns
 returns c =
     let p = c .before .before in
     let a = p .before .before .before .before .before .before .before .args in
-    opened (leb (a .signature) 1) (a .buf .now) (a .written) 0xf6 _ _ _ _ (signature-made (a .signature) _ (p .before .before .before .before .put-u32 .ensures)) (p .open-with .ensures .0) (p .open-with .ensures .1)
+    opened (leb (a .signature) 1) _ (a .buf .now) (a .written) 0xf6 refl (signature-made (a .signature) _ (p .before .before .before .before .put-u32 .ensures)) (p .open-with .ensures .0) (p .open-with .ensures .1)
 
 pub open-inlinees-spec : {M : Type 1} → statement M
 open-inlinees-spec =
