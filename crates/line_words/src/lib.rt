@@ -221,7 +221,7 @@ fn put_held(out: &mut [u64], h: Held)
 {
     match h {
         Held::Nothing => {
-            given::put(out, 4, &[0, 0, 0, 0, 0, 0, 0, 0, 0, 0, 0, 0, 0], GIVEN);
+            given::put(out, 4, &[0; 13], GIVEN);
         }
         Held::One(r) => {
             given::put(out, 4, &[1], GIVEN);
@@ -274,44 +274,11 @@ fn put_walk(out: &mut [u64], w: LineWalk)
 {
     match w {
         LineWalk::New => {
-            given::put(
-                out,
-                0,
-                &[
-                    0,
-                    0,
-                    0,
-                    0,
-                    0,
-                    0,
-                    0,
-                    0,
-                    0,
-                    0,
-                    0,
-                    0,
-                    0,
-                    0,
-                    0,
-                    0,
-                    0,
-                    0,
-                    0,
-                    0,
-                    0,
-                    0,
-                    0,
-                    0,
-                    0,
-                    0,
-                    0,
-                ],
-                GIVEN,
-            );
+            given::put(out, 0, &[0; 27], GIVEN);
         }
         LineWalk::Between(t) => {
             put_rest(out, 1, t);
-            given::put(out, 17, &[0, 0, 0, 0, 0, 0, 0, 0, 0, 0], GIVEN);
+            given::put(out, 17, &[0; 10], GIVEN);
         }
         LineWalk::Inside(p, t) => {
             put_rest(out, 2, t);
