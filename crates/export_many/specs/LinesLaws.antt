@@ -4,7 +4,7 @@ use mathlib.Core.Path.{_≡_, sym, ap, _∙_, subst⁻¹}
 use mathlib.Core.List.{List, [], _∷_, _++_}
 use native.Mathlib.Omega.{arith}
 use lib.ListN.{length, length-append}
-use Rattle.word.specs.Word.{put, store}
+use Rattle.word.specs.Word.{put}
 use Rattle.word.specs.WordLaws.{put-length, store-put}
 use Rattle.area.specs.Kind.{ruled}
 use Rattle.given.specs.Given.{given, Gives}

@@ -1,6 +1,6 @@
 // A line record and a state of the line walk in words, for programs in other languages, and back.
 ghost use mathlib.Core.Path.{_≡_};
-ghost use mathlib.Core.List.{[], _∷_, _++_};
+ghost use mathlib.Core.List.{[], _∷_};
 ghost use Prim.Native.Nat.{_≤_};
 ghost use lib.ListN.{length, getD};
 ghost use Rattle.word.specs.Word.{put, store};

@@ -5,10 +5,13 @@ use mathlib.Core.List.{List}
 use mathlib.Core.Bool.{Bool, true, false, cond}
 use native.Mathlib.Omega.{arith}
 use lib.ListN.{length, getD, take}
+use lib.Dec.{eqb}
+use borrow.Author.Tests.{eqb-true, eqb-false}
 use Rattle.word.specs.Word.{store}
+use Rattle.walk.specs.Cases.{by-cases}
 use Rattle.walk.specs.Listing.{item, pass, Answer, gives, none, gave}
 use Rattle.walk.specs.First.{onFirst}
-use Rattle.walk.specs.Many.{Many, noMore, thenMany, many}
+use Rattle.walk.specs.Many.{many}
 use Rattle.walk.specs.ManyLaws.{NoRecord, many-step, many-none, many-zero}
 use Rattle.refusal.specs.Told.{Told, longest}
 use Rattle.area.specs.Kind.{ruled}
@@ -28,19 +31,18 @@ use Rattle.lines.specs.declared.LineHeader.{LineHeader}
 use Rattle.turns.specs.Turn.{LineMove, withHeld, placeAt, restAt, enterAt, betweenTurn, openOf, turnOf}
 use Rattle.turns.specs.TurnLaws.{end-nothing, end-close, enter-in, sub-is, between-sub, block-is, inside-block, turn-is}
 use Rattle.turns.specs.declared.Held.the-variants.{Nothing, One}
-use Rattle.turns.specs.declared.Held.{Held}
 use Rattle.turns.specs.declared.Rest.{Rest}
 use Rattle.turns.specs.declared.Place.{Place}
 use Rattle.turns.specs.declared.LineWalk.{LineWalk}
 use Rattle.turns.specs.declared.LineWalk.the-variants.{New, Between, Inside}
-use Rattle.records.specs.Next.{todo, nextOf}
-use Rattle.records.specs.NextLaws.{next-is, next-falls}
+use Rattle.records.specs.Next.{nextOf}
+use Rattle.records.specs.NextLaws.{next-is}
 use Rattle.given.specs.Fill.{noRoom, counted}
 use Rattle.whole_list.specs.Begin.{beginAt}
 use Rattle.stretch.specs.declared.Lined.{Lined}
 use Rattle.stretch.specs.Stretch.{Used, Rode}
 use Rattle.stretch.specs.GoesLaws.{Going, Goes, goes-same, goes-pass, goes-on}
-use Rattle.stretch.specs.FillLaws.{Filled, Fills, turns-start, turns-pass, turns-record, turns-full, turns-stop, turns-none, turns-behind, record-falls}
+use Rattle.stretch.specs.FillLaws.{Filled, turns-start, turns-record, turns-full, turns-stop, turns-none, turns-behind}
 use Rattle.many_lines.specs.LedLaws.{Led, begin-same, led-kept}
 use Rattle.many_lines.specs.Went.{standsAt, Look, EndsTo, Leaves, EntersTo, EnteredIs, Went}
 use Rattle.many_lines.specs.declared.Entered.{Entered}
@@ -230,16 +232,21 @@ module _ (s v : List ℕ) (w₀ : LineWalk) (o₀ : List ℕ) where
 
       -- u is a turn that gives no record and does not pass on
       module _ (u : LineMove) (e : u ≡ turnOf ruled s v w) (f : NoRecord (onFirst (nextOf ruled s v) u)) where
-        pub stand-none : n ≡ 0 → Filled ruled s v w₀ o₀ (counted (noRoom (onFirst (nextOf ruled s v) u))) o
-        stand-none z = turns-none ruled s v w₀ o₀ (h .going .fills) room u e f z
-
-        pub stand-stop : (n ≡ 0 → ⊥) → (a : Answer LineWalk ℕ Told) → a ≡ gives n (cond exact w (many (nextOf ruled s v) n w₀ .next)) → Filled ruled s v w₀ o₀ a o
-        stand-stop z a ea =
+        stop-told : (n ≡ 0 → ⊥) → Filled ruled s v w₀ o₀ (gives n (cond exact w (many (nextOf ruled s v) n w₀ .next))) o
+        stop-told z =
             let q = turns-stop ruled s v w₀ o₀ (h .going .fills) room u e f z in
             let b = turns-behind ruled s v w₀ o₀ (h .going .fills) u e f in
-            subst (λ x. Filled ruled s v w₀ o₀ x o) (ap (gives n) (which exact (h .exactly) b) ∙ sym ea) q
+            subst (λ x. Filled ruled s v w₀ o₀ x o) (ap (gives n) (which exact (h .exactly) b)) q
           where
             which : (x : Bool) → (x ≡ true → h .going .last ≡ w) → h .going .last ≡ many (nextOf ruled s v) n w₀ .next
                 → h .going .last ≡ cond x w (many (nextOf ruled s v) n w₀ .next)
             which true f g = f refl
             which false f g = g
+
+        pub stand-stop : (a : Answer LineWalk ℕ Told)
+            → a ≡ cond (eqb n 0) (counted (noRoom (onFirst (nextOf ruled s v) u))) (gives n (cond exact w (many (nextOf ruled s v) n w₀ .next)))
+            → Filled ruled s v w₀ o₀ a o
+        stand-stop a ea =
+            subst (λ x. Filled ruled s v w₀ o₀ x o) (sym ea)
+            (by-cases (λ x. Filled ruled s v w₀ o₀ x o) (eqb n 0) (λ z. turns-none ruled s v w₀ o₀ (h .going .fills) room u e f (eqb-true n 0 z))
+            (λ z. stop-told (eqb-false n 0 z)))

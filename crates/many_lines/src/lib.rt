@@ -8,6 +8,7 @@ ghost use mathlib.Core.Path.{_≡_};
 ghost use Prim.Native.Nat.{_+_, _<_, _≤_, _^_};
 ghost use mathlib.Core.Bool.{cond};
 ghost use lib.ListN.{length};
+ghost use lib.Dec.{eqb};
 ghost use Rattle.walk.specs.Listing.{gives};
 ghost use Rattle.walk.specs.Many.{many};
 ghost use Rattle.refusal.specs.Told.{longest};
@@ -457,7 +458,8 @@ fn faster(
     }
 }
 
-// What is answered behind n records. `exact` says that w is the walk behind the last of them; else it is looked for.
+// What is answered where no record comes behind the first n: without any what there is to tell, else the walk behind the last. `exact` says that this
+// is w; else it is looked for.
 fn stopped(
     area: &[u8],
     slots: &[u32],
@@ -466,10 +468,14 @@ fn stopped(
     n: usize,
     w: LineWalk,
     exact: bool,
+    told: LinesStep,
 ) -> LinesStep
     requires { ⌜ Led ruled (now area) (now slots) whole walk ⌝ }
-    ensures { λ r. ⌜ toldLines r ≡ gives n (cond exact w (many (nextOf ruled (now (area .entry)) (now (slots .entry))) n walk .next)) ⌝ }
+    ensures { λ r. ⌜ toldLines r ≡ cond (eqb n 0) (toldLines told) (gives n (cond exact w (many (nextOf ruled (now (area .entry)) (now (slots .entry))) n walk .next))) ⌝ }
 {
+    if n == 0 {
+        return told;
+    }
     if exact {
         return LinesStep::Lines { count: n, next: w };
     }
@@ -511,16 +517,11 @@ fn fill(area: &[u8], slots: &[u32], walk: LineWalk, out: &mut [u64]) -> LinesSte
                     fast = true;
                 }
                 Turn::Over => {
-                    if n == 0 {
-                        return LinesStep::None;
-                    }
-                    return stopped(area, slots, whole, walk, n, w, exact);
+                    return stopped(area, slots, whole, walk, n, w, exact, LinesStep::None);
                 }
                 Turn::Refused(why) => {
-                    if n == 0 {
-                        return LinesStep::Refused(why);
-                    }
-                    return stopped(area, slots, whole, walk, n, w, exact);
+                    let told = LinesStep::Refused(why);
+                    return stopped(area, slots, whole, walk, n, w, exact, told);
                 }
             }
         }

@@ -3,8 +3,7 @@
 // One pass over the area decides, and tells what a writer has to know of the last subsection. A body is looked at where it stands; nothing is
 // copied.
 ghost use mathlib.Core.Path.{_≡_};
-ghost use mathlib.Core.Bool.{_&&_};
-ghost use mathlib.Core.Option.{none, some};
+ghost use mathlib.Core.Option.{none};
 ghost use Prim.Native.Nat.{_+_, _<_};
 ghost use lib.ListN.{length, drop};
 ghost use Rattle.body.specs.Lines.{lineBytes};

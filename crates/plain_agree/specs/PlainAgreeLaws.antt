@@ -1,9 +1,9 @@
 -- A plain area is answered by every call on the whole area.
-use Prim.Native.Nat.{ℕ, _+_, _≤_}
+use Prim.Native.Nat.{ℕ, _+_}
 use mathlib.Core.Path.{_≡_, refl, sym, ap, _∙_, subst, subst⁻¹}
 use mathlib.Core.List.{List, [], _∷_}
-use mathlib.Core.Bool.{Bool, true, false, cond, _&&_}
-use mathlib.Core.Option.{Option, none, some}
+use mathlib.Core.Bool.{Bool, true, cond, _&&_}
+use mathlib.Core.Option.{some}
 use native.Mathlib.Omega.{arith}
 use lib.ListN.{length, take, drop}
 use lib.Dec.{ltb, eqb}
@@ -16,7 +16,7 @@ use Rattle.walk.specs.Pick.{failure, firstBy, lastBy, orElse, mapReply}
 use Rattle.walk.specs.PickLaws.{Gives, first-holds}
 use Rattle.refusal.specs.Told.{Told, told, longest, numberOf}
 use Rattle.refusal.specs.declared.Refusal.the-variants as why
-use Rattle.area.specs.Parts.{Raw, Parts, parts}
+use Rattle.area.specs.Parts.{Raw, Parts}
 use Rattle.area.specs.Kind.{Sort, onSort, ruled, known, skipped, unknown}
 use Rattle.area.specs.Subs.{Sub, subsFrom, bodiesIn, bodies}
 use Rattle.area.specs.SubsLaws.{bodied, area-bodies}
@@ -32,7 +32,7 @@ use Rattle.files.specs.Files.{filesIn}
 use Rattle.inlinees.specs.Inlinees.{spelt, inlineesIn}
 use Rattle.imports.specs.Imports.{moduleOf, importsOf}
 use Rattle.exports.specs.Exports.{unplaced, pairsOf, above, ascends, globalOf, lookup, resolveExport}
-use Rattle.reading.specs.Reading.{Item, checksum, inlinee, imports, exports, Items, each, reading, opens}
+use Rattle.reading.specs.Reading.{checksum, inlinee, imports, exports, Items, each, reading, opens}
 use Rattle.plain.specs.Plain.{Last, markOf, plainOf, Plain}
 use Rattle.plain.specs.Plain as plain
 use Rattle.demand.specs.Secs.{Ascend}

@@ -27,12 +27,11 @@ use Rattle.turns.specs.declared.Held.{Held}
 use Rattle.turns.specs.declared.Held.the-variants.{Nothing, One}
 use Rattle.turns.specs.declared.Rest.{Rest}
 use Rattle.turns.specs.declared.Place.{Place}
-use Rattle.turns.specs.declared.LineWalk.{LineWalk}
 use Rattle.turns.specs.declared.LineWalk.the-variants.{Inside}
 use Rattle.stretch.specs.declared.Plain.{Plain}
 use Rattle.stretch.specs.declared.Lined.{Lined}
 use Rattle.stretch.specs.GoesLaws.{Goes, goes-same, goes-pass, goes-record, goes-on}
-use Rattle.stretch.specs.Stretch.{atLine, plainOf, Fit, Stride, insideAt, Strode, PutAs, HeldPut, FirstLine, Opens, Ran, Used, Rode}
+use Rattle.stretch.specs.Stretch.{atLine, plainOf, Fit, Stride, insideAt, Strode, PutAs, HeldPut, FirstLine, Opens, Ran, Rode}
 
 -- ---- words of a part
 

@@ -8,12 +8,12 @@ use lib.ListN.{length}
 use lib.Dec.{ltb, eqb}
 use borrow.Author.Tests.{eqb-true}
 use Rattle.walk.specs.Cases.{by-cases}
-use Rattle.walk.specs.Listing.{Move, item, pass, over, fail, onMove, Listing, more, ends, fails, gives}
+use Rattle.walk.specs.Listing.{Move, item, pass, over, fail, onMove, Listing, more, ends, fails}
 use Rattle.walk.specs.ListingLaws.{To}
 use Rattle.walk.specs.Pick.{only}
 use Rattle.refusal.specs.Told.{Told}
 use Rattle.area.specs.Kind.{Sort}
-use Rattle.area.specs.Subs.{Sub, subsFrom, firstOf, stepAt}
+use Rattle.area.specs.Subs.{Sub, subsFrom}
 use Rattle.area.specs.SubsLaws.{Within, Chained, subs-ind, subs-chained}
 use Rattle.find.specs.Find.{is}
 use Rattle.lines.specs.Slots.{bodyIn, bodyFrom}
@@ -59,14 +59,8 @@ module _ (rule : ℕ → Sort) (s : List ℕ) where
 
   -- ---- where a line subsection begins: 8 bytes before its body, which is what the search looks at first
 
-  pub record First (v : ℕ) : Type 0 where
-    pub sub : Sub
-    pub step : gives sub (sub .start + sub .len) ≡ stepAt rule s (v - 8)
-    pub start : sub .start ≡ v
-    pub kind : sub .kind ≡ 0xf2
-
   abbrev pub Begins : Listing Sub Told → ℕ → ℕ → Type 0
-  Begins l p v = (p + 8 ≤ v) × Finds l (v - 8) × First v
+  Begins l p v = (p + 8 ≤ v) × Finds l (v - 8)
 
   pub begins : (l : Listing Sub Told) (p : ℕ) → l ≡ subsFrom rule s p → Each (Begins l p) (map startOf (listed (only (is 0xf2) l)))
   unfolding only listed
@@ -75,10 +69,10 @@ module _ (rule : ℕ → Sort) (s : List ℕ) where
       let c = chained p b l e in
       let g = begin p b l e in
       let here = finds-there (more b l) (b .start - 8) g in
-      let rest = each-map (Begins l x) (Begins (more b l) p) (λ v f. (omega arith, finds-passed b l (v - 8) (omega arith) (f .1), f .2))
+      let rest = each-map (Begins l x) (Begins (more b l) p) (λ v f. (omega arith, finds-passed b l (v - 8) (omega arith) (f .1)))
       (map startOf (listed (only (is 0xf2) l))) (begins l x (c .0)) in
       by-cases (λ (k : Listing Sub Told). Each (Begins (more b l) p) (map startOf (listed k))) (eqb (b .kind) 0xf2)
-      (λ t. ((c .1, here, record { sub = b; step = ap firstOf g; start = refl; kind = eqb-true (b .kind) 0xf2 t }), rest))
+      (λ t. ((c .1, here), rest))
       (λ t. rest)
   begins ends p e = tt
   begins (fails t) p e = tt

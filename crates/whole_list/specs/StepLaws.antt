@@ -110,7 +110,7 @@ module _ (v : ℕ) (xs : List ℕ) (i : ℕ) where
       by-cases (λ (t : Bool). t ≡ true → (i < length xs) × (getD xs i 0 ≡ v)) (leb (length xs) i) (λ f q. let z : _≡_ {A = ℕ} 0 1 = cc in absurd (omega arith))
       (λ f q. (leb-false (length xs) i f, eqb-true (getD xs i 0) v q))
 
--- ---- the loop of `all_found`: vs are still to be found, and i is the slot to look at first
+-- ---- the loop of `found`: vs are still to be found, and i is the slot to look at first
 
 module _ (w : ℕ → ℕ) (xs : List ℕ) (i : ℕ) (vs : List ℕ) where
   pub all-end : [] ≡ vs → true ≡ allFound w xs i vs

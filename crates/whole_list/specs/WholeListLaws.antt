@@ -1,8 +1,7 @@
--- What a whole list gives its callers: each of the n slots says where the search for its body may begin, the place that was given is one too, and the
--- slots suffice.
+-- What a whole list gives its callers: each of the n slots says where the search for its body may begin, the place that was given is one too, and n is
+-- the number of the line bodies.
 use Prim.Native.Nat.{ℕ, zero, suc, _+_, _-_, _<_, _≤_}
 use mathlib.Core.Path.{_≡_, refl, sym, _∙_, subst, subst⁻¹}
-use mathlib.Core.Logic.{⊎-elim}
 use mathlib.Core.List.{List, [], _∷_}
 use mathlib.Core.Bool.{Bool, true, cond}
 use native.Mathlib.Omega.{arith}
@@ -10,7 +9,7 @@ use lib.ListN.{length, getD, take}
 use lib.Seq.{length-take-le, getD-take}
 use lib.Dec.{ltb, leb, eqb}
 use borrow.Author.Tests.{ltb-false, leb-false, eqb-true, eqb-false}
-use Rattle.walk.specs.Cases.{by-cases, le-or-gt}
+use Rattle.walk.specs.Cases.{by-cases}
 use Rattle.walk.specs.Listing.{Reply, gave, nothing, refused}
 use Rattle.refusal.specs.Told.{Told}
 use Rattle.area.specs.Kind.{Sort}
@@ -29,7 +28,7 @@ use Rattle.order.specs.BuiltLaws.{ascends}
 use Rattle.whole_list.specs.WholeList.{middle, lookAt, halvedIn, halved, holds, slotBehind, allFound, comesTo, foundIn, listed, firstIn, wholeList}
 use Rattle.whole_list.specs.StepLaws.{holds-at}
 use Rattle.whole_list.specs.MemberLaws.{In, in-at, each-in, Apart, nothing-else}
-use Rattle.whole_list.specs.PlacesLaws.{First, Begins, begins, comes-finds}
+use Rattle.whole_list.specs.PlacesLaws.{Begins, begins, comes-finds}
 
 -- ---- what is found stands in the list
 
@@ -112,11 +111,6 @@ module _ (rule : ℕ → Sort) (s v : List ℕ) (p : ℕ) where
   passed m =
       by-cases (λ (k : ℕ). m < k → Passed k) (comesTo rule s p) (λ b. passed-in m b (countLines rule s) refl) (λ b h. absurd (omega arith))
 
-  pub whole-room : wholeList rule s v p ≤ length v
-  whole-room =
-      ⊎-elim (λ (h : wholeList rule s v p ≤ 0). omega arith) (λ (h : 0 < wholeList rule s v p). passed 0 h .room)
-      (le-or-gt (wholeList rule s v p) 0)
-
   pub whole-counted : 0 < wholeList rule s v p → gave (wholeList rule s v p) ≡ countLines rule s
   whole-counted h = passed 0 h .counted
 
@@ -139,10 +133,6 @@ module _ (rule : ℕ → Sort) (s v : List ℕ) (p : ℕ) where
 
   pub hint-right : (i : ℕ) → i < wholeList rule s v p → (8 ≤ getD v i 0) × Scans rule s (getD v i 0 - 8)
   hint-right i h = let b = slot-begins i h in (omega arith, b .1)
-
-  -- and the search for it ends at its first look
-  pub first-look : (i : ℕ) → i < wholeList rule s v p → First rule s (getD v i 0)
-  first-look i h = slot-begins i h .2
 
   -- from any place at which it may begin, it finds the same
   pub slot-hint : (i q : ℕ) → i < wholeList rule s v p → Scans rule s q → slotAt rule s v i (getD v i 0 - 8) ≡ slotAt rule s v i q

@@ -15,7 +15,7 @@ use Rattle.records.specs.NextLaws.{next-falls}
 use Rattle.stretch.specs.FillLaws.{record-falls}
 use Rattle.stretch.specs.GoesLaws.{goes-pass}
 use Rattle.many_lines.specs.LedLaws.{Led, led-start, led-kept}
-use Rattle.many_lines.specs.WentLaws.{toGo, go-first, go-turn, Standing, stand-start, stand-record, stand-goes, stand-full, stand-none, stand-stop}
+use Rattle.many_lines.specs.WentLaws.{toGo, go-first, go-turn, Standing, stand-start, stand-record, stand-goes, stand-full, stand-stop}
 use Rattle.many_lines.proofs.fill.Statement.{statement}
 use Rattle.many_lines.proofs.fill.Tie as tie
 
@@ -87,6 +87,9 @@ loop-again-3 c =
     let e = ap toldTurn (sym (m .t .given .1)) ∙ q .led-turn .ensures in
     (stand-goes _ _ _ _ (l .n) (l .w) (l .exact) (l .out) (l .inv .0) _ _ _ _ (sym (l .inv .1)) (goes-pass _ _ _ (omega arith) _ e), l .inv .1, led-kept ruled _ _ _ _ (l .inv .2) (pass _) e, l .inv .3)
 
+stopped-requires : tie.Need-stopped-requires Inv-loop μ-loop
+stopped-requires c κs = c .before .before .before .before .before .loop .inv .3
+
 same-length : tie.Need-same-length Inv-loop μ-loop
 same-length c = omega (arith, c .before .before .before .before .before .before .loop .inv .0 .going .fills .size)
 
@@ -94,10 +97,11 @@ returns : tie.Need-returns Inv-loop μ-loop
 returns c =
     let m = c .before in
     let q = m .before .before in
-    stand-none _ _ _ _ _ _ _ _ (q .before .before .before .loop .inv .0) (q .before .before .before .before .before .before .before .before .pre) over (ap toldTurn (sym (m .enum-told .given .1)) ∙ q .led-turn .ensures) tt (c .if2 .taken)
+    let l = q .before .before .before .loop in
+    stand-stop _ _ _ _ _ _ _ _ (l .inv .0) (q .before .before .before .before .before .before .before .before .pre) over (ap toldTurn (sym (m .enum-told .given .1)) ∙ q .led-turn .ensures) tt _ (c .stopped .ensures)
 
-stopped-requires : tie.Need-stopped-requires Inv-loop μ-loop
-stopped-requires c κs = c .before .before .before .before .before .before .loop .inv .3
+stopped-requires-2 : tie.Need-stopped-requires-2 Inv-loop μ-loop
+stopped-requires-2 c κs = c .before .before .before .before .before .before .loop .inv .3
 
 same-length-2 : tie.Need-same-length-2 Inv-loop μ-loop
 same-length-2 c = omega (arith, c .before .before .before .before .before .before .before .loop .inv .0 .going .fills .size)
@@ -106,34 +110,14 @@ returns-2 : tie.Need-returns-2 Inv-loop μ-loop
 returns-2 c =
     let m = c .before .before in
     let q = m .before .before in
-    stand-stop _ _ _ _ _ _ _ _ (q .before .before .before .loop .inv .0) (q .before .before .before .before .before .before .before .before .pre) over (ap toldTurn (sym (m .enum-told .given .1)) ∙ q .led-turn .ensures) tt (c .before .if2 .left) _ (c .stopped .ensures)
+    let l = q .before .before .before .loop in
+    stand-stop _ _ _ _ _ _ _ _ (l .inv .0) (q .before .before .before .before .before .before .before .before .pre) (fail _) (ap toldTurn (sym (m .why .given .1)) ∙ q .led-turn .ensures) tt _ (c .stopped2 .ensures)
 
 same-length-3 : tie.Need-same-length-3 Inv-loop μ-loop
-same-length-3 c = omega (arith, c .before .before .before .before .before .before .before .loop .inv .0 .going .fills .size)
+same-length-3 c = omega (arith, c .before .loop .inv .0 .going .fills .size)
 
 returns-3 : tie.Need-returns-3 Inv-loop μ-loop
-returns-3 c =
-    let m = c .before .before in
-    let q = m .before .before in
-    stand-none _ _ _ _ _ _ _ _ (q .before .before .before .loop .inv .0) (q .before .before .before .before .before .before .before .before .pre) (fail _) (ap toldTurn (sym (m .why .given .1)) ∙ q .led-turn .ensures) tt (c .if3 .taken)
-
-stopped-requires-2 : tie.Need-stopped-requires-2 Inv-loop μ-loop
-stopped-requires-2 c κs = c .before .before .before .before .before .before .before .loop .inv .3
-
-same-length-4 : tie.Need-same-length-4 Inv-loop μ-loop
-same-length-4 c = omega (arith, c .before .before .before .before .before .before .before .before .loop .inv .0 .going .fills .size)
-
-returns-4 : tie.Need-returns-4 Inv-loop μ-loop
-returns-4 c =
-    let m = c .before .before .before in
-    let q = m .before .before in
-    stand-stop _ _ _ _ _ _ _ _ (q .before .before .before .loop .inv .0) (q .before .before .before .before .before .before .before .before .pre) (fail _) (ap toldTurn (sym (m .why .given .1)) ∙ q .led-turn .ensures) tt (c .before .if3 .left) _ (c .stopped2 .ensures)
-
-same-length-5 : tie.Need-same-length-5 Inv-loop μ-loop
-same-length-5 c = omega (arith, c .before .loop .inv .0 .going .fills .size)
-
-returns-5 : tie.Need-returns-5 Inv-loop μ-loop
-returns-5 c = stand-full _ _ _ _ _ _ _ _ (c .before .loop .inv .0) (c .before .before .before .before .before .before .pre) (omega (arith, c .before .loop .inv .1))
+returns-3 c = stand-full _ _ _ _ _ _ _ _ (c .before .loop .inv .0) (c .before .before .before .before .before .before .pre) (omega (arith, c .before .loop .inv .1))
 
 pub fill-spec : {M : Type 1} → statement M
 fill-spec =
@@ -157,16 +141,12 @@ fill-spec =
     loop-less-3
     loop-again-3
     (λ c. search needs)
+    stopped-requires
     same-length
     returns
-    stopped-requires
+    (λ c. search needs)
+    stopped-requires-2
     same-length-2
     returns-2
-    (λ c. search needs)
     same-length-3
-    returns-3
-    stopped-requires-2
-    same-length-4
-    returns-4
-    same-length-5
-    returns-5)
+    returns-3)

@@ -1,7 +1,6 @@
 -- `many_lines::led_rest` meets its contract: each way out is a case of `ledRest`.
 -- Assumes nothing.
 use borrow.Author.Needs.{needs}
-use native.Mathlib.Omega.{arith}
 use Rattle.many_lines.specs.LedLaws.{rest-last, rest-more}
 use Rattle.many_lines.proofs.led_rest.Statement.{statement}
 use Rattle.many_lines.proofs.led_rest.Tie as tie

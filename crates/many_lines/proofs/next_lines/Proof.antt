@@ -2,11 +2,8 @@
 -- Assumes nothing.
 use borrow.Author.Needs.{needs}
 use native.Mathlib.Omega.{arith}
-use mathlib.Core.Path.{ap, _∙_}
+use mathlib.Core.Path.{_∙_}
 use Rattle.area.specs.Kind.{ruled}
-use Rattle.records.specs.Told.{toldLine}
-use Rattle.given.specs.Fill.{noRoom}
-use Rattle.many_lines.specs.Lines.{counted}
 use Rattle.stretch.specs.FillLaws.{turns-no-room}
 use Rattle.many_lines.proofs.next_lines.Statement.{statement}
 use Rattle.many_lines.proofs.next_lines.Tie as tie

@@ -1,7 +1,6 @@
 -- `stretch::block_lines` meets its contract: a marker is a turn that passes on, and a line that gives no record is left to others.
 -- Assumes nothing.
 use native.Mathlib.Omega.{arith}
-use Prim.Native.Nat.{ℕ}
 use Rattle.turns.specs.declared.Place.{Place}
 use mathlib.Core.Path.{sym, ap, _∙_}
 use Rattle.stretch.specs.StretchLaws.{ran-same, ran-marker, not-false}

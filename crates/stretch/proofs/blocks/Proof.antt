@@ -4,7 +4,7 @@
 use borrow.Author.Needs.{needs}
 use native.Mathlib.Omega.{arith}
 use Prim.Native.Nat.{_+_, _-_, _*_}
-use mathlib.Core.Path.{sym, ap, _∙_, subst}
+use mathlib.Core.Path.{subst}
 use Rattle.stretch.specs.Stretch.{Opens, OpenedIs}
 use Rattle.stretch.specs.StretchLaws.{Riding, ride-start, ride-block, ride-lines, rode-stuck, rode-refused, rode-used}
 use Rattle.stretch.proofs.blocks.Statement.{statement}

@@ -1,7 +1,6 @@
 -- `stretch::first_line` meets its contract: the line's own turn, and the stretch behind it.
 -- Assumes nothing.
 use native.Mathlib.Omega.{arith}
-use Prim.Native.Nat.{ℕ}
 use Rattle.turns.specs.declared.Place.{Place}
 use borrow.Author.Tests.{eqb-false}
 use mathlib.Core.Path.{ap}

@@ -3,7 +3,7 @@
 use borrow.Author.Needs.{needs}
 use native.Mathlib.Omega.{arith}
 use Prim.Native.Nat.{_-_}
-use mathlib.Core.Path.{sym, ap, _∙_}
+use mathlib.Core.Path.{sym, _∙_}
 use Rattle.stretch.specs.Stretch.{Strode}
 use Rattle.stretch.specs.StretchLaws.{strode-start, strode-marker, strode-line}
 use Rattle.stretch.proofs.stretch.Statement.{statement}
