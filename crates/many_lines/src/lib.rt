@@ -139,6 +139,7 @@ fn led_between(area: &[u8], slots: &[u32], whole: usize, t: Rest) -> Turn
     take_turn(area, slots, LineWalk::Between(led_rest(slots, whole, t)))
 }
 
+// A turn from anywhere, over such a list.
 fn led_turn(area: &[u8], slots: &[u32], whole: usize, walk: LineWalk) -> Turn
     requires { ⌜ Led ruled (now area) (now slots) whole walk ⌝ }
     ensures { λ r. ⌜ toldTurn r ≡ turnOf ruled (now (area .entry)) (now (slots .entry)) walk ⌝ }
@@ -406,7 +407,7 @@ fn count_of(area: &[u8], slots: &[u32], whole: usize) -> Counted
     count_lines(area)
 }
 
-// From its beginning on.
+// Body after body, from a walk's beginning.
 fn opened(area: &[u8], slots: &[u32], whole: usize, n: usize, room: usize, out: &mut [u64]) -> Stood
     requires { ⌜ Led ruled (now area) (now slots) whole New ⌝ }
     requires { ⌜ (n < room) × (length (now area) ≤ longest) ⌝ }
