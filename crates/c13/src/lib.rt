@@ -8,8 +8,8 @@
 ghost use mathlib.Core.Path.{_≡_};
 ghost use lib.ListN.{length};
 ghost use Rattle.reading.specs.Reading.{openChecksums, openInlinees, openImports, openExports, opaque};
-ghost use Rattle.calls.specs.Calls.{callLines, callBlock, callChecksum, callInlinee, callModule, callPair};
-ghost use Rattle.given.specs.Given.{Gives};
+ghost use Rattle.writer_decides.specs.Calls.{callLines, callBlock, callChecksum, callInlinee, callModule, callPair};
+ghost use Rattle.answer_words.specs.Given.{Gives};
 ghost use Rattle.export_parts.specs.Calls.{subGiven, namesGiven, nameGiven, symbolsGiven, linesPartGiven, tablesPartGiven};
 ghost use Rattle.export_files.specs.Calls.{fileGiven, filesGiven, filesLeft, infoGiven};
 ghost use Rattle.export_tables.specs.Calls.{wordGiven, inlineeGiven, moduleGiven, refGiven, exportGiven, countGiven, globalGiven};

@@ -14,7 +14,7 @@ use Rattle.refusal.specs.Told.{Told, told}
 use Rattle.refusal.specs.declared.Refusal.the-variants as why
 use Rattle.area.specs.Kind.{Sort}
 use Rattle.lines.specs.Lines.{countLines}
-use Rattle.records.specs.Next.{weight, counting}
+use Rattle.line_walk.specs.Next.{weight, counting}
 use Rattle.printed.specs.Printed.{Pieces, longestLine, headLine}
 use Rattle.order.specs.Order.{slotsAfter}
 use Rattle.listing.specs.Dump.{mostBytes, refusal, linesOf, size}

@@ -5,9 +5,9 @@ use mathlib.Core.List.{List}
 use lib.ListN.{length}
 use Rattle.area.specs.Kind.{ruled}
 use Rattle.files.specs.Files.{fileStep, fileAt}
-use Rattle.given.specs.Given.{Given, stepGiven, replyGiven}
-use Rattle.given.specs.TableWords.{walkIn, walkWords, tableWords}
-use Rattle.given.specs.FillGiven.{fillGiven, fillLeft}
+use Rattle.answer_words.specs.Given.{Given, stepGiven, replyGiven}
+use Rattle.answer_words.specs.TableWords.{walkIn, walkWords, tableWords}
+use Rattle.answer_words.specs.FillGiven.{fillGiven, fillLeft}
 use Rattle.many_files.specs.FileWords.{infoWords, fileWords}
 use Rattle.many_files.specs.Files.{filesOf}
 

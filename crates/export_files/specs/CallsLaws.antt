@@ -4,10 +4,10 @@ use mathlib.Core.Path.{_≡_}
 use mathlib.Core.List.{List}
 use lib.ListN.{length}
 use Rattle.area.specs.Kind.{ruled}
-use Rattle.given.specs.Given.{Gives}
-use Rattle.given.specs.TableWords.{walkIn, walkWords}
-use Rattle.given.specs.TableWordsLaws.{walk-length}
-use Rattle.given.specs.FillGivenLaws.{fill-careful}
+use Rattle.answer_words.specs.Given.{Gives}
+use Rattle.answer_words.specs.TableWords.{walkIn, walkWords}
+use Rattle.answer_words.specs.TableWordsLaws.{walk-length}
+use Rattle.answer_words.specs.FillGivenLaws.{fill-careful}
 use Rattle.many_files.specs.FileWords.{fileWords}
 use Rattle.many_files.specs.Files.{filesOf}
 use Rattle.export_files.specs.Calls.{filesGiven, filesLeft}

@@ -1,19 +1,19 @@
 // The calls on files, for programs in other languages: the walk one file at a time, many files in one call, and the file at an index. A call answers a
-// status, and the words of the answer as the crate `given` puts them. The crate `c13` gives each its C name.
+// status, and the words of the answer as the crate `answer_words` puts them. The crate `c13` gives each its C name.
 ghost use mathlib.Core.Path.{_≡_};
 ghost use lib.ListN.{length};
-ghost use Rattle.given.specs.Given.{Gives};
+ghost use Rattle.answer_words.specs.Given.{Gives};
 ghost use Rattle.export_files.specs.Calls.{fileGiven, filesGiven, filesLeft, infoGiven};
+use answer_words::GIVEN;
+use answer_words::NONE;
+use answer_words::TOO_SHORT;
+use answer_words::put;
+use answer_words::put_refusal;
+use answer_words::walk_in;
+use answer_words::walk_words;
 use checksums::number;
 use files::FileAnswer;
 use files::FileStep;
-use given::GIVEN;
-use given::NONE;
-use given::TOO_SHORT;
-use given::put;
-use given::put_refusal;
-use given::walk_in;
-use given::walk_words;
 use many_files::FilesStep;
 use many_files::next_files;
 

@@ -6,10 +6,10 @@ use Prim.Native.Nat.{ℕ}
 use mathlib.Core.List.{List}
 use Rattle.area.specs.Kind.{ruled}
 use Rattle.order.specs.Order.{ordered, slotsAfter}
-use Rattle.records.specs.Next.{nextOf}
+use Rattle.line_walk.specs.Next.{nextOf}
 use Rattle.symbol_lines.specs.Symbol.{symbolWalk}
-use Rattle.given.specs.Given.{Given, one, stepGiven, replyGiven, ifRoom, shortGiven}
-use Rattle.line_words.specs.LineWords.{lineWalkIn, lineWalkWords, lineWords}
+use Rattle.answer_words.specs.Given.{Given, one, stepGiven, replyGiven, ifRoom, shortGiven}
+use Rattle.line_state_words.specs.LineWords.{lineWalkIn, lineWalkWords, lineWords}
 
 -- with n slots
 abbrev pub orderGiven : List ℕ → ℕ → List ℕ → Given

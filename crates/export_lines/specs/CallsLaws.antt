@@ -7,8 +7,8 @@ use Rattle.walk.specs.Listing.{Reply, gave, nothing, refused}
 use Rattle.refusal.specs.Told.{Told}
 use Rattle.area.specs.Kind.{ruled}
 use Rattle.order.specs.Order.{ordered, slotsBy, slotsAfter}
-use Rattle.given.specs.Given.{Gives}
-use Rattle.given.specs.GivenLaws.{Still, room-careful}
+use Rattle.answer_words.specs.Given.{Gives}
+use Rattle.answer_words.specs.GivenLaws.{Still, room-careful}
 use Rattle.export_lines.specs.Calls.{orderGiven, slotsLeft}
 
 -- THE LAW: with any status but 1 the slots are as they were

@@ -2,19 +2,19 @@
 // each its C name.
 ghost use mathlib.Core.Path.{_≡_};
 ghost use lib.ListN.{length};
-ghost use Rattle.given.specs.Given.{Gives};
+ghost use Rattle.answer_words.specs.Given.{Gives};
 ghost use Rattle.export_lines.specs.Calls.{orderGiven, slotsLeft, lineGiven, symbolGiven};
-use given::GIVEN;
-use given::LEAST;
-use given::NONE;
-use given::TOO_SHORT;
-use given::put;
-use given::put_refusal;
-use line_words::line_walk_in;
-use line_words::put_line;
-use line_words::put_line_walk;
+use answer_words::GIVEN;
+use answer_words::LEAST;
+use answer_words::NONE;
+use answer_words::TOO_SHORT;
+use answer_words::put;
+use answer_words::put_refusal;
+use line_state_words::line_walk_in;
+use line_state_words::put_line;
+use line_state_words::put_line_walk;
+use line_walk::LineStep;
 use order::Ordered;
-use records::LineStep;
 use symbol_lines::SymbolLines;
 
 // The order list of the line subsections, into lent slots. Word: how many slots it takes.
@@ -31,11 +31,11 @@ pub fn order_list(area: &[u8], slots: &mut [u32], out: &mut [u64]) -> u32
     }
 }
 
-// The next record of the line walk over a list in slots. State and words are those of the crate `line_words`.
+// The next record of the line walk over a list in slots. State and words are those of the crate `line_state_words`.
 pub fn next_line(area: &[u8], slots: &[u32], out: &mut [u64]) -> u32
     ensures { λ r. ⌜ Gives (now (out .entry)) (lineGiven (now (area .entry)) (now (slots .entry)) (now (out .entry))) r (now (out .exit)) ⌝ }
 {
-    match records::next_line(area, slots, line_walk_in(out)) {
+    match line_walk::next_line(area, slots, line_walk_in(out)) {
         LineStep::Line(record, next) => put_line(out, record, next),
         LineStep::None => NONE,
         LineStep::Refused(why) => put_refusal(out, 27, why),

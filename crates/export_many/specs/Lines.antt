@@ -6,9 +6,9 @@ use Prim.Native.Nat.{ℕ}
 use mathlib.Core.List.{List}
 use lib.ListN.{length}
 use Rattle.area.specs.Kind.{ruled}
-use Rattle.given.specs.Given.{Given}
-use Rattle.given.specs.FillGiven.{fillGiven, fillLeft}
-use Rattle.line_words.specs.LineWords.{lineWalkIn, lineWalkWords, recordWords}
+use Rattle.answer_words.specs.Given.{Given}
+use Rattle.answer_words.specs.FillGiven.{fillGiven, fillLeft}
+use Rattle.line_state_words.specs.LineWords.{lineWalkIn, lineWalkWords, recordWords}
 use Rattle.many_lines.specs.Lines.{linesOf}
 
 abbrev pub linesGiven : List ℕ → List ℕ → ℕ → List ℕ → Given

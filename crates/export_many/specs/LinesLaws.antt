@@ -7,13 +7,13 @@ use lib.ListN.{length, length-append}
 use Rattle.word.specs.Word.{put}
 use Rattle.word.specs.WordLaws.{put-length, store-put}
 use Rattle.area.specs.Kind.{ruled}
-use Rattle.given.specs.Given.{given, Gives}
-use Rattle.given.specs.GivenLaws.{gives-put}
-use Rattle.given.specs.PiecesLaws.{put-join}
-use Rattle.given.specs.FillGivenLaws.{fill-careful}
-use Rattle.turns.specs.declared.LineWalk.{LineWalk}
-use Rattle.line_words.specs.LineWords.{lineWalkIn, lineWalkWords, recordWords}
-use Rattle.line_words.specs.LineWordsLaws.{walk-length}
+use Rattle.answer_words.specs.Given.{given, Gives}
+use Rattle.answer_words.specs.GivenLaws.{gives-put}
+use Rattle.answer_words.specs.PiecesLaws.{put-join}
+use Rattle.answer_words.specs.FillGivenLaws.{fill-careful}
+use Rattle.line_step.specs.declared.LineWalk.{LineWalk}
+use Rattle.line_state_words.specs.LineWords.{lineWalkIn, lineWalkWords, recordWords}
+use Rattle.line_state_words.specs.LineWordsLaws.{walk-length}
 use Rattle.many_lines.specs.Lines.{linesOf}
 use Rattle.export_many.specs.Lines.{linesGiven, recordsLeft}
 

@@ -8,7 +8,7 @@ use Rattle.area.specs.Kind.{ruled}
 use Rattle.area.specs.Subs.{stepAt}
 use Rattle.strings.specs.Strings.{namesOf, nameAt}
 use Rattle.modi.specs.Modi.{moduleSymbols, linesSpan, tablesSpan}
-use Rattle.given.specs.Given.{Given, stepGiven, replyGiven}
+use Rattle.answer_words.specs.Given.{Given, stepGiven, replyGiven}
 use Rattle.export_parts.specs.Words.{subWords, yes, spanWords, outcomeGiven}
 
 abbrev pub subGiven : List ℕ → List ℕ → Given

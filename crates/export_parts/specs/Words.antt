@@ -4,7 +4,7 @@ use Prim.Native.Nat.{ℕ}
 use mathlib.Core.List.{List, [], _∷_}
 use Rattle.area.specs.Subs.{Sub}
 use Rattle.strings.specs.Strings.{Outcome, part, refused}
-use Rattle.given.specs.Given.{Given, given, refusalGiven}
+use Rattle.answer_words.specs.Given.{Given, given, refusalGiven}
 use Rattle.find.specs.Find.{Span}
 
 -- the place behind a subsection; its kind, and where its body stands

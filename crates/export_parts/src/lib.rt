@@ -1,14 +1,14 @@
 // Where the parts of areas and streams stand, for programs in other languages: the subsections of an area, the names of a string table, and the parts of a
-// module's stream. A call answers a status, and the words of the answer as the crate `given` puts them. The crate `c13` gives each its C name.
-ghost use Rattle.given.specs.Given.{Gives};
+// module's stream. A call answers a status, and the words of the answer as the crate `answer_words` puts them. The crate `c13` gives each its C name.
+ghost use Rattle.answer_words.specs.Given.{Gives};
 ghost use Rattle.export_parts.specs.Calls.{subGiven, namesGiven, nameGiven, symbolsGiven, linesPartGiven, tablesPartGiven};
+use answer_words::GIVEN;
+use answer_words::NONE;
+use answer_words::put;
+use answer_words::put_refusal;
+use answer_words::state_word;
 use area::SubStep;
 use area::sub_at;
-use given::GIVEN;
-use given::NONE;
-use given::put;
-use given::put_refusal;
-use given::state_word;
 use modi::ModuleSizes;
 use modi::Part;
 use modi::SymbolsAnswer;

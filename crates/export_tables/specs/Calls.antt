@@ -7,8 +7,8 @@ use Rattle.rows.specs.Words.{wordIn}
 use Rattle.inlinees.specs.Inlinees.{inlineeStep}
 use Rattle.imports.specs.Imports.{importStep, resolveImport}
 use Rattle.exports.specs.Exports.{exportStep, exportCount, resolveExport}
-use Rattle.given.specs.Given.{Given, one, stepGiven, replyGiven}
-use Rattle.given.specs.TableWords.{walkIn, tableWords}
+use Rattle.answer_words.specs.Given.{Given, one, stepGiven, replyGiven}
+use Rattle.answer_words.specs.TableWords.{walkIn, tableWords}
 use Rattle.export_tables.specs.Words.{inlineeWords, moduleWords, refWords, exportWords}
 
 -- word i of the count words at a place

@@ -1,21 +1,21 @@
-// The calls on inlinees, imports and exports, for programs in other languages: a status, and the words of the answer as the crate `given` puts them. The
+// The calls on inlinees, imports and exports, for programs in other languages: a status, and the words of the answer as the crate `answer_words` puts them. The
 // crate `c13` gives each its C name.
 ghost use mathlib.Core.Path.{_≡_};
 ghost use mathlib.Core.List.{[], _∷_};
 ghost use Rattle.exports.specs.Told.{toldExport};
-ghost use Rattle.given.specs.Given.{Gives};
+ghost use Rattle.answer_words.specs.Given.{Gives};
 ghost use Rattle.export_tables.specs.Words.{exportWords};
 ghost use Rattle.export_tables.specs.Calls.{wordGiven, inlineeGiven, moduleGiven, refGiven, exportGiven, countGiven, globalGiven};
+use answer_words::GIVEN;
+use answer_words::NONE;
+use answer_words::put;
+use answer_words::put_refusal;
+use answer_words::walk_in;
+use answer_words::walk_words;
 use exports::Count;
 use exports::CrossModuleExport;
 use exports::ExportStep;
 use exports::Lookup;
-use given::GIVEN;
-use given::NONE;
-use given::put;
-use given::put_refusal;
-use given::walk_in;
-use given::walk_words;
 use imports::ImportStep;
 use imports::Resolved;
 use inlinees::InlineeStep;

@@ -7,8 +7,8 @@ use mathlib.Core.List.{List, [], _∷_}
 use mathlib.Core.Option.{Option, none, some}
 use Rattle.reading.specs.Reading.{Item}
 use Rattle.plain.specs.Plain.{Last, plainOf}
-use Rattle.calls.specs.Calls.{answered, after}
-use Rattle.given.specs.Given.{Given, given, noneGiven, one, replyGiven, ifRoom, shortGiven}
+use Rattle.writer_decides.specs.Calls.{answered, after}
+use Rattle.answer_words.specs.Given.{Given, given, noneGiven, one, replyGiven, ifRoom, shortGiven}
 
 -- the place behind what is written then
 unfoldable pub wroteGiven : Item → List ℕ → ℕ → List ℕ → Given

@@ -6,9 +6,9 @@ use lib.ListN.{length}
 use Rattle.walk.specs.Listing.{Reply}
 use Rattle.refusal.specs.Told.{Told}
 use Rattle.reading.specs.Reading.{Item}
-use Rattle.calls.specs.Calls.{Act, goes, stops, act, patch, wrote, kept, answered, after}
-use Rattle.given.specs.Given.{Gives, one, replyGiven}
-use Rattle.given.specs.GivenLaws.{gives-as, room-changes, room-keeps, Still, room-careful}
+use Rattle.writer_decides.specs.Calls.{Act, goes, stops, act, patch, wrote, kept, answered, after}
+use Rattle.answer_words.specs.Given.{Gives, one, replyGiven}
+use Rattle.answer_words.specs.GivenLaws.{gives-as, room-changes, room-keeps, Still, room-careful}
 use Rattle.export_write.specs.Calls.{wroteGiven, bufferLeft}
 
 module _ (it : Item) (b : List ℕ) (w : ℕ) (o : List ℕ) where

@@ -3,16 +3,16 @@
 // its C name.
 ghost use mathlib.Core.Path.{_≡_};
 ghost use Rattle.reading.specs.Reading.{openChecksums, openInlinees, openImports, openExports, opaque};
-ghost use Rattle.calls.specs.Calls.{callLines, callBlock, callChecksum, callInlinee, callModule, callPair};
+ghost use Rattle.writer_decides.specs.Calls.{callLines, callBlock, callChecksum, callInlinee, callModule, callPair};
 ghost use Rattle.writer.specs.Told.{toldWrote};
-ghost use Rattle.given.specs.Given.{Gives, one, replyGiven};
+ghost use Rattle.answer_words.specs.Given.{Gives, one, replyGiven};
 ghost use Rattle.export_write.specs.Calls.{wroteGiven, bufferLeft, plainGiven};
-use given::GIVEN;
-use given::LEAST;
-use given::NONE;
-use given::TOO_SHORT;
-use given::put;
-use given::put_refusal;
+use answer_words::GIVEN;
+use answer_words::LEAST;
+use answer_words::NONE;
+use answer_words::TOO_SHORT;
+use answer_words::put;
+use answer_words::put_refusal;
 use plain::PlainAnswer;
 use plain::is_plain;
 use writer::Wrote;

@@ -15,7 +15,7 @@ use Rattle.area.specs.Subs.{Sub, subsFrom}
 use Rattle.find.specs.Find.{same}
 use Rattle.lines.specs.Lines.{countLines}
 use Rattle.files.specs.Files.{File, filesIn, spelt}
-use Rattle.records.specs.Meaning.{areaRecords}
+use Rattle.line_walk.specs.Meaning.{areaRecords}
 use Rattle.text.specs.Text.{joined}
 use Rattle.printed.specs.Printed.{Pieces, headLine, subLine, fileLine, endLine, refusedLine}
 use Rattle.line_text.specs.LineText.{recordLine}

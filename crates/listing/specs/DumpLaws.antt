@@ -29,13 +29,13 @@ use Rattle.order.specs.Order.{ordered, inRoom, slotsAfter}
 use Rattle.order.specs.BuiltLaws.{built}
 use Rattle.files.specs.Files.{File, fileOf, filesSub, fileStep, filesIn}
 use Rattle.files.specs.FilesLaws.{files-finds, files-walk}
-use Rattle.turns.specs.Turn.{turnOf}
-use Rattle.turns.specs.declared.LineWalk.{LineWalk}
-use Rattle.turns.specs.declared.LineWalk.the-variants as line
-use Rattle.records.specs.Meaning.{Records, eventsOf, settle, recordsOf, areaRecords}
-use Rattle.records.specs.Next.{todo, nextOf}
-use Rattle.records.specs.NextLaws.{falls}
-use Rattle.records.specs.WalkLaws.{walk-is}
+use Rattle.line_step.specs.Turn.{turnOf}
+use Rattle.line_step.specs.declared.LineWalk.{LineWalk}
+use Rattle.line_step.specs.declared.LineWalk.the-variants as line
+use Rattle.line_walk.specs.Meaning.{Records, eventsOf, settle, recordsOf, areaRecords}
+use Rattle.line_walk.specs.Next.{todo, nextOf}
+use Rattle.line_walk.specs.NextLaws.{falls}
+use Rattle.line_walk.specs.WalkLaws.{walk-is}
 use Rattle.text.specs.Text.{joined}
 use Rattle.printed.specs.Printed.{Pieces, headLine, endLine}
 use Rattle.line_text.specs.LineText.{recordLine}

@@ -14,11 +14,11 @@ use Rattle.table.specs.Table.{spotIn}
 use Rattle.checksums.specs.Entry.{keptOf, closedAs, entryAt, entriesFrom}
 use Rattle.lines.specs.Lines.{headed, countOf}
 use Rattle.files.specs.Files.{filesSub, partOf}
-use Rattle.rank.specs.Sort.{insBy, sortBy}
+use Rattle.slot_key.specs.Sort.{insBy, sortBy}
 use Rattle.order.specs.Order.{listed, keyOf}
 use Rattle.line_record.specs.Flags.{kindOf, isMarker}
 use Rattle.line_record.specs.Record.{entryOf, shorterOf, closedAt}
-use Rattle.records.specs.Meaning.{linesThen, blocksThen, bodyThen, eventsOf, settleOne, settle}
+use Rattle.line_walk.specs.Meaning.{linesThen, blocksThen, bodyThen, eventsOf, settleOne, settle}
 use Rattle.text.specs.Text.{ascii, glyph, numeralIn, numeral, hexBytes}
 use Rattle.printed.specs.Printed.{bytesText}
 use Rattle.listing.specs.Dump.{closing, linesOf, bytesOf, textOf}

@@ -25,11 +25,11 @@ use Rattle.checksums.specs.Entry.{Entry, entryAt}
 use Rattle.checksums.specs.EntryLaws.{entry-lies}
 use Rattle.files.specs.Files.{fileOf, filesSub, fileStep}
 use Rattle.files.specs.FilesLaws.{files-finds}
-use Rattle.turns.specs.Turn.{turnOf}
-use Rattle.turns.specs.declared.LineWalk.{LineWalk}
-use Rattle.turns.specs.declared.LineWalk.the-variants as line
-use Rattle.records.specs.Next.{todo, nextOf}
-use Rattle.records.specs.NextLaws.{falls}
+use Rattle.line_step.specs.Turn.{turnOf}
+use Rattle.line_step.specs.declared.LineWalk.{LineWalk}
+use Rattle.line_step.specs.declared.LineWalk.the-variants as line
+use Rattle.line_walk.specs.Next.{todo, nextOf}
+use Rattle.line_walk.specs.NextLaws.{falls}
 use Rattle.text.specs.Text.{joined}
 use Rattle.printed.specs.Printed.{Pieces, longestLine, endLine}
 use Rattle.line_text.specs.LineText.{recordLine}

@@ -16,9 +16,9 @@ use Rattle.area.specs.Subs.{stepAt}
 use Rattle.table.specs.declared.TableWalk.{TableWalk}
 use Rattle.table.specs.declared.TableWalk.the-variants as table
 use Rattle.files.specs.Files.{fileStep}
-use Rattle.turns.specs.declared.LineWalk.{LineWalk}
-use Rattle.turns.specs.declared.LineWalk.the-variants as line
-use Rattle.records.specs.Next.{nextOf}
+use Rattle.line_step.specs.declared.LineWalk.{LineWalk}
+use Rattle.line_step.specs.declared.LineWalk.the-variants as line
+use Rattle.line_walk.specs.Next.{nextOf}
 use Rattle.text.specs.Text.{joined, Next, at, full}
 use Rattle.printed.specs.Printed.{Pieces, longestLine, headLine, endLine}
 use Rattle.line_text.specs.LineText.{recordLine}

@@ -20,7 +20,7 @@ use Rattle.table.specs.declared.TableWalk.{TableWalk}
 use Rattle.body.specs.Checksums.{up4}
 use Rattle.checksums.specs.Entry.{Entry, keptOf, closedAs, entryAt}
 use Rattle.files.specs.Files.{File, fileOf, filesSub, fileStep, held, partOf, spelt}
-use Rattle.turns.specs.declared.LineWalk.the-variants as line
+use Rattle.line_step.specs.declared.LineWalk.the-variants as line
 use Rattle.text.specs.Text.{joined, Next, at, Page, page, writtenAll}
 use Rattle.text.specs.PageLaws.{all-written}
 use Rattle.printed.specs.Printed.{Pieces, longestLine, headLine, fileLine}

@@ -15,18 +15,18 @@ use area::sub_at;
 use files::FileStep;
 use files::checksum_bytes;
 use files::next_file;
+use line_step::LineWalk;
 use line_text::put_record;
+use line_walk::LineStep;
+use line_walk::next_line;
 use printed::put_end;
 use printed::put_file;
 use printed::put_head;
 use printed::put_refused;
 use printed::put_sub;
-use records::LineStep;
-use records::next_line;
 use refusal::Refusal;
 use table::TableWalk;
 use text::Place;
-use turns::LineWalk;
 
 // The room that every line has.
 pub const LINE: usize = 1024;

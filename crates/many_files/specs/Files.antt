@@ -8,7 +8,7 @@ use Rattle.refusal.specs.Told.{Told}
 use Rattle.area.specs.Kind.{Sort}
 use Rattle.table.specs.declared.TableWalk.{TableWalk}
 use Rattle.files.specs.Files.{File, fileStep}
-use Rattle.given.specs.Fill.{fillOf}
+use Rattle.answer_words.specs.Fill.{fillOf}
 
 -- with n words lent
 abbrev pub filesOf : (ℕ → Sort) → List ℕ → ℕ → TableWalk → Answer TableWalk (List File) Told

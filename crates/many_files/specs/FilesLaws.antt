@@ -14,9 +14,9 @@ use Rattle.table.specs.declared.TableWalk.{TableWalk}
 use Rattle.table.specs.declared.TableWalk.the-variants as walk
 use Rattle.files.specs.Files.{File, fileStep, filesIn}
 use Rattle.files.specs.FilesLaws.{files-walk}
-use Rattle.given.specs.Given.{given, Gives}
-use Rattle.given.specs.FillLaws.{Filling, fill-stored}
-use Rattle.given.specs.PiecesLaws.{put-part}
+use Rattle.answer_words.specs.Given.{given, Gives}
+use Rattle.answer_words.specs.FillLaws.{Filling, fill-stored}
+use Rattle.answer_words.specs.PiecesLaws.{put-part}
 use Rattle.many_files.specs.FileWords.{fileWords}
 use Rattle.many_files.specs.FileWordsLaws.{file-length}
 

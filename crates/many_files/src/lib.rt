@@ -7,15 +7,15 @@ ghost use Prim.Native.Nat.{_≤_};
 ghost use lib.ListN.{length};
 ghost use Rattle.area.specs.Kind.{ruled};
 ghost use Rattle.files.specs.Told.{toldFile};
-ghost use Rattle.given.specs.Fill.{noRoom, counted, filled};
+ghost use Rattle.answer_words.specs.Fill.{noRoom, counted, filled};
 ghost use Rattle.many_files.specs.FileWords.{fileWords};
 ghost use Rattle.many_files.specs.Files.{filesOf};
 ghost use Rattle.many_files.specs.Told.{toldFiles};
+use answer_words::GIVEN;
+use answer_words::put;
 use checksums::number;
 use files::FileStep;
 use files::next_file;
-use given::GIVEN;
-use given::put;
 use refusal::Refusal;
 use table::TableWalk;
 

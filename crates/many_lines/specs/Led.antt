@@ -6,10 +6,10 @@ use mathlib.Core.List.{List}
 use mathlib.Core.Bool.{Bool, false, cond}
 use lib.Dec.{ltb, eqb}
 use Rattle.area.specs.Kind.{Sort}
-use Rattle.turns.specs.declared.Rest.{Rest}
-use Rattle.turns.specs.declared.LineWalk.{LineWalk}
-use Rattle.turns.specs.declared.LineWalk.the-variants.{New, Between, Inside}
-use Rattle.whole_list.specs.Begin.{tested, beginAt}
+use Rattle.line_step.specs.declared.Rest.{Rest}
+use Rattle.line_step.specs.declared.LineWalk.{LineWalk}
+use Rattle.line_step.specs.declared.LineWalk.the-variants.{New, Between, Inside}
+use Rattle.list_test.specs.Begin.{tested, beginAt}
 
 abbrev pub scanOf : LineWalk → ℕ
 scanOf New = 0

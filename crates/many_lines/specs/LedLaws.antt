@@ -23,15 +23,15 @@ use Rattle.lines.specs.Blocks.{LineBlock, blockAt}
 use Rattle.lines.specs.Slots.{slotAt}
 use Rattle.lines.specs.SlotsLaws.{Scans, scans-start, slot-same, slot-scanned}
 use Rattle.lines.specs.declared.LineHeader.{LineHeader}
-use Rattle.turns.specs.declared.Held.{Held}
-use Rattle.turns.specs.declared.Held.the-variants.{Nothing, One}
-use Rattle.turns.specs.declared.Rest.{Rest}
-use Rattle.turns.specs.declared.Place.{Place}
-use Rattle.turns.specs.declared.LineWalk.{LineWalk}
-use Rattle.turns.specs.declared.LineWalk.the-variants.{New, Between, Inside}
-use Rattle.turns.specs.Turn.{LineMove, entryAt, withHeld, pastLine, holdIn, lineOf, endIn, blockOf, insideTurn, enterAt, namedOf, finishIn, betweenTurn, openOf, turnIn, turnOf}
-use Rattle.whole_list.specs.Begin.{tested, beginAt}
-use Rattle.whole_list.specs.BeginLaws.{begin-past, begin-scans, tested-right, tested-counted}
+use Rattle.line_step.specs.declared.Held.{Held}
+use Rattle.line_step.specs.declared.Held.the-variants.{Nothing, One}
+use Rattle.line_step.specs.declared.Rest.{Rest}
+use Rattle.line_step.specs.declared.Place.{Place}
+use Rattle.line_step.specs.declared.LineWalk.{LineWalk}
+use Rattle.line_step.specs.declared.LineWalk.the-variants.{New, Between, Inside}
+use Rattle.line_step.specs.Turn.{LineMove, entryAt, withHeld, pastLine, holdIn, lineOf, endIn, blockOf, insideTurn, enterAt, namedOf, finishIn, betweenTurn, openOf, turnIn, turnOf}
+use Rattle.list_test.specs.Begin.{tested, beginAt}
+use Rattle.list_test.specs.BeginLaws.{begin-past, begin-scans, tested-right, tested-counted}
 use Rattle.many_lines.specs.Led.{scanOf, fewLeft, testedFor, withScan, ledRest}
 
 -- if n is not 0 it is what a test of the list answered, at some place, and the walk's place is one at which a search may begin

@@ -8,10 +8,10 @@ use Rattle.walk.specs.Listing.{Answer}
 use Rattle.refusal.specs.Told.{Told}
 use Rattle.area.specs.Kind.{Sort}
 use Rattle.line_record.specs.declared.LineRecord.{LineRecord}
-use Rattle.line_words.specs.LineWords.{recordWords}
-use Rattle.turns.specs.declared.LineWalk.{LineWalk}
-use Rattle.records.specs.Next.{nextOf}
-use Rattle.given.specs.Fill as fill
+use Rattle.line_state_words.specs.LineWords.{recordWords}
+use Rattle.line_step.specs.declared.LineWalk.{LineWalk}
+use Rattle.line_walk.specs.Next.{nextOf}
+use Rattle.answer_words.specs.Fill as fill
 
 abbrev pub Lines : Type 0
 Lines = Answer LineWalk (List LineRecord) Told

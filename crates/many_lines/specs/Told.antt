@@ -3,7 +3,7 @@
 use Prim.Native.Nat.{ℕ}
 use Rattle.walk.specs.Listing.{Answer, gives, none, refuses}
 use Rattle.refusal.specs.Told.{Told, told}
-use Rattle.turns.specs.declared.LineWalk.{LineWalk}
+use Rattle.line_step.specs.declared.LineWalk.{LineWalk}
 use Rattle.many_lines.specs.declared.LinesStep.{LinesStep}
 use Rattle.many_lines.specs.declared.LinesStep.the-variants as step
 

@@ -4,7 +4,7 @@ use mathlib.Core.Path.{_≡_, refl, ap}
 use Rattle.walk.specs.Listing.{Answer, gives, none, refuses}
 use Rattle.refusal.specs.Told.{Told}
 use Rattle.refusal.specs.Untold.{untold, untold-told}
-use Rattle.turns.specs.declared.LineWalk.{LineWalk}
+use Rattle.line_step.specs.declared.LineWalk.{LineWalk}
 use Rattle.many_lines.specs.declared.LinesStep.{LinesStep}
 use Rattle.many_lines.specs.declared.LinesStep.the-variants as step
 use Rattle.many_lines.specs.Told.{toldLines}

@@ -10,13 +10,13 @@ use Rattle.walk.specs.Listing.{pass}
 use Rattle.refusal.specs.Told.{longest}
 use Rattle.area.specs.Kind.{ruled}
 use Rattle.lines.specs.declared.LineHeader.{LineHeader}
-use Rattle.turns.specs.Turn.{LineMove, withHeld, endOf}
-use Rattle.turns.specs.declared.Rest.{Rest}
-use Rattle.turns.specs.declared.Place.{Place}
-use Rattle.turns.specs.declared.LineWalk.{LineWalk}
-use Rattle.turns.specs.declared.LineWalk.the-variants.{Between, Inside}
-use Rattle.stretch.specs.declared.Lined.{Lined}
-use Rattle.stretch.specs.GoesLaws.{Goes}
+use Rattle.line_step.specs.Turn.{LineMove, withHeld, endOf}
+use Rattle.line_step.specs.declared.Rest.{Rest}
+use Rattle.line_step.specs.declared.Place.{Place}
+use Rattle.line_step.specs.declared.LineWalk.{LineWalk}
+use Rattle.line_step.specs.declared.LineWalk.the-variants.{Between, Inside}
+use Rattle.body_lines.specs.declared.Lined.{Lined}
+use Rattle.body_lines.specs.GoesLaws.{Goes}
 use Rattle.many_lines.specs.LedLaws.{Led}
 use Rattle.many_lines.specs.declared.Stood.{Stood}
 use Rattle.many_lines.specs.declared.Looked.{Looked}

@@ -19,7 +19,7 @@ use Rattle.area.specs.Subs.{stepAt}
 use Rattle.area.specs.SubsLaws.{whole-known, head-whole, step-gives}
 use Rattle.line_record.specs.Record.{maxOffset, closedAt}
 use Rattle.line_record.specs.declared.LineRecord.{LineRecord}
-use Rattle.line_words.specs.LineWords.{recordWords}
+use Rattle.line_state_words.specs.LineWords.{recordWords}
 use Rattle.body.specs.Lines.{lineHead, columned}
 use Rattle.find.specs.Find.{bytesAt}
 use Rattle.lines.specs.Lines.{countLines}
@@ -28,21 +28,21 @@ use Rattle.lines.specs.Slots.{slotAt}
 use Rattle.lines.specs.SlotsLaws.{seek-hit, scan-on, slot-is}
 use Rattle.lines.specs.Told.{toldHeader}
 use Rattle.lines.specs.declared.LineHeader.{LineHeader}
-use Rattle.turns.specs.Turn.{LineMove, withHeld, placeAt, restAt, enterAt, betweenTurn, openOf, turnOf}
-use Rattle.turns.specs.TurnLaws.{end-nothing, end-close, enter-in, sub-is, between-sub, block-is, inside-block, turn-is}
-use Rattle.turns.specs.declared.Held.the-variants.{Nothing, One}
-use Rattle.turns.specs.declared.Rest.{Rest}
-use Rattle.turns.specs.declared.Place.{Place}
-use Rattle.turns.specs.declared.LineWalk.{LineWalk}
-use Rattle.turns.specs.declared.LineWalk.the-variants.{New, Between, Inside}
-use Rattle.records.specs.Next.{nextOf}
-use Rattle.records.specs.NextLaws.{next-is}
-use Rattle.given.specs.Fill.{noRoom, counted}
-use Rattle.whole_list.specs.Begin.{beginAt}
-use Rattle.stretch.specs.declared.Lined.{Lined}
-use Rattle.stretch.specs.Stretch.{Used, Rode}
-use Rattle.stretch.specs.GoesLaws.{Going, Goes, goes-same, goes-pass, goes-on}
-use Rattle.stretch.specs.FillLaws.{Filled, turns-start, turns-record, turns-full, turns-stop, turns-none, turns-behind}
+use Rattle.line_step.specs.Turn.{LineMove, withHeld, placeAt, restAt, enterAt, betweenTurn, openOf, turnOf}
+use Rattle.line_step.specs.TurnLaws.{end-nothing, end-close, enter-in, sub-is, between-sub, block-is, inside-block, turn-is}
+use Rattle.line_step.specs.declared.Held.the-variants.{Nothing, One}
+use Rattle.line_step.specs.declared.Rest.{Rest}
+use Rattle.line_step.specs.declared.Place.{Place}
+use Rattle.line_step.specs.declared.LineWalk.{LineWalk}
+use Rattle.line_step.specs.declared.LineWalk.the-variants.{New, Between, Inside}
+use Rattle.line_walk.specs.Next.{nextOf}
+use Rattle.line_walk.specs.NextLaws.{next-is}
+use Rattle.answer_words.specs.Fill.{noRoom, counted}
+use Rattle.list_test.specs.Begin.{beginAt}
+use Rattle.body_lines.specs.declared.Lined.{Lined}
+use Rattle.body_lines.specs.Stretch.{Used, Rode}
+use Rattle.body_lines.specs.GoesLaws.{Going, Goes, goes-same, goes-pass, goes-on}
+use Rattle.body_lines.specs.FillLaws.{Filled, turns-start, turns-record, turns-full, turns-stop, turns-none, turns-behind}
 use Rattle.many_lines.specs.LedLaws.{Led, begin-same, led-kept}
 use Rattle.many_lines.specs.Went.{standsAt, Look, EndsTo, Leaves, EntersTo, EnteredIs, Went}
 use Rattle.many_lines.specs.declared.Entered.{Entered}

@@ -15,9 +15,9 @@ use Rattle.rows.specs.Collect.{onGave}
 use Rattle.files.specs.Files.{Info, File, filesIn, fileStep, fileAt, partOf}
 use Rattle.order.specs.Order.{ordered, slotsAfter}
 use Rattle.line_record.specs.declared.LineRecord.{LineRecord}
-use Rattle.turns.specs.declared.LineWalk.{LineWalk}
-use Rattle.records.specs.Meaning.{recordsOf}
-use Rattle.records.specs.Next.{nextOf}
+use Rattle.line_step.specs.declared.LineWalk.{LineWalk}
+use Rattle.line_walk.specs.Meaning.{recordsOf}
+use Rattle.line_walk.specs.Next.{nextOf}
 use Rattle.symbol_lines.specs.Symbol.{symbolRecords, symbolWalk}
 use Rattle.modi.specs.declared.ModuleSizes.{ModuleSizes}
 use Rattle.modi.specs.Modi.{linesArea, stepIn}

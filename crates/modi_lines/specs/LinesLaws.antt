@@ -13,11 +13,11 @@ use Rattle.table.specs.Whole.{ofBody}
 use Rattle.rows.specs.Collect.{onGave}
 use Rattle.files.specs.Files.{filesIn, fileStep, partOf}
 use Rattle.files.specs.FilesLaws.{files-walk}
-use Rattle.turns.specs.declared.LineWalk.{LineWalk}
-use Rattle.turns.specs.declared.LineWalk.the-variants as line
-use Rattle.records.specs.Meaning.{recordsOf}
-use Rattle.records.specs.Next.{nextOf}
-use Rattle.records.specs.WalkLaws.{walk-is}
+use Rattle.line_step.specs.declared.LineWalk.{LineWalk}
+use Rattle.line_step.specs.declared.LineWalk.the-variants as line
+use Rattle.line_walk.specs.Meaning.{recordsOf}
+use Rattle.line_walk.specs.Next.{nextOf}
+use Rattle.line_walk.specs.WalkLaws.{walk-is}
 use Rattle.symbol_lines.specs.Symbol.{symbolRecords, symbolWalk}
 use Rattle.symbol_lines.specs.RecordsLaws.{symbol-walk}
 use Rattle.modi.specs.declared.ModuleSizes.{ModuleSizes}

@@ -7,7 +7,7 @@ ghost use lib.ListN.{length};
 ghost use Rattle.area.specs.Kind.{ruled};
 ghost use Rattle.files.specs.Told.{toldFile, toldInfo};
 ghost use Rattle.order.specs.Told.{toldOrdered};
-ghost use Rattle.records.specs.Told.{toldLine};
+ghost use Rattle.line_walk.specs.Told.{toldLine};
 ghost use Rattle.symbol_lines.specs.Told.{toldSymbol};
 ghost use Rattle.find.specs.Find.{heldSpan};
 ghost use Rattle.modi.specs.Modi.{moduleSpan};
@@ -17,18 +17,18 @@ use files::FileStep;
 use files::checksum_bytes;
 use files::file_at;
 use files::next_file;
+use line_step::LineWalk;
+use line_walk::LineStep;
+use line_walk::next_line;
 use modi::ModuleSizes;
 use modi::Part;
 use modi::area_of;
 use modi::lines_part;
 use order::Ordered;
 use order::order_list;
-use records::LineStep;
-use records::next_line;
 use symbol_lines::SymbolLines;
 use symbol_lines::lines_for_symbol;
 use table::TableWalk;
-use turns::LineWalk;
 
 pub fn module_next_file(stream: &[u8], sizes: ModuleSizes, walk: TableWalk) -> FileStep
     ensures { λ r. ⌜ toldFile r ≡ moduleFileStep ruled sizes (now (stream .entry)) walk ⌝ }

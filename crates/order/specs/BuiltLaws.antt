@@ -23,10 +23,10 @@ use Rattle.lines.specs.Lines.{headed, countOf, countLines}
 use Rattle.lines.specs.Slots.{bodyIn, bodyFrom, bodyAt, nameThen, named, listIn, listOf}
 use Rattle.lines.specs.SlotsLaws.{body-passed}
 use Rattle.lines.specs.LinesLaws.{counted-short}
-use Rattle.rank.specs.Sort.{sortBy}
-use Rattle.rank.specs.SortLaws.{Each, each-map, each-sort, map-sort, length-sort}
-use Rattle.rank.specs.Rank.{keyAt}
-use Rattle.rank.specs.RankLaws.{After, Ascends, stable}
+use Rattle.slot_key.specs.Sort.{sortBy}
+use Rattle.slot_key.specs.SortLaws.{Each, each-map, each-sort, map-sort, length-sort}
+use Rattle.slot_key.specs.Rank.{keyAt}
+use Rattle.slot_key.specs.RankLaws.{After, Ascends, stable}
 use Rattle.order.specs.Order.{listed, startOf, startsFrom, orderOf, inRoom, ordered, slotsBy, slotsAfter, isLines, bodyOf, lineBodies, keyOf, inOrder}
 use Rattle.order.specs.OrderLaws.{plus-one, counted-starts}
 

@@ -17,8 +17,8 @@ use Rattle.area.specs.Subs.{Sub, subsFrom, bodies}
 use Rattle.body.specs.Lines.{lineHead}
 use Rattle.find.specs.Find.{is}
 use Rattle.lines.specs.Lines.{countLines}
-use Rattle.rank.specs.Sort.{sortBy}
-use Rattle.rank.specs.Rank.{rank}
+use Rattle.slot_key.specs.Sort.{sortBy}
+use Rattle.slot_key.specs.Rank.{rank}
 
 -- the records of a listing, without its end
 unfoldable pub listed : {B R : Type 0} → Listing B R → List B

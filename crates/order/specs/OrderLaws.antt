@@ -17,9 +17,9 @@ use Rattle.area.specs.Subs.{Sub, subsFrom, stepAt, firstOf}
 use Rattle.area.specs.SubsLaws.{sub-next, sub-end, sub-refused, subs-long}
 use Rattle.find.specs.Find.{is}
 use Rattle.lines.specs.Lines.{headed, plus, countOf, countLines}
-use Rattle.rank.specs.Sort.{sortBy}
-use Rattle.rank.specs.SortLaws.{filled}
-use Rattle.rank.specs.Rank.{rank}
+use Rattle.slot_key.specs.Sort.{sortBy}
+use Rattle.slot_key.specs.SortLaws.{filled}
+use Rattle.slot_key.specs.Rank.{rank}
 use Rattle.order.specs.Order.{listed, startOf, startsFrom, inRoom, ordered, slotsBy, slotsAfter}
 
 -- ---- as many bodies as are counted

@@ -1,1 +1,1 @@
-// No code: what the full reading of an area is. Crate `items` reads an area so, one item at a time.
+// No code: what the full reading of an area is. Crate `reading_walk` reads an area so, one item at a time.

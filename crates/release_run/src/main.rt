@@ -5,11 +5,11 @@
 // next item of the reading is taken for each call that was accepted, printed, and compared with the call. What is printed is compared with the file
 // stdout.
 use files::checksum_bytes;
-use item::Columns;
-use item::ItemStep;
-use item::ItemWalk;
-use items::next_item;
 use libc::STDOUT_FILENO;
+use reading_record::Columns;
+use reading_record::ItemStep;
+use reading_record::ItemWalk;
+use reading_walk::next_item;
 use rows::WordAnswer;
 use rows::word_in;
 use text::Place;

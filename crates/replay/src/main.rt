@@ -4,6 +4,8 @@
 // The list: the number of cases, u32. Each case: the number of calls u8, the length of a stream u16, a module's sizes in it u32 (symbols, C11, C13),
 // the stream, the calls. An area is the module of the sizes 0, 0 and its length, as it is to the crate; a string table has no sizes. A call is
 // its number u8, as below, and from INFO on a word u32 and a section u16, which only SYM reads.
+use answer_words::put_refusal;
+use answer_words::state_word;
 use area::SubStep;
 use area::sub_at;
 use checksums::ChecksumKind;
@@ -14,8 +16,6 @@ use exports::ExportStep;
 use exports::Lookup;
 use files::FileAnswer;
 use files::FileStep;
-use given::put_refusal;
-use given::state_word;
 use imports::ImportStep;
 use imports::Resolved;
 use inlinees::InlineeStep;
@@ -25,6 +25,8 @@ use line_record::Column;
 use line_record::Length;
 use line_record::LineKind;
 use line_record::LineRecord;
+use line_step::LineWalk;
+use line_walk::LineStep;
 use modi::ModuleSizes;
 use modi::SymbolsAnswer;
 use modi::module_symbols;
@@ -42,7 +44,6 @@ use modi_tables::module_resolve_export;
 use modi_tables::module_resolve_import;
 use modi_tables::module_word;
 use order::Ordered;
-use records::LineStep;
 use refusal::Refusal;
 use rows::WordAnswer;
 use std::num::wrapping_add_u8;
@@ -53,7 +54,6 @@ use strings::name_bytes;
 use strings::string_table;
 use symbol_lines::SymbolLines;
 use table::TableWalk;
-use turns::LineWalk;
 use word::u8_at;
 use word::u16_at;
 use word::u32_at;

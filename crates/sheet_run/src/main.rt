@@ -15,15 +15,15 @@ use line_record::Entry;
 use line_record::Length;
 use line_record::LineKind;
 use line_record::LineRecord;
+use line_step::LineWalk;
+use line_walk::LineStep;
 use lines::BlockStep;
 use modi::ModuleSizes;
 use modi::Part;
 use modi::SymbolsAnswer;
 use order::Ordered;
-use records::LineStep;
 use refusal::Refusal;
 use strings::NameAnswer;
-use turns::LineWalk;
 use writer::Wrote;
 
 fn say(text: &[u8]) {
@@ -207,7 +207,7 @@ fn file(area: &[u8], index: u32) {
 
 // One step of a line walk.
 fn line_step(area: &[u8], slots: &[u32], walk: LineWalk) -> LineWalk {
-    match records::next_line(area, slots, walk) {
+    match line_walk::next_line(area, slots, walk) {
         LineStep::Line(r, next) => {
             line(r);
             next

@@ -19,11 +19,11 @@ use Rattle.lines.specs.Lines.{countLines}
 use Rattle.lines.specs.LinesLaws.{count-long}
 use Rattle.lines.specs.Slots.{bodyAt, nameThen, named, slotAt, listIn, listOf}
 use Rattle.lines.specs.SlotsLaws.{scans-start, named-slot}
-use Rattle.turns.specs.declared.LineWalk.{LineWalk}
-use Rattle.records.specs.Meaning.{bodyThen, eventsOf, settle}
-use Rattle.records.specs.Next.{nextOf}
-use Rattle.records.specs.WalkLaws.{walk-from}
-use Rattle.records.specs.LimitsLaws.{body-limits, settle-limits}
+use Rattle.line_step.specs.declared.LineWalk.{LineWalk}
+use Rattle.line_walk.specs.Meaning.{bodyThen, eventsOf, settle}
+use Rattle.line_walk.specs.Next.{nextOf}
+use Rattle.line_walk.specs.WalkLaws.{walk-from}
+use Rattle.line_walk.specs.LimitsLaws.{body-limits, settle-limits}
 use Rattle.symbol_lines.specs.Symbol.{isAt, isBefore, symbolBody, bodyRecords, symbolRecords, Numbered, numbered, slotOf, atSlot, beforeSlot, walkOf, walkTo, symbolWalk}
 use Rattle.symbol_lines.specs.SymbolLaws.{symbol-refused}
 

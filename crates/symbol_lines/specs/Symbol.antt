@@ -14,10 +14,10 @@ use Rattle.area.specs.Kind.{Sort}
 use Rattle.body.specs.Lines.{LineHead, lineHead}
 use Rattle.find.specs.Find.{same}
 use Rattle.lines.specs.Slots.{listOf}
-use Rattle.turns.specs.declared.Held.the-variants.{Nothing}
-use Rattle.turns.specs.declared.LineWalk.{LineWalk}
-use Rattle.turns.specs.declared.LineWalk.the-variants.{Between}
-use Rattle.records.specs.Meaning.{Records, bodyThen, settle}
+use Rattle.line_step.specs.declared.Held.the-variants.{Nothing}
+use Rattle.line_step.specs.declared.LineWalk.{LineWalk}
+use Rattle.line_step.specs.declared.LineWalk.the-variants.{Between}
+use Rattle.line_walk.specs.Meaning.{Records, bodyThen, settle}
 
 -- a header at just this place; and one before it in its section
 abbrev pub headIs : ℕ → ℕ → LineHead → Bool

@@ -3,7 +3,7 @@
 use Prim.Native.Nat.{ℕ}
 use Rattle.walk.specs.Listing.{Reply, gave, nothing, refused}
 use Rattle.refusal.specs.Told.{Told, told}
-use Rattle.turns.specs.declared.LineWalk.{LineWalk}
+use Rattle.line_step.specs.declared.LineWalk.{LineWalk}
 use Rattle.symbol_lines.specs.declared.Best.{Best}
 use Rattle.symbol_lines.specs.declared.Best.the-variants as best
 use Rattle.symbol_lines.specs.declared.SymbolLines.{SymbolLines}

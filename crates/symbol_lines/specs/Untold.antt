@@ -3,8 +3,8 @@ use mathlib.Core.Path.{_≡_, refl, ap}
 use Rattle.walk.specs.Listing.{Reply, gave, nothing, refused}
 use Rattle.refusal.specs.Told.{Told}
 use Rattle.refusal.specs.Untold.{untold, untold-told}
-use Rattle.turns.specs.declared.LineWalk.{LineWalk}
-use Rattle.turns.specs.declared.LineWalk.the-variants.{New}
+use Rattle.line_step.specs.declared.LineWalk.{LineWalk}
+use Rattle.line_step.specs.declared.LineWalk.the-variants.{New}
 use Rattle.symbol_lines.specs.declared.SymbolLines.{SymbolLines}
 use Rattle.symbol_lines.specs.declared.SymbolLines.the-variants as symbol
 use Rattle.symbol_lines.specs.Told.{toldSymbol}

@@ -1,5 +1,5 @@
 // The lines of a symbol (crate: `LineProgram::lines_for_symbol`): which one subsection of the order list they stand in, as a walk over that one alone.
-// `records::next_line` steps it.
+// `line_walk::next_line` steps it.
 //
 // The crate searches its sorted list by halves. Here the list is lent and may be wrong, so that each slot on the way is looked at; the area is
 // passed over once if the bodies ascend in it as in the list.
@@ -9,18 +9,18 @@ ghost use Rattle.lines.specs.Slots.{bodyAt, named};
 ghost use Rattle.lines.specs.Told.{toldHeader};
 ghost use Rattle.symbol_lines.specs.Symbol.{headIs, better, slotIn, walkOf, walkTo, symbolWalk};
 ghost use Rattle.symbol_lines.specs.Told.{toldBest, toldSymbol};
+use line_step::Held;
+use line_step::LineWalk;
+use line_step::Rest;
 use lines::Counted;
 use lines::LineHeader;
 use lines::Named;
 use lines::count_lines;
 use lines::header_of;
 use lines::slot_body;
+use list_test::begin_at;
+use list_test::tested_list;
 use refusal::Refusal;
-use turns::Held;
-use turns::LineWalk;
-use turns::Rest;
-use whole_list::begin_at;
-use whole_list::tested_list;
 
 // The walk over the symbol's subsection; where there is none it is at its end.
 pub enum SymbolLines {

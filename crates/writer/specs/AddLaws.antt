@@ -13,11 +13,11 @@ use Rattle.refusal.specs.Told.{told}
 use Rattle.walk.specs.Listing.{refused}
 use Rattle.refusal.specs.declared.Refusal.{Refusal}
 use Rattle.reading.specs.Reading.{Item, opens}
-use Rattle.calls.specs.declared.Step.{Step}
-use Rattle.calls.specs.declared.Step.the-variants as step
-use Rattle.calls.specs.Calls.{kindOf, bytesFor, obeys, needs, act, patch, answered, after, growAct}
-use Rattle.calls.specs.Told.{toldAct}
-use Rattle.calls.specs.CallLaws.{needs-is, patch-is, act-is, kind-some, Grows, grow-goes, kept-go, kept-stop}
+use Rattle.writer_decides.specs.declared.Step.{Step}
+use Rattle.writer_decides.specs.declared.Step.the-variants as step
+use Rattle.writer_decides.specs.Calls.{kindOf, bytesFor, obeys, needs, act, patch, answered, after, growAct}
+use Rattle.writer_decides.specs.Told.{toldAct}
+use Rattle.writer_decides.specs.CallLaws.{needs-is, patch-is, act-is, kind-some, Grows, grow-goes, kept-go, kept-stop}
 use Rattle.writer.specs.declared.Wrote.{Wrote}
 use Rattle.writer.specs.declared.Wrote.the-variants as wrote
 use Rattle.writer.specs.Told.{toldWrote}

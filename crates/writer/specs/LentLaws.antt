@@ -22,7 +22,7 @@ use Rattle.body.specs.Checksums.{up4, zeros, checksumBytes}
 use Rattle.body.specs.ChecksumsLaws.{padding}
 use Rattle.plain.specs.Plain.{sizeOf}
 use Rattle.plain.specs.RecordLaws.{padding-two}
-use Rattle.calls.specs.Calls.{grown}
+use Rattle.writer_decides.specs.Calls.{grown}
 
 -- b with the bytes bs at its start: what every writer of a body does to the part that it is lent
 abbrev pub over : List ℕ → List ℕ → List ℕ

@@ -1,6 +1,6 @@
 // The writer of plain areas (added; the crate has no writer).
 //
-// A call takes the buffer and the place behind what is written, which is 0 at first and then what the call before answered. A step of crate `calls`
+// A call takes the buffer and the place behind what is written, which is 0 at first and then what the call before answered. A step of crate `writer_decides`
 // decides, on the buffer as it is; the call then writes into the part behind the place, or refuses and changes nothing.
 ghost use mathlib.Core.Path.{_≡_};
 ghost use mathlib.Core.List.{_++_};
@@ -12,20 +12,20 @@ ghost use Rattle.body.specs.Words.{wordBytes};
 ghost use Rattle.body.specs.Inlinees.{extended};
 ghost use Rattle.body.specs.InlineesLaws.{extraLength};
 ghost use Rattle.plain.specs.Plain.{sizeOf};
-ghost use Rattle.calls.specs.Calls.{openAct, wrote, kept, answered, after, callLines, callBlock, callChecksum, callInlinee, callModule, callPair, bytesFor};
+ghost use Rattle.writer_decides.specs.Calls.{openAct, wrote, kept, answered, after, callLines, callBlock, callChecksum, callInlinee, callModule, callPair, bytesFor};
 ghost use Rattle.writer.specs.LentLaws.{over};
 ghost use Rattle.writer.specs.Told.{toldWrote};
-use calls::Step;
-use calls::block_step;
-use calls::checksum_step;
-use calls::inlinee_step;
-use calls::module_step;
-use calls::opaque_rule;
-use calls::open_step;
-use calls::pair_step;
 use refusal::Refusal;
 use word::put_u16;
 use word::put_u32;
+use writer_decides::Step;
+use writer_decides::block_step;
+use writer_decides::checksum_step;
+use writer_decides::inlinee_step;
+use writer_decides::module_step;
+use writer_decides::opaque_rule;
+use writer_decides::open_step;
+use writer_decides::pair_step;
 
 const LINES: u32 = 0xf2;
 

@@ -3,8 +3,8 @@
 use borrow.Author.Needs.{needs}
 use mathlib.Core.Path.{sym, ap, _∙_}
 use Rattle.files.specs.Told.{toldInfo}
-use Rattle.given.specs.Given.{given, replyGiven}
-use Rattle.given.specs.GivenLaws.{gives-as}
+use Rattle.answer_words.specs.Given.{given, replyGiven}
+use Rattle.answer_words.specs.GivenLaws.{gives-as}
 use Rattle.many_files.specs.FileWords.{infoWords}
 use Rattle.many_files.specs.FileWordsLaws.{info-words}
 use Rattle.export_files.proofs.file_at.Statement.{statement}

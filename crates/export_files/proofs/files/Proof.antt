@@ -5,11 +5,11 @@ use mathlib.Core.Path.{refl, sym, ap, _∙_}
 use native.Mathlib.Omega.{arith}
 use lib.ListN.{length}
 use Rattle.area.specs.Kind.{ruled}
-use Rattle.given.specs.Given.{one}
-use Rattle.given.specs.GivenLaws.{gives-none}
-use Rattle.given.specs.TableWords.{walkIn, walkWords}
-use Rattle.given.specs.TableWordsLaws.{gives-table}
-use Rattle.given.specs.FillGivenLaws.{fill-short, fill-given}
+use Rattle.answer_words.specs.Given.{one}
+use Rattle.answer_words.specs.GivenLaws.{gives-none}
+use Rattle.answer_words.specs.TableWords.{walkIn, walkWords}
+use Rattle.answer_words.specs.TableWordsLaws.{gives-table}
+use Rattle.answer_words.specs.FillGivenLaws.{fill-short, fill-given}
 use Rattle.many_files.specs.FileWords.{fileWords}
 use Rattle.many_files.specs.Files.{filesOf}
 use Rattle.many_files.specs.Told.{toldFiles}

@@ -5,10 +5,10 @@ use mathlib.Core.Path.{sym, ap, _∙_}
 use Rattle.area.specs.Kind.{ruled}
 use Rattle.files.specs.Files.{fileStep}
 use Rattle.files.specs.Told.{toldFile}
-use Rattle.given.specs.Given.{stepGiven}
-use Rattle.given.specs.GivenLaws.{gives-as, gives-none}
-use Rattle.given.specs.TableWords.{tableWords}
-use Rattle.given.specs.TableWordsLaws.{gives-table}
+use Rattle.answer_words.specs.Given.{stepGiven}
+use Rattle.answer_words.specs.GivenLaws.{gives-as, gives-none}
+use Rattle.answer_words.specs.TableWords.{tableWords}
+use Rattle.answer_words.specs.TableWordsLaws.{gives-table}
 use Rattle.many_files.specs.FileWords.{fileWords}
 use Rattle.many_files.specs.FileWordsLaws.{file-words}
 use Rattle.export_files.proofs.next_file.Statement.{statement}

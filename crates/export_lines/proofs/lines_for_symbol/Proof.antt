@@ -3,9 +3,9 @@
 use borrow.Author.Needs.{needs}
 use mathlib.Core.Path.{sym, ap, _∙_}
 use Rattle.symbol_lines.specs.Told.{toldSymbol}
-use Rattle.line_words.specs.LineWords.{lineWalkWords}
-use Rattle.given.specs.Given.{replyGiven}
-use Rattle.given.specs.GivenLaws.{gives-as}
+use Rattle.line_state_words.specs.LineWords.{lineWalkWords}
+use Rattle.answer_words.specs.Given.{replyGiven}
+use Rattle.answer_words.specs.GivenLaws.{gives-as}
 use Rattle.export_lines.proofs.lines_for_symbol.Statement.{statement}
 use Rattle.export_lines.proofs.lines_for_symbol.Tie as tie
 

@@ -3,11 +3,11 @@
 use borrow.Author.Needs.{needs}
 use mathlib.Core.Path.{sym, ap, _∙_}
 use Rattle.area.specs.Kind.{ruled}
-use Rattle.records.specs.Next.{nextOf}
-use Rattle.records.specs.Told.{toldLine}
-use Rattle.line_words.specs.LineWords.{lineWords}
-use Rattle.given.specs.Given.{stepGiven}
-use Rattle.given.specs.GivenLaws.{gives-as, gives-none}
+use Rattle.line_walk.specs.Next.{nextOf}
+use Rattle.line_walk.specs.Told.{toldLine}
+use Rattle.line_state_words.specs.LineWords.{lineWords}
+use Rattle.answer_words.specs.Given.{stepGiven}
+use Rattle.answer_words.specs.GivenLaws.{gives-as, gives-none}
 use Rattle.export_lines.proofs.next_line.Statement.{statement}
 use Rattle.export_lines.proofs.next_line.Tie as tie
 

@@ -5,8 +5,8 @@ use borrow.Author.Needs.{needs}
 use mathlib.Core.Path.{sym, ap, _∙_}
 use native.Mathlib.Omega.{arith}
 use Rattle.order.specs.Told.{toldOrdered}
-use Rattle.given.specs.Given.{one, replyGiven}
-use Rattle.given.specs.GivenLaws.{gives-as, room-changes, room-keeps}
+use Rattle.answer_words.specs.Given.{one, replyGiven}
+use Rattle.answer_words.specs.GivenLaws.{gives-as, room-changes, room-keeps}
 use Rattle.export_lines.proofs.order_list.Statement.{statement}
 use Rattle.export_lines.proofs.order_list.Tie as tie
 

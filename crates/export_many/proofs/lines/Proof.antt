@@ -5,9 +5,9 @@ use mathlib.Core.Path.{sym, ap, _∙_}
 use native.Mathlib.Omega.{arith}
 use lib.ListN.{length}
 use Rattle.area.specs.Kind.{ruled}
-use Rattle.given.specs.GivenLaws.{gives-none}
-use Rattle.given.specs.FillGivenLaws.{fill-short, fill-given}
-use Rattle.line_words.specs.LineWords.{lineWalkIn, lineWalkWords, recordWords}
+use Rattle.answer_words.specs.GivenLaws.{gives-none}
+use Rattle.answer_words.specs.FillGivenLaws.{fill-short, fill-given}
+use Rattle.line_state_words.specs.LineWords.{lineWalkIn, lineWalkWords, recordWords}
 use Rattle.many_lines.specs.Lines.{linesOf}
 use Rattle.many_lines.specs.Told.{toldLines}
 use Rattle.export_many.proofs.lines.Statement.{statement}

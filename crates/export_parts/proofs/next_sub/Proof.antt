@@ -5,9 +5,9 @@ use mathlib.Core.Path.{sym, ap, _∙_}
 use Rattle.area.specs.Kind.{ruled}
 use Rattle.area.specs.Subs.{stepAt}
 use Rattle.area.specs.Told.{toldStep}
-use Rattle.given.specs.Given.{stepGiven}
+use Rattle.answer_words.specs.Given.{stepGiven}
 use Rattle.export_parts.specs.Words.{subWords}
-use Rattle.given.specs.GivenLaws.{gives-as, gives-none}
+use Rattle.answer_words.specs.GivenLaws.{gives-as, gives-none}
 use Rattle.export_parts.proofs.next_sub.Statement.{statement}
 use Rattle.export_parts.proofs.next_sub.Tie as tie
 

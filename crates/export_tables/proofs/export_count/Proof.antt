@@ -3,8 +3,8 @@
 use borrow.Author.Needs.{needs}
 use mathlib.Core.Path.{sym, ap, _∙_}
 use Rattle.exports.specs.Told.{toldCount}
-use Rattle.given.specs.Given.{one, replyGiven}
-use Rattle.given.specs.GivenLaws.{gives-as}
+use Rattle.answer_words.specs.Given.{one, replyGiven}
+use Rattle.answer_words.specs.GivenLaws.{gives-as}
 use Rattle.export_tables.proofs.export_count.Statement.{statement}
 use Rattle.export_tables.proofs.export_count.Tie as tie
 

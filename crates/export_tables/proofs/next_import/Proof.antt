@@ -5,10 +5,10 @@ use mathlib.Core.Path.{refl, sym, ap, _∙_}
 use Rattle.area.specs.Kind.{ruled}
 use Rattle.imports.specs.Imports.{importStep}
 use Rattle.imports.specs.Told.{toldStep}
-use Rattle.given.specs.Given.{stepGiven}
-use Rattle.given.specs.GivenLaws.{gives-as, gives-none}
-use Rattle.given.specs.TableWords.{tableWords}
-use Rattle.given.specs.TableWordsLaws.{gives-table}
+use Rattle.answer_words.specs.Given.{stepGiven}
+use Rattle.answer_words.specs.GivenLaws.{gives-as, gives-none}
+use Rattle.answer_words.specs.TableWords.{tableWords}
+use Rattle.answer_words.specs.TableWordsLaws.{gives-table}
 use Rattle.export_tables.specs.Words.{moduleWords}
 use Rattle.export_tables.proofs.next_import.Statement.{statement}
 use Rattle.export_tables.proofs.next_import.Tie as tie

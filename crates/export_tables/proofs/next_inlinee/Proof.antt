@@ -5,10 +5,10 @@ use mathlib.Core.Path.{refl, sym, ap, _∙_}
 use Rattle.area.specs.Kind.{ruled}
 use Rattle.inlinees.specs.Inlinees.{inlineeStep}
 use Rattle.inlinees.specs.Told.{toldInlinee}
-use Rattle.given.specs.Given.{stepGiven}
-use Rattle.given.specs.GivenLaws.{gives-as, gives-none}
-use Rattle.given.specs.TableWords.{tableWords}
-use Rattle.given.specs.TableWordsLaws.{gives-table}
+use Rattle.answer_words.specs.Given.{stepGiven}
+use Rattle.answer_words.specs.GivenLaws.{gives-as, gives-none}
+use Rattle.answer_words.specs.TableWords.{tableWords}
+use Rattle.answer_words.specs.TableWordsLaws.{gives-table}
 use Rattle.export_tables.specs.Words.{inlineeWords}
 use Rattle.export_tables.proofs.next_inlinee.Statement.{statement}
 use Rattle.export_tables.proofs.next_inlinee.Tie as tie

@@ -3,8 +3,8 @@
 use borrow.Author.Needs.{needs}
 use mathlib.Core.Path.{sym, ap, _∙_}
 use Rattle.imports.specs.Told.{toldResolved}
-use Rattle.given.specs.Given.{replyGiven}
-use Rattle.given.specs.GivenLaws.{gives-as}
+use Rattle.answer_words.specs.Given.{replyGiven}
+use Rattle.answer_words.specs.GivenLaws.{gives-as}
 use Rattle.export_tables.specs.Words.{refWords}
 use Rattle.export_tables.proofs.resolve_import.Statement.{statement}
 use Rattle.export_tables.proofs.resolve_import.Tie as tie

@@ -3,8 +3,8 @@
 use borrow.Author.Needs.{needs}
 use mathlib.Core.Path.{sym, ap, _∙_}
 use Rattle.rows.specs.Told.{toldWord}
-use Rattle.given.specs.Given.{one, replyGiven}
-use Rattle.given.specs.GivenLaws.{gives-as, gives-none}
+use Rattle.answer_words.specs.Given.{one, replyGiven}
+use Rattle.answer_words.specs.GivenLaws.{gives-as, gives-none}
 use Rattle.export_tables.proofs.word.Statement.{statement}
 use Rattle.export_tables.proofs.word.Tie as tie
 

@@ -3,7 +3,7 @@
 use borrow.Author.Needs.{needs}
 use mathlib.Core.Path.{sym, ap, _∙_}
 use Rattle.plain.specs.Told.{toldPlain}
-use Rattle.given.specs.GivenLaws.{gives-as, gives-none}
+use Rattle.answer_words.specs.GivenLaws.{gives-as, gives-none}
 use Rattle.export_write.specs.Calls.{lastGiven}
 use Rattle.export_write.proofs.plain.Statement.{statement}
 use Rattle.export_write.proofs.plain.Tie as tie

@@ -3,8 +3,8 @@
 use borrow.Author.Needs.{needs}
 use mathlib.Core.Path.{sym, ap}
 use Rattle.writer.specs.Told.{toldWrote}
-use Rattle.given.specs.Given.{one, replyGiven}
-use Rattle.given.specs.GivenLaws.{gives-as}
+use Rattle.answer_words.specs.Given.{one, replyGiven}
+use Rattle.answer_words.specs.GivenLaws.{gives-as}
 use Rattle.export_write.proofs.put_wrote.Statement.{statement}
 use Rattle.export_write.proofs.put_wrote.Tie as tie
 

@@ -4,7 +4,7 @@ use borrow.Author.Needs.{needs}
 use native.Mathlib.Omega.{arith}
 use mathlib.Core.Path.{sym, ap, _∙_}
 use Rattle.printed.specs.PrintedLaws.{end-fits, refused-fits}
-use Rattle.records.specs.Told.{toldLine}
+use Rattle.line_walk.specs.Told.{toldLine}
 use Rattle.listing.specs.StepLaws.{line-shown, stage-gives, stage-none, stage-refuses}
 use Rattle.listing.proofs.lines_step.Statement.{statement}
 use Rattle.listing.proofs.lines_step.Tie as tie

@@ -9,7 +9,7 @@ use Rattle.area.specs.Kind.{ruled}
 use Rattle.walk.specs.Listing.{none, refuses}
 use Rattle.files.specs.Files.{fileStep}
 use Rattle.files.specs.Told.{toldFile}
-use Rattle.given.specs.FillLaws.{fill-start, fill-full, fill-stop, fill-none}
+use Rattle.answer_words.specs.FillLaws.{fill-start, fill-full, fill-stop, fill-none}
 use Rattle.many_files.specs.FileWords.{fileWords}
 use Rattle.many_files.specs.FileWordsLaws.{file-length, file-words}
 use Rattle.many_files.specs.FilesLaws.{Put, put-file}

@@ -5,7 +5,7 @@ use native.Mathlib.Omega.{arith}
 use mathlib.Core.Path.{_∙_}
 use Rattle.area.specs.Kind.{ruled}
 use Rattle.files.specs.Files.{fileStep}
-use Rattle.given.specs.FillLaws.{fill-no-room}
+use Rattle.answer_words.specs.FillLaws.{fill-no-room}
 use Rattle.many_files.specs.FileWords.{fileWords}
 use Rattle.many_files.specs.FileWordsLaws.{file-length}
 use Rattle.many_files.proofs.next_files.Statement.{statement}

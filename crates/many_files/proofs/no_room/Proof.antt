@@ -3,7 +3,7 @@
 use borrow.Author.Needs.{needs}
 use mathlib.Core.Path.{sym, ap}
 use Rattle.files.specs.Told.{toldFile}
-use Rattle.given.specs.Fill.{noRoom, counted}
+use Rattle.answer_words.specs.Fill.{noRoom, counted}
 use Rattle.many_files.proofs.no_room.Statement.{statement}
 use Rattle.many_files.proofs.no_room.Tie as tie
 

@@ -5,10 +5,10 @@ use native.Mathlib.Omega.{arith}
 use mathlib.Core.Path.{sym, ap, _∙_}
 use Rattle.area.specs.Kind.{ruled}
 use Rattle.walk.specs.Listing.{item, pass, over, fail}
-use Rattle.turns.specs.Told.{toldTurn}
-use Rattle.records.specs.Next.{todo}
-use Rattle.records.specs.NextLaws.{next-falls}
-use Rattle.stretch.specs.FillLaws.{record-falls}
+use Rattle.line_step.specs.Told.{toldTurn}
+use Rattle.line_walk.specs.Next.{todo}
+use Rattle.line_walk.specs.NextLaws.{next-falls}
+use Rattle.body_lines.specs.FillLaws.{record-falls}
 use Rattle.many_lines.specs.LedLaws.{Led, led-kept}
 use Rattle.many_lines.specs.WentLaws.{Behind, behind-start, behind-pass, behind-record, behind-stop, behind-end}
 use Rattle.many_lines.proofs.behind.Statement.{statement}

@@ -2,7 +2,7 @@
 -- Assumes nothing.
 use borrow.Author.Needs.{needs}
 use native.Mathlib.Omega.{arith}
-use Rattle.turns.specs.Turn.{withHeld}
+use Rattle.line_step.specs.Turn.{withHeld}
 use Rattle.many_lines.specs.WentLaws.{ends-nothing, ends-one}
 use Rattle.many_lines.proofs.end_body.Statement.{statement}
 use Rattle.many_lines.proofs.end_body.Tie as tie

@@ -9,11 +9,11 @@ use mathlib.Core.Bool.{true}
 use lib.ListN.{length}
 use Rattle.area.specs.Kind.{ruled}
 use Rattle.walk.specs.Listing.{item, pass, over, fail}
-use Rattle.turns.specs.Told.{toldTurn}
-use Rattle.records.specs.Next.{todo}
-use Rattle.records.specs.NextLaws.{next-falls}
-use Rattle.stretch.specs.FillLaws.{record-falls}
-use Rattle.stretch.specs.GoesLaws.{goes-pass}
+use Rattle.line_step.specs.Told.{toldTurn}
+use Rattle.line_walk.specs.Next.{todo}
+use Rattle.line_walk.specs.NextLaws.{next-falls}
+use Rattle.body_lines.specs.FillLaws.{record-falls}
+use Rattle.body_lines.specs.GoesLaws.{goes-pass}
 use Rattle.many_lines.specs.LedLaws.{Led, led-start, led-kept}
 use Rattle.many_lines.specs.WentLaws.{toGo, go-first, go-turn, Standing, stand-start, stand-record, stand-goes, stand-full, stand-stop}
 use Rattle.many_lines.proofs.fill.Statement.{statement}

@@ -3,7 +3,7 @@
 use borrow.Author.Needs.{needs}
 use native.Mathlib.Omega.{arith}
 use mathlib.Core.Path.{refl, _∙_}
-use Rattle.turns.specs.TurnLaws.{between-end, turn-is, turn-long}
+use Rattle.line_step.specs.TurnLaws.{between-end, turn-is, turn-long}
 use Rattle.many_lines.specs.LedLaws.{led-turn-is}
 use Rattle.many_lines.proofs.led_between.Statement.{statement}
 use Rattle.many_lines.proofs.led_between.Tie as tie

@@ -3,7 +3,7 @@
 use borrow.Author.Needs.{needs}
 use mathlib.Core.Path.{sym, ap, subst, _∙_}
 use Rattle.area.specs.Kind.{ruled}
-use Rattle.turns.specs.Turn.{turnOf}
+use Rattle.line_step.specs.Turn.{turnOf}
 use Rattle.many_lines.specs.LedLaws.{Led}
 use Rattle.many_lines.proofs.led_turn.Statement.{statement}
 use Rattle.many_lines.proofs.led_turn.Tie as tie

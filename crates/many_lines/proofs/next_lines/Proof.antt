@@ -4,7 +4,7 @@ use borrow.Author.Needs.{needs}
 use native.Mathlib.Omega.{arith}
 use mathlib.Core.Path.{_∙_}
 use Rattle.area.specs.Kind.{ruled}
-use Rattle.stretch.specs.FillLaws.{turns-no-room}
+use Rattle.body_lines.specs.FillLaws.{turns-no-room}
 use Rattle.many_lines.proofs.next_lines.Statement.{statement}
 use Rattle.many_lines.proofs.next_lines.Tie as tie
 

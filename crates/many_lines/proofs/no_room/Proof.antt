@@ -2,8 +2,8 @@
 -- Assumes nothing.
 use borrow.Author.Needs.{needs}
 use mathlib.Core.Path.{sym, ap}
-use Rattle.records.specs.Told.{toldLine}
-use Rattle.given.specs.Fill.{noRoom}
+use Rattle.line_walk.specs.Told.{toldLine}
+use Rattle.answer_words.specs.Fill.{noRoom}
 use Rattle.many_lines.specs.Lines.{counted}
 use Rattle.many_lines.proofs.no_room.Statement.{statement}
 use Rattle.many_lines.proofs.no_room.Tie as tie

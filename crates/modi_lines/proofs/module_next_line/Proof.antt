@@ -6,7 +6,7 @@ use mathlib.Core.List.{List}
 use native.Mathlib.Omega.{arith}
 use mathlib.Core.Path.{_∙_}
 use Rattle.area.specs.Kind.{ruled}
-use Rattle.records.specs.Next.{nextOf}
+use Rattle.line_walk.specs.Next.{nextOf}
 use Rattle.modi.specs.Modi.{stepIn}
 use Rattle.modi.specs.ModiLaws.{lines-in, of-part, of-refused}
 use Rattle.modi_lines.proofs.module_next_line.Statement.{statement}

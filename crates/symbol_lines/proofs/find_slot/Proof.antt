@@ -11,7 +11,7 @@ use Rattle.area.specs.Kind.{ruled}
 use Rattle.lines.specs.Slots.{bodyAt, named}
 use Rattle.lines.specs.SlotsLaws.{Scans, scans-start, slot-inside, slot-scans}
 use Rattle.lines.specs.Told.{toldNamed}
-use Rattle.whole_list.specs.BeginLaws.{begin-scans}
+use Rattle.list_test.specs.BeginLaws.{begin-scans}
 use Rattle.symbol_lines.specs.Symbol.{slotIn, walkTo}
 use Rattle.symbol_lines.specs.Told.{toldBest}
 use Rattle.symbol_lines.specs.SymbolLaws.{walk-best, slotFrom, bestOf, best-start, turn-hit, turn-on, turn-refused, turn-end}

@@ -7,7 +7,7 @@ use native.Mathlib.Omega.{arith}
 use Prim.Native.Nat.{_+_, _*_}
 use lib.ListN.{length}
 use Rattle.body.specs.LinesLaws.{block-length}
-use Rattle.calls.specs.Calls.{callBlock}
+use Rattle.writer_decides.specs.Calls.{callBlock}
 use Rattle.writer.specs.AddLaws.{Adds, adds-known, adds-room, adds-length, adds-goes, adds-stops}
 use Rattle.writer.proofs.add_block.Statement.{statement}
 use Rattle.writer.proofs.add_block.Tie as tie

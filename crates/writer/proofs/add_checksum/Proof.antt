@@ -8,8 +8,8 @@ use Prim.Native.Nat.{_+_}
 use lib.ListN.{length}
 use Rattle.body.specs.Checksums.{up4}
 use Rattle.body.specs.ChecksumsLaws.{checksum-length}
-use Rattle.calls.specs.Calls.{callChecksum}
-use Rattle.calls.specs.CallLaws.{fits-size, fits-up}
+use Rattle.writer_decides.specs.Calls.{callChecksum}
+use Rattle.writer_decides.specs.CallLaws.{fits-size, fits-up}
 use Rattle.writer.specs.AddLaws.{Adds, adds-known, adds-room, adds-length, adds-goes, adds-stops}
 use Rattle.writer.proofs.add_checksum.Statement.{statement}
 use Rattle.writer.proofs.add_checksum.Tie as tie

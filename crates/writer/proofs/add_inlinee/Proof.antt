@@ -8,8 +8,8 @@ use Prim.Native.Nat.{_+_}
 use lib.ListN.{length}
 use Rattle.body.specs.Inlinees.{extended}
 use Rattle.body.specs.InlineesLaws.{extraLength, inlinee-length}
-use Rattle.calls.specs.Calls.{callInlinee}
-use Rattle.calls.specs.CallLaws.{extra-small}
+use Rattle.writer_decides.specs.Calls.{callInlinee}
+use Rattle.writer_decides.specs.CallLaws.{extra-small}
 use Rattle.writer.specs.AddLaws.{Adds, adds-known, adds-room, adds-length, adds-goes, adds-stops}
 use Rattle.writer.proofs.add_inlinee.Statement.{statement}
 use Rattle.writer.proofs.add_inlinee.Tie as tie

@@ -7,7 +7,7 @@ use native.Mathlib.Omega.{arith}
 use Prim.Native.Nat.{_+_, _*_}
 use lib.ListN.{length}
 use Rattle.body.specs.ImportsLaws.{module-length}
-use Rattle.calls.specs.Calls.{callModule}
+use Rattle.writer_decides.specs.Calls.{callModule}
 use Rattle.writer.specs.AddLaws.{Adds, adds-known, adds-room, adds-length, adds-goes, adds-stops}
 use Rattle.writer.proofs.add_module.Statement.{statement}
 use Rattle.writer.proofs.add_module.Tie as tie

@@ -2,7 +2,7 @@
 -- Assumes nothing.
 use borrow.Author.Needs.{needs}
 use mathlib.Core.Path.{refl}
-use Rattle.calls.specs.CallLaws.{opened}
+use Rattle.writer_decides.specs.CallLaws.{opened}
 use Rattle.writer.proofs.add_opaque.Statement.{statement}
 use Rattle.writer.proofs.add_opaque.Tie as tie
 

@@ -5,7 +5,7 @@ use borrow.Author.Needs.{needs}
 use mathlib.Core.Path.{refl}
 use native.Mathlib.Omega.{arith}
 use Rattle.word.specs.WordLaws.{header-length}
-use Rattle.calls.specs.Calls.{callPair}
+use Rattle.writer_decides.specs.Calls.{callPair}
 use Rattle.writer.specs.AddLaws.{Adds, adds-known, adds-room, adds-length, adds-goes, adds-stops}
 use Rattle.writer.proofs.add_pair.Statement.{statement}
 use Rattle.writer.proofs.add_pair.Tie as tie

@@ -3,7 +3,7 @@
 use mathlib.Core.Path.{refl}
 use lib.Dec.{leb}
 use borrow.Author.Needs.{needs}
-use Rattle.calls.specs.CallLaws.{opened}
+use Rattle.writer_decides.specs.CallLaws.{opened}
 use Rattle.writer.specs.LentLaws.{signature-made}
 use Rattle.writer.proofs.open_inlinees.Statement.{statement}
 use Rattle.writer.proofs.open_inlinees.Tie as tie

@@ -3,7 +3,7 @@
 use mathlib.Core.Bool.{true}
 use mathlib.Core.Path.{refl}
 use borrow.Author.Needs.{needs}
-use Rattle.calls.specs.CallLaws.{opened}
+use Rattle.writer_decides.specs.CallLaws.{opened}
 use Rattle.writer.specs.LentLaws.{head-made}
 use Rattle.writer.proofs.open_lines.Statement.{statement}
 use Rattle.writer.proofs.open_lines.Tie as tie

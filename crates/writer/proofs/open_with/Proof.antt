@@ -7,9 +7,9 @@ use mathlib.Core.List.{_++_}
 use native.Mathlib.Omega.{arith}
 use lib.ListN.{length}
 use Rattle.word.specs.Word.{put, header}
-use Rattle.calls.specs.Calls.{place, openAct}
-use Rattle.calls.specs.Told.{toldAct}
-use Rattle.calls.specs.CallLaws.{Goes, open-goes, kept-go, kept-stop}
+use Rattle.writer_decides.specs.Calls.{place, openAct}
+use Rattle.writer_decides.specs.Told.{toldAct}
+use Rattle.writer_decides.specs.CallLaws.{Goes, open-goes, kept-go, kept-stop}
 use Rattle.writer.specs.LentLaws.{lent-room, lent-put}
 use Rattle.writer.proofs.open_with.Statement.{statement}
 use Rattle.writer.proofs.open_with.Tie as tie

@@ -8,7 +8,7 @@ use native.Mathlib.Omega.{arith}
 use lib.ListN.{length, length-append}
 use Rattle.word.specs.Word.{le16, le32}
 use Rattle.word.specs.WordLaws.{le16-length, le32-length}
-use Rattle.calls.specs.CallLaws.{size-small}
+use Rattle.writer_decides.specs.CallLaws.{size-small}
 use Rattle.writer.specs.LentLaws.{over, over-u32, over-u16, lent-copy, checksum-is}
 use Rattle.writer.proofs.put_checksum.Statement.{statement}
 use Rattle.writer.proofs.put_checksum.Tie as tie

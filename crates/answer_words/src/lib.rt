@@ -1,0 +1,82 @@
+// An answer for a program in another language: a status, and words put into lent ones. What each word is, is said once for every type of
+// answer, in specs/. A walk's state is the first words of the same lent words.
+ghost use mathlib.Core.Path.{_≡_};
+ghost use mathlib.Core.List.{[], _∷_};
+ghost use lib.ListN.{getD};
+ghost use Rattle.refusal.specs.Told.{told};
+ghost use Rattle.answer_words.specs.Given.{given, Gives, refusalGiven};
+ghost use Rattle.answer_words.specs.TableWords.{walkIn, walkWords};
+use refusal::Refusal;
+use refusal::numbers;
+use table::TableWalk;
+
+// The statuses.
+pub const NONE: u32 = 0;
+
+pub const GIVEN: u32 = 1;
+
+pub const REFUSED: u32 = 2;
+
+pub const TOO_SHORT: u32 = 3;
+
+// The words that a refusal takes. A call that changes other lent memory too asks for as many before it does anything.
+pub const LEAST: usize = 2;
+
+// Puts the words of an answer, and answers its status.
+pub fn put(out: &mut [u64], at: usize, words: &[u64], status: u32) -> u32
+    ensures { λ r. ⌜ Gives (now (out .entry)) (given status at (now (words .entry))) r (now (out .exit)) ⌝ }
+{
+    if out.len() < at {
+        return TOO_SHORT;
+    }
+    if out.len() - at < words.len() {
+        return TOO_SHORT;
+    }
+    let mut i: usize = 0;
+    while i < words.len() {
+        out[at + i] = words[i];
+        i += 1;
+    }
+    status
+}
+
+// A refusal, put behind the state of a walk, which stays.
+pub fn put_refusal(out: &mut [u64], state: usize, why: Refusal) -> u32
+    ensures { λ r. ⌜ Gives (now (out .entry)) (refusalGiven state (told why)) r (now (out .exit)) ⌝ }
+{
+    let pair = numbers(why);
+    put(out, state, &[pair.0, pair.1], REFUSED)
+}
+
+// A word of a walk's state; a word that was not lent is 0.
+pub fn state_word(out: &[u64], i: usize) -> u64
+    ensures { λ r. ⌜ r ≡ getD (now (out .entry)) i 0 ⌝ }
+{
+    if i < out.len() { out[i] } else { 0 }
+}
+
+// The walk over a table that the first four words say.
+pub fn walk_in(out: &[u64]) -> TableWalk
+    ensures { λ r. ⌜ r ≡ walkIn (now (out .entry)) ⌝ }
+{
+    if state_word(out, 0) == 0 {
+        return TableWalk::New;
+    }
+    TableWalk::In {
+        start: state_word(out, 1) as usize,
+        len: state_word(out, 2) as usize,
+        at: state_word(out, 3) as usize,
+    }
+}
+
+// Such a walk in four words.
+pub struct Four(pub u64, pub u64, pub u64, pub u64);
+
+pub fn walk_words(walk: TableWalk) -> Four
+    ensures { λ r. ⌜ walkWords walk ≡ r .0 ∷ r .1 ∷ r .2 ∷ r .3 ∷ [] ⌝ }
+{
+    match walk {
+        TableWalk::New => Four(0, 0, 0, 0),
+        TableWalk::In { start, len, at } => Four(1, start as u64, len as u64, at as u64),
+    }
+}

@@ -1,0 +1,52 @@
+-- Many turns of the line walk at once: what they do to a call that puts records into lent words. No second meaning of a walk is made: each is a
+-- turn of `turnOf`, one behind the other.
+use Prim.Native.Nat.{ℕ, _+_, _*_, _/_, _≤_, _<_}
+use mathlib.Core.Path.{_≡_, refl}
+use mathlib.Core.List.{List}
+use native.Mathlib.Omega.{arith}
+use lib.ListN.{length}
+use Rattle.word.specs.Word.{store}
+use Rattle.walk.specs.Listing.{item, pass}
+use Rattle.area.specs.Kind.{ruled}
+use Rattle.line_record.specs.declared.LineRecord.{LineRecord}
+use Rattle.line_state_words.specs.LineWords.{recordWords}
+use Rattle.line_step.specs.declared.LineWalk.{LineWalk}
+use Rattle.line_step.specs.Turn.{turnOf}
+use Rattle.line_walk.specs.Next.{todo}
+use Rattle.line_walk.specs.NextLaws.{next-falls}
+use Rattle.body_lines.specs.FillLaws.{Fills, turns-pass, turns-record, record-falls}
+
+-- a call over the area s and the slots v, at the walk w₀ with the words o₀, has put n records and stands at the walk w; which walk is behind the last
+-- record is known where there is no more room: w itself
+pub record Going (s v : List ℕ) (w₀ : LineWalk) (o₀ : List ℕ) (n : ℕ) (w : LineWalk) (o : List ℕ) : Type 0 where
+  pub last : LineWalk
+  pub fills : Fills ruled s v w₀ o₀ n last w o
+  pub full : length o₀ / 12 ≤ n → last ≡ w
+
+module _ (s v : List ℕ) (room : ℕ) where
+  -- every call that stands there, with room for so many records, comes to stand here, with no more to do
+  pub record Goes (n : ℕ) (w : LineWalk) (o : List ℕ) (n′ : ℕ) (w′ : LineWalk) (o′ : List ℕ) : Type 0 where
+    pub going : (w₀ : LineWalk) (o₀ : List ℕ) → length o₀ / 12 ≡ room → Going s v w₀ o₀ n w o → Going s v w₀ o₀ n′ w′ o′
+    pub less : todo ruled s w′ ≤ todo ruled s w
+
+  module _ {n : ℕ} {w : LineWalk} {o : List ℕ} where
+    pub goes-same : Goes n w o n w o
+    goes-same = record { going = λ w₀ o₀ e g. g; less = omega arith }
+
+    module _ (l : n < room) where
+      pub goes-pass : (t : LineWalk) → pass t ≡ turnOf ruled s v w → Goes n w o n t o
+      goes-pass t q = record {
+        going = λ w₀ o₀ e g. record { last = g .last; fills = turns-pass ruled s v w₀ o₀ (g .fills) t q; full = λ f. absurd (omega arith) };
+        less = omega (arith, next-falls ruled s v w t q);
+      }
+
+      pub goes-record : (r : LineRecord) (t : LineWalk) (o′ : List ℕ) → item r t ≡ turnOf ruled s v w → o′ ≡ store o (12 * n) (recordWords r)
+          → Goes n w o (n + 1) t o′
+      goes-record r t o′ q eo = record {
+        going = λ w₀ o₀ e g. record { last = t; fills = turns-record ruled s v w₀ o₀ (g .fills) r t o′ q (omega arith) eo; full = λ f. refl };
+        less = omega (arith, record-falls ruled s v w r t q);
+      }
+
+    pub goes-on : {n′ n″ : ℕ} {w′ w″ : LineWalk} {o′ o″ : List ℕ} → Goes n w o n′ w′ o′ → Goes n′ w′ o′ n″ w″ o″ → Goes n w o n″ w″ o″
+    goes-on f g =
+        record { going = λ w₀ o₀ e h. g .going w₀ o₀ e (f .going w₀ o₀ e h); less = omega (arith, f .less, g .less) }

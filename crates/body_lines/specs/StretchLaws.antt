@@ -1,0 +1,355 @@
+-- Laws of a stretch of lines: each line is a turn.
+use Prim.Native.Nat.{ℕ, _+_, _-_, _*_, _/_, _≤_, _<_}
+use mathlib.Core.Path.{_≡_, refl, sym, ap, _∙_, subst}
+use mathlib.Core.List.{List}
+use mathlib.Core.Bool.{Bool, true, false}
+use native.Mathlib.Omega.{arith}
+use lib.ListN.{length, take, drop}
+use lib.Seq.{length-take-le}
+use Rattle.word.specs.Word.{u32At, store}
+use Rattle.word.specs.WordLaws.{u32-drop, u32-take, put-length}
+use Rattle.walk.specs.Listing.{item, pass, gives, none}
+use Rattle.refusal.specs.Told.{longest}
+use Rattle.area.specs.Kind.{ruled}
+use Rattle.body.specs.Lines.{columned, lineBytes}
+use Rattle.line_record.specs.Flags.{isMarker}
+use Rattle.line_record.specs.Record.{maxOffset, columnIf, startColumn, endColumn, recordOf, entryOf, closedAt}
+use Rattle.line_record.specs.RecordLaws.{entry-marker, entry-line}
+use Rattle.line_record.specs.declared.Column.{Column}
+use Rattle.line_record.specs.declared.LineRecord.{LineRecord}
+use Rattle.line_state_words.specs.LineWords.{recordWords}
+use Rattle.line_state_words.specs.LineWordsLaws.{record-length, record-is}
+use Rattle.lines.specs.Blocks.{LineBlock, blockAt}
+use Rattle.lines.specs.BlocksLaws.{block-in}
+use Rattle.line_step.specs.Turn.{entryAt, withHeld, pastLine, holdIn, lineOf, lineTurn, columnPlace, blockTurn, turnOf}
+use Rattle.line_step.specs.TurnLaws.{entry-in, block-lines, inside-block, inside-line, turn-is}
+use Rattle.line_step.specs.declared.Held.{Held}
+use Rattle.line_step.specs.declared.Held.the-variants.{Nothing, One}
+use Rattle.line_step.specs.declared.Rest.{Rest}
+use Rattle.line_step.specs.declared.Place.{Place}
+use Rattle.line_step.specs.declared.LineWalk.the-variants.{Inside}
+use Rattle.body_lines.specs.declared.Plain.{Plain}
+use Rattle.body_lines.specs.declared.Lined.{Lined}
+use Rattle.body_lines.specs.GoesLaws.{Goes, goes-same, goes-pass, goes-record, goes-on}
+use Rattle.body_lines.specs.Stretch.{atLine, plainOf, Fit, Stride, insideAt, Strode, PutAs, HeldPut, FirstLine, Opens, Ran, Rode}
+
+-- ---- words of a part
+
+-- the part of k bytes at `at`, of the length as code has it
+pub part-word : (s : List ℕ) (at k i j : ℕ) → i + 4 ≤ k → at + i ≡ j → u32At (take (at + k - at) (drop at s)) i ≡ u32At s j
+part-word s at k i j h e = u32-take (drop at s) (at + k - at) i (omega arith) ∙ u32-drop s at i ∙ ap (u32At s) e
+
+pub no-columns : (c : Bool) (v w : ℕ) → c ≡ false → columnIf c v ≡ columnIf c w
+no-columns c v w e = rw e
+
+pub columns-as : (c d : Bool) (v w : ℕ) → c ≡ d → columnIf c v ≡ columnIf c w → columnIf d v ≡ columnIf d w
+columns-as c d v w e = subst (λ (x : Bool). columnIf x v ≡ columnIf x w) e
+
+-- the words of a record r that an end closed, put as code has it
+pub put-closed : (o o′ : List ℕ) (at section end : ℕ) (r k x : LineRecord) → r ≡ x → k ≡ closedAt section end r → o′ ≡ store o at (recordWords k)
+    → o′ ≡ store o at (recordWords (closedAt section end x))
+put-closed o o′ at section end r k x er ek eo = eo ∙ ap (λ d. store o at (recordWords d)) (ek ∙ ap (closedAt section end) er)
+
+-- a record as code makes it
+pub record-plain : (p : Place) (offset flags w : ℕ) (c : Bool) (a b : Column) (r : LineRecord) → c ≡ columned (p .head .flags) → a ≡ startColumn (columnIf c w)
+    → b ≡ endColumn (columnIf c w) → r ≡ recordOf (p .head .section) offset (p .file) flags a b → r ≡ plainOf p offset flags w
+record-plain p offset flags w c a b r ec ea eb er =
+    let ea′ = ea ∙ ap (λ x. startColumn (columnIf x w)) ec in
+    let eb′ = eb ∙ ap (λ x. endColumn (columnIf x w)) ec in
+    er ∙ (λ i. recordOf (p .head .section) offset (p .file) flags (ea′ i) (eb′ i))
+
+-- ---- a line is a turn
+
+module _ (s v : List ℕ) (p : Place) (f : Fit s p) (i : ℕ) (l : i < p .lines) where
+  body-length : length (take (p .end) s) ≡ p .end
+  body-length = length-take-le (p .end) s (f .body)
+
+  past-line : pastLine (atLine p i) ≡ atLine p (i + 1)
+  past-line =
+      let a : p .lines - i - 1 ≡ p .lines - (i + 1) = omega arith in
+      let b : p .line + 8 * i + 8 ≡ p .line + 8 * (i + 1) = omega arith in
+      let c : p .column + 4 * i + 4 ≡ p .column + 4 * (i + 1) = omega arith in
+      λ j. record { head = p .head; end = p .end; next = p .next; file = p .file; lines = a j; line = b j; column = c j }
+
+  -- o and g are the line's words, and w its column word where it has one
+  module _ (o g w : ℕ) (eo : o ≡ u32At s (p .line + 8 * i)) (eg : g ≡ u32At s (p .line + 8 * i + 4))
+      (ew : columnIf (columned (p .head .flags)) w ≡ columnIf (columned (p .head .flags)) (u32At s (p .column + 4 * i))) where
+    entry-words : entryOf (p .head .section) (p .head .offset) (p .file) o g (startColumn (columnIf (columned (p .head .flags)) w)) (endColumn (columnIf (columned (p .head .flags)) w))
+        ≡ entryAt (take (p .end) s) (atLine p i)
+    entry-words =
+        let b = take (p .end) s in
+        let c = columned (p .head .flags) in
+        let wo = sym (u32-take s (p .end) (p .line + 8 * i) (omega (arith, f .lines))) in
+        let wg = sym (u32-take s (p .end) (p .line + 8 * i + 4) (omega (arith, f .lines))) in
+        let ww = sym (u32-take s (p .end) (p .column + 4 * i) (omega (arith, f .columns))) in
+        let q = ew ∙ ap (columnIf c) ww in
+        entry-in b (atLine p i) (omega (arith, body-length, f .lines)) (omega (arith, body-length, f .columns)) o g (u32At b (p .column + 4 * i)) c
+        (startColumn (columnIf c w)) (endColumn (columnIf c w)) (eo ∙ wo) (eg ∙ wg) refl refl (ap startColumn q) (ap endColumn q)
+
+    line-turn-is : (t : Rest) → lineTurn (take (p .end) s) (atLine p i) t ≡ turnOf ruled s v (Inside (atLine p i) t)
+    line-turn-is t =
+        inside-line s (atLine p i) t (f .body) (λ z. omega arith) ∙ turn-is ruled s v (Inside (atLine p i) t) (f .short) (Inside (atLine p i) t) refl
+
+    pub turn-marker : isMarker g ≡ true → (t : Rest) → pass (Inside (atLine p (i + 1)) t) ≡ turnOf ruled s v (Inside (atLine p i) t)
+    turn-marker m t =
+        ap (λ q. pass (Inside q t)) (sym past-line)
+        ∙ ap (lineOf (atLine p i) t) (entry-marker _ _ _ _ _ _ _ m ∙ entry-words)
+        ∙ line-turn-is t
+
+    turn-line : isMarker g ≡ false → p .head .offset + o ≤ maxOffset → (t : Rest) (h : Held)
+        → holdIn h (plainOf p (p .head .offset + o) g w) (Inside (atLine p (i + 1)) (withHeld t (One (plainOf p (p .head .offset + o) g w))))
+        ≡ turnOf ruled s v (Inside (atLine p i) (withHeld t h))
+    turn-line m k t h =
+        ap (λ q. holdIn h (plainOf p (p .head .offset + o) g w) (Inside q (withHeld t (One (plainOf p (p .head .offset + o) g w))))) (sym past-line)
+        ∙ ap (lineOf (atLine p i) (withHeld t h)) (entry-line _ _ _ _ _ _ _ m k ∙ entry-words)
+        ∙ line-turn-is (withHeld t h)
+
+    pub turn-first : isMarker g ≡ false → p .head .offset + o ≤ maxOffset → (t : Rest)
+        → pass (Inside (atLine p (i + 1)) (withHeld t (One (plainOf p (p .head .offset + o) g w)))) ≡ turnOf ruled s v (Inside (atLine p i) (withHeld t Nothing))
+    turn-first m k t = turn-line m k t Nothing
+
+    pub turn-next : isMarker g ≡ false → p .head .offset + o ≤ maxOffset → (t : Rest) (r : LineRecord)
+        → item (closedAt (p .head .section) (p .head .offset + o) r) (Inside (atLine p (i + 1)) (withHeld t (One (plainOf p (p .head .offset + o) g w))))
+        ≡ turnOf ruled s v (Inside (atLine p i) (withHeld t (One r)))
+    turn-next m k t r = turn-line m k t (One r)
+
+-- a record put where it fits leaves as many words
+stored-length : (o : List ℕ) (at : ℕ) (r : LineRecord) (o′ : List ℕ) → o′ ≡ store o at (recordWords r) → at + 12 ≤ length o → length o′ ≡ length o
+stored-length o at r o′ e h = ap length (record-is o o′ at r e h) ∙ put-length o at (recordWords r) (omega (arith, record-length r))
+
+-- ---- the loop
+
+module _ (s : List ℕ) (p : Place) (room : ℕ) (x : Plain) (o : List ℕ) where
+  pub strode-start : x .n ≤ room → x .done ≤ p .lines → Strode s p room x o x o
+  strode-start h l = record { most = h; on = omega arith; inside = l; size = refl; goes = λ v t. goes-same s v room }
+
+  module _ (f : Fit s p) (y : Plain) (o′ : List ℕ) (h : Strode s p room x o y o′) (less : y .n < room) (l : y .done < p .lines) where
+    pub strode-marker : (g : ℕ) → g ≡ u32At s (p .line + 8 * y .done + 4) → isMarker g ≡ true
+        → Strode s p room x o (record { n = y .n; done = y .done + 1; offset = y .offset; flags = y .flags; word = y .word }) o′
+    strode-marker g eg m = record {
+      most = h .most;
+      on = omega (arith, h .on);
+      inside = omega arith;
+      size = h .size;
+      goes = λ v t. goes-on s v room (h .goes v t)
+          (goes-pass s v room less (Inside (atLine p (y .done + 1)) (withHeld t (One (plainOf p (y .offset) (y .flags) (y .word)))))
+          (turn-marker s v p f (y .done) l (u32At s (p .line + 8 * y .done)) g (u32At s (p .column + 4 * y .done)) refl eg refl m (withHeld t (One (plainOf p (y .offset) (y .flags) (y .word))))));
+    }
+
+    pub strode-line : (a g : ℕ) (z : Plain) (o″ : List ℕ) → a ≡ u32At s (p .line + 8 * y .done) → g ≡ u32At s (p .line + 8 * y .done + 4) → isMarker g ≡ false
+        → p .head .offset + a ≤ maxOffset → 12 * room ≤ length o → Stride s p y a g o′ z o″ → Strode s p room x o z o″
+    strode-line a g z o″ ea eg m k fits d =
+        let r = plainOf p (y .offset) (y .flags) (y .word) in
+        let c = closedAt (p .head .section) (p .head .offset + a) r in
+        record {
+          most = omega (arith, d .n);
+          on = omega (arith, d .done, h .on);
+          inside = omega (arith, d .done);
+          size = stored-length o′ (12 * y .n) c o″ (d .words) (omega (arith, h .size)) ∙ h .size;
+          goes = λ v t. goes-on s v room (h .goes v t)
+              (rw (d .n, d .done, d .offset, d .flags) (goes-record s v room less c (Inside (atLine p (y .done + 1)) (withHeld t (One (plainOf p (p .head .offset + a) g (z .word))))) o″
+              (turn-next s v p f (y .done) l a g (z .word) ea eg (d .word) m k t r) (d .words)));
+        }
+
+-- ---- the first line of a block
+
+module _ (h : Held) (section end n : ℕ) (o : List ℕ) where
+  pub held-none : h ≡ Nothing → HeldPut h section end n o n o
+  held-none e = record { words = rw e (refl, refl) }
+
+  pub held-some : (q k : LineRecord) (o′ : List ℕ) → h ≡ One q → k ≡ closedAt section end q → o′ ≡ store o (12 * n) (recordWords k) → HeldPut h section end n o (n + 1) o′
+  held-some q k o′ e ek eo = record { words = rw e (refl, eo ∙ ap (λ x. store o (12 * n) (recordWords x)) ek) }
+
+pub false-not : {A : Type 0} → false ≡ true → A
+false-not e = let z : _≡_ {A = ℕ} 0 1 = cc in absurd (omega arith)
+
+-- the tests as code makes them
+pub fit-from : (s : List ℕ) (p : Place) → length s ≤ longest → p .end ≤ length s → p .line ≤ p .end → p .lines ≤ (p .end - p .line) / 8 → p .column ≤ p .end
+    → p .lines ≤ (p .end - p .column) / 4 → Fit s p
+fit-from s p a b c d e f = record { short = a; body = b; lines = omega arith; columns = omega arith }
+
+-- what is asked of a walk that goes on, where it does not
+pub not-false : {A : Type 0} → true ≡ false → A
+not-false e = let z : _≡_ {A = ℕ} 0 1 = cc in absurd (omega arith)
+
+-- no lines on
+at-none : (p : Place) → atLine p 0 ≡ p
+at-none p =
+    let a : p .lines - 0 ≡ p .lines = omega arith in
+    let b : p .line + 8 * 0 ≡ p .line = omega arith in
+    let c : p .column + 4 * 0 ≡ p .column = omega arith in
+    λ j. record { head = p .head; end = p .end; next = p .next; file = p .file; lines = a j; line = b j; column = c j }
+
+fit-on : (s : List ℕ) (p : Place) → Fit s p → (i : ℕ) → i ≤ p .lines → Fit s (atLine p i)
+fit-on s p f i h =
+    record { short = f .short; body = f .body; lines = omega (arith, f .lines); columns = omega (arith, f .columns) }
+
+module _ (s : List ℕ) (room : ℕ) (p : Place) (held : Held) (n : ℕ) (o : List ℕ) (f : Fit s p) (less : n < room) where
+  -- it stays
+  pub ran-same : (stuck : Bool) → Ran s room p held n o (record { n = n; place = p; held = held; stuck = stuck }) o
+  ran-same stuck =
+      record { most = omega arith; size = refl; fit = f; head = refl; end = refl; next = refl; goes = λ v t. goes-same s v room }
+
+  module _ (l : 1 ≤ p .lines) where
+    pub ran-marker : (g : ℕ) (q : Place) → g ≡ u32At s (p .line + 4) → isMarker g ≡ true → q ≡ atLine p 1 → Ran s room p held n o (record { n = n; place = q; held = held; stuck = false }) o
+    ran-marker g q eg m eq =
+        let e₀ : p .line ≡ p .line + 8 * 0 = omega arith in
+        let e : g ≡ u32At s (p .line + 8 * 0 + 4) = eg ∙ ap (λ (x : ℕ). u32At s (x + 4)) e₀ in
+        rw eq (record {
+          most = omega arith;
+          size = refl;
+          fit = fit-on s p f 1 l;
+          head = refl;
+          end = refl;
+          next = refl;
+          goes = λ v t. goes-pass s v room less (Inside (atLine p 1) (withHeld t held))
+              (turn-marker s v p f 0 (omega arith) (u32At s (p .line + 8 * 0)) g (u32At s (p .column + 4 * 0)) refl e refl m (withHeld t held)
+              ∙ ap (λ x. turnOf ruled s v (Inside x (withHeld t held))) (at-none p));
+        })
+
+    -- w is the column word of the line, and m the number of the records with the one that it closed
+    module _ (a g w m : ℕ) (o₁ : List ℕ) (d : FirstLine s p a g)
+        (ew : columnIf (columned (p .head .flags)) w ≡ columnIf (columned (p .head .flags)) (u32At s (p .column))) (fits : 12 * room ≤ length o)
+        (put : HeldPut held (p .head .section) (p .head .offset + a) n o m o₁) where
+      abbrev first : Plain
+      first = record { n = m; done = 1; offset = p .head .offset + a; flags = g; word = w }
+
+      pub held-most : m ≤ room
+      held-most = go held (put .words)
+        where
+          go : (h : Held) → PutAs h (p .head .section) (p .head .offset + a) n o m o₁ → m ≤ room
+          go Nothing q = omega (arith, q .0)
+          go (One r) q = omega (arith, q .0)
+
+      pub held-size : length o₁ ≡ length o
+      held-size = go held (put .words)
+        where
+          go : (h : Held) → PutAs h (p .head .section) (p .head .offset + a) n o m o₁ → length o₁ ≡ length o
+          go Nothing q = ap length (q .1)
+          go (One r) q = stored-length o (12 * n) (closedAt (p .head .section) (p .head .offset + a) r) o₁ (q .1) (omega arith)
+
+      first-goes : (v : List ℕ) (t : Rest) (h : Held) → PutAs h (p .head .section) (p .head .offset + a) n o m o₁
+          → Goes s v room n (Inside p (withHeld t h)) o m (insideAt p t first) o₁
+      first-goes v t h q =
+          let e₀ : p .line ≡ p .line + 8 * 0 = omega arith in
+          let e₁ : p .column ≡ p .column + 4 * 0 = omega arith in
+          let ea : a ≡ u32At s (p .line + 8 * 0) = d .offset ∙ ap (u32At s) e₀ in
+          let eg : g ≡ u32At s (p .line + 8 * 0 + 4) = d .flags ∙ ap (λ (x : ℕ). u32At s (x + 4)) e₀ in
+          let ec = ew ∙ ap (λ (x : ℕ). columnIf (columned (p .head .flags)) (u32At s x)) e₁ in
+          let l₀ : 0 < p .lines = omega arith in
+          go h q
+          (λ x. turn-first s v p f 0 l₀ a g w ea eg ec (d .line) (d .sum) x ∙ ap (λ y. turnOf ruled s v (Inside y (withHeld x Nothing))) (at-none p))
+          (λ r x. turn-next s v p f 0 l₀ a g w ea eg ec (d .line) (d .sum) x r ∙ ap (λ y. turnOf ruled s v (Inside y (withHeld x (One r)))) (at-none p))
+        where
+          go : (h : Held) → PutAs h (p .head .section) (p .head .offset + a) n o m o₁
+              → ((x : Rest) → pass (Inside (atLine p 1) (withHeld x (One (plainOf p (p .head .offset + a) g w)))) ≡ turnOf ruled s v (Inside p (withHeld x Nothing)))
+              → ((r : LineRecord) (x : Rest) → item (closedAt (p .head .section) (p .head .offset + a) r) (Inside (atLine p 1) (withHeld x (One (plainOf p (p .head .offset + a) g w)))) ≡ turnOf ruled s v (Inside p (withHeld x (One r))))
+              → Goes s v room n (Inside p (withHeld t h)) o m (insideAt p t first) o₁
+          go Nothing q one two = rw (q .0, q .1) (goes-pass s v room less (insideAt p t first) (one t))
+          go (One r) q one two =
+              rw (q .0) (goes-record s v room less (closedAt (p .head .section) (p .head .offset + a) r) (insideAt p t first) o₁ (two r t) (q .1))
+
+      pub ran-first : (x : Plain) (o₂ : List ℕ) (q : Place) (r : LineRecord) (stuck : Bool) → Strode s p room first o₁ x o₂ → q ≡ atLine p (x .done)
+          → r ≡ plainOf p (x .offset) (x .flags) (x .word) → Ran s room p held n o (record { n = x .n; place = q; held = One r; stuck = stuck }) o₂
+      ran-first x o₂ q r stuck k eq er =
+          rw (eq, er) (record {
+            most = k .most;
+            size = k .size ∙ held-size;
+            fit = fit-on s p f (x .done) (k .inside);
+            head = refl;
+            end = refl;
+            next = refl;
+            goes = λ v t. goes-on s v room (first-goes v t held (put .words)) (k .goes v t);
+          })
+
+-- ---- the next block
+
+-- the columns of n lines at a end where its bytes do
+bytes-columns : (c : Bool) (a n : ℕ) → columnPlace c a n + 4 * n ≤ a + lineBytes c n
+bytes-columns true a n = omega arith
+bytes-columns false a n = omega arith
+
+module _ (s : List ℕ) (p : Place) (f : Fit s p) (c : Bool) (ec : c ≡ columned (p .head .flags)) where
+  pub opened-end : none ≡ blockAt c (take (p .end) s) (p .next) → none ≡ blockAt (columned (p .head .flags)) (take (p .end) s) (p .next)
+  opened-end e = e ∙ ap (λ x. blockAt x (take (p .end) s) (p .next)) ec
+
+  -- k is the block, x the place behind it, and j that of its columns
+  pub opened-at : (k : LineBlock) (x j : ℕ) → gives k x ≡ blockAt c (take (p .end) s) (p .next) → j ≡ columnPlace c (k .start) (k .count)
+      → Opens s p (record { head = p .head; end = p .end; next = x; file = k .file; lines = k .count; line = k .start; column = j })
+  opened-at k x j e ej =
+      let z = length-take-le (p .end) s (f .body) in
+      let w = block-in c (take (p .end) s) (p .next) k x e in
+      record {
+        fit = record { short = f .short; body = f .body; lines = omega (arith, z, w); columns = rw ej (omega (arith, z, w, bytes-columns c (k .start) (k .count))) };
+        head = refl;
+        end = refl;
+        less = omega (arith, z, w);
+        turn = λ t. block-lines (take (p .end) s) p t c ec k x j e ej;
+      }
+
+-- ---- block after block: what the loop keeps
+
+-- x stands in the body of p, with room for another record
+pub record Riding (s : List ℕ) (room : ℕ) (p : Place) (held : Held) (n : ℕ) (o : List ℕ) (x : Lined) (o′ : List ℕ) : Type 0 where
+  pub fit : Fit s (x .place)
+  pub less : x .n < room
+  pub size : length o′ ≡ length o
+  pub head : x .place .head ≡ p .head
+  pub end : x .place .end ≡ p .end
+  pub goes : (v : List ℕ) (t : Rest) → Goes s v room n (Inside p (withHeld t held)) o (x .n) (Inside (x .place) (withHeld t (x .held))) o′
+
+module _ (s : List ℕ) (room : ℕ) (p : Place) (held : Held) (n : ℕ) (o : List ℕ) where
+  pub ride-start : Fit s p → n < room → (stuck : Bool) → Riding s room p held n o (record { n = n; place = p; held = held; stuck = stuck }) o
+  ride-start f l stuck = record { fit = f; less = l; size = refl; head = refl; end = refl; goes = λ v t. goes-same s v room }
+
+  module _ (x : Lined) (o′ : List ℕ) (h : Riding s room p held n o x o′) where
+    block-turn-is : x .place .lines ≡ 0 → (v : List ℕ) (t : Rest) → blockTurn (take (x .place .end) s) (x .place) t ≡ turnOf ruled s v (Inside (x .place) t)
+    block-turn-is z v t =
+        inside-block s (x .place) t (h .fit .body) z ∙ turn-is ruled s v (Inside (x .place) t) (h .fit .short) (Inside (x .place) t) refl
+
+    pub ride-block : x .place .lines ≡ 0 → (q : Place) (stuck : Bool) → Opens s (x .place) q → Riding s room p held n o (record { n = x .n; place = q; held = x .held; stuck = stuck }) o′
+    ride-block z q stuck k = record {
+      fit = k .fit;
+      less = h .less;
+      size = h .size;
+      head = k .head ∙ h .head;
+      end = k .end ∙ h .end;
+      goes = λ v t. goes-on s v room (h .goes v t) (goes-pass s v room (h .less) (Inside q (withHeld t (x .held))) (k .turn (withHeld t (x .held)) ∙ block-turn-is z v (withHeld t (x .held))));
+    }
+
+    pub ride-lines : (y : Lined) (o″ : List ℕ) → Ran s room (x .place) (x .held) (x .n) o′ y o″ → y .n < room → Riding s room p held n o y o″
+    ride-lines y o″ k l = record {
+      fit = k .fit;
+      less = l;
+      size = k .size ∙ h .size;
+      head = k .head ∙ h .head;
+      end = k .end ∙ h .end;
+      goes = λ v t. goes-on s v room (h .goes v t) (k .goes v t);
+    }
+
+    -- ---- how it ends
+
+    pub rode-stuck : (y : Lined) (o″ : List ℕ) → Ran s room (x .place) (x .held) (x .n) o′ y o″ → y .stuck ≡ true → Rode s room p held n o y o″
+    rode-stuck y o″ k e = record {
+      size = k .size ∙ h .size;
+      head = k .head ∙ h .head;
+      end = k .end ∙ h .end;
+      goes = λ v t. goes-on s v room (h .goes v t) (k .goes v t);
+      used = λ z. not-false (sym e ∙ z);
+    }
+
+    pub rode-refused : Rode s room p held n o (record { n = x .n; place = x .place; held = x .held; stuck = true }) o′
+    rode-refused = record { size = h .size; head = h .head; end = h .end; goes = h .goes; used = not-false }
+
+    pub rode-used : x .place .lines ≡ 0 → none ≡ blockAt (columned (x .place .head .flags)) (take (x .place .end) s) (x .place .next)
+        → Rode s room p held n o (record { n = x .n; place = x .place; held = x .held; stuck = false }) o′
+    rode-used z e = record {
+      size = h .size;
+      head = h .head;
+      end = h .end;
+      goes = h .goes;
+      used = λ q. record { fit = h .fit; less = h .less; lines = z; over = e };
+    }
+
+  pub rode-same : Rode s room p held n o (record { n = n; place = p; held = held; stuck = true }) o
+  rode-same = record { size = refl; head = refl; end = refl; goes = λ v t. goes-same s v room; used = not-false }

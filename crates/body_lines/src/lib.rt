@@ -1,0 +1,384 @@
+// A stretch of lines: those of one block, one behind the other, with the held record in a few numbers, since each is made of the same header and file.
+//
+// It does what turn after turn does, and nothing where a turn would be refused: the walk stands before that turn then.
+ghost use mathlib.Core.Path.{_≡_};
+ghost use Prim.Native.Nat.{_+_, _*_, _<_, _≤_, _^_};
+ghost use mathlib.Core.Bool.{true, false};
+ghost use lib.ListN.{length};
+ghost use Rattle.word.specs.Word.{u32At, store};
+ghost use Rattle.line_record.specs.Record.{columnIf, maxOffset};
+ghost use Rattle.line_state_words.specs.LineWords.{recordWords};
+ghost use Rattle.line_step.specs.Turn.{columnPlace};
+ghost use Rattle.body_lines.specs.Stretch.{atLine, plainOf, Fit, Stride, Strode, HeldPut, FirstLine, Ran, OpenedIs, Rode};
+use line_record::LineRecord;
+use line_record::closed;
+use line_record::column_end;
+use line_record::column_start;
+use line_record::is_marker;
+use line_record::record_of;
+use line_state_words::put_record;
+use line_step::Held;
+use line_step::Place;
+use lines::BlockStep;
+use lines::block_at;
+use lines::has_columns;
+use refusal::LONGEST;
+use word::u32_at;
+
+// The two words of a line. They are read as a part of their own, of a length that is known.
+struct Line {
+    offset: u32,
+    flags: u32,
+}
+
+fn line_at(area: &[u8], at: usize) -> Line
+    requires { ⌜ at + 8 ≤ length (now area) ⌝ }
+    ensures { λ r. ⌜ (r .offset ≡ u32At (now (area .entry)) at) × (r .flags ≡ u32At (now (area .entry)) (at + 4)) ⌝ }
+{
+    let words = &area[at..at + 8];
+    let offset = u32_at(words, 0);
+    let flags = u32_at(words, 4);
+    Line { offset, flags }
+}
+
+// The column word of a line, if there are columns.
+fn column_at(area: &[u8], columns: bool, at: usize) -> u32
+    requires { ⌜ at + 4 ≤ length (now area) ⌝ }
+    ensures { λ r. ⌜ columnIf columns r ≡ columnIf columns (u32At (now (area .entry)) at) ⌝ }
+{
+    if columns {
+        return u32_at(&area[at..at + 4], 0);
+    }
+    0
+}
+
+// The record of an entry whose sum and words these are.
+fn record_in(p: Place, offset: u32, flags: u32, word: u32) -> LineRecord
+    ensures { λ r. ⌜ r ≡ plainOf p offset flags word ⌝ }
+{
+    let h = p.head;
+    let columns = has_columns(h.flags);
+    let a = column_start(columns, word);
+    let b = column_end(columns, word);
+    record_of(h.section, offset, p.file, flags, a, b)
+}
+
+// How far a stretch has come: the records that are put, the lines that are done, and of the held record its offset and words.
+pub struct Plain {
+    pub n: usize,
+    pub done: usize,
+    pub offset: u32,
+    pub flags: u32,
+    pub word: u32,
+}
+
+// A record whose words have room. They are put as a part of their own, of a length that is known.
+fn put_words(out: &mut [u64], at: usize, r: LineRecord)
+    requires { ⌜ at + 12 ≤ length (now out) ⌝ }
+    ensures { λ _. ⌜ now (out .exit) ≡ store (now (out .entry)) at (recordWords r) ⌝ }
+{
+    put_record(&mut out[at..at + 12], 0, r);
+}
+
+// A line that gives a record: the held one is put, closed by it, and the line's own is held.
+fn stride(area: &[u8], p: Place, x: Plain, e: Line, out: &mut [u64]) -> Plain
+    requires { ⌜ Fit (now area) p ⌝ }
+    requires { ⌜ (x .done < p .lines) × (12 * x .n + 12 ≤ length (now out)) × (p .head .offset + e .offset ≤ maxOffset) ⌝ }
+    ensures { λ r. ⌜ Stride (now (area .entry)) p x (e .offset) (e .flags) (now (out .entry)) r (now (out .exit)) ⌝ }
+{
+    let at = 12 * x.n;
+    let n = x.n + 1;
+    let done = x.done + 1;
+    let h = p.head;
+    let end = h.offset + e.offset;
+    let word = column_at(area, has_columns(h.flags), p.column + 4 * x.done);
+    let r = record_in(p, x.offset, x.flags, x.word);
+    put_words(out, at, closed(r, h.section, end));
+    Plain {
+        n,
+        done,
+        offset: end,
+        flags: e.flags,
+        word,
+    }
+}
+
+// The lines of a block from `first` on, until there are no more, or no room for another record, or one that is refused.
+fn stretch(area: &[u8], p: Place, first: Plain, room: usize, out: &mut [u64]) -> Plain
+    requires { ⌜ Fit (now area) p ⌝ }
+    requires { ⌜ (first .n ≤ room) × (first .done ≤ p .lines) × (12 * room ≤ length (now out)) ⌝ }
+    ensures { λ r. ⌜ Strode (now (area .entry)) p room first (now (out .entry)) r (now (out .exit)) ⌝ }
+{
+    let h = p.head;
+    let mut x = first;
+    while x.done < p.lines {
+        if x.n == room {
+            return x;
+        }
+        let e = line_at(area, p.line + 8 * x.done);
+        if is_marker(e.flags) {
+            x.done += 1;
+        } else {
+            if LineRecord::MAX_OFFSET - h.offset < e.offset {
+                return x;
+            }
+            x = stride(area, p, x, e, out);
+        }
+    }
+    x
+}
+
+// The place some lines on.
+fn at_line(p: Place, i: usize) -> Place
+    requires { ⌜ (i ≤ p .lines) × (p .line + 8 * p .lines < 2 ^ 64) × (p .column + 4 * p .lines < 2 ^ 64) ⌝ }
+    ensures { λ r. ⌜ r ≡ atLine p i ⌝ }
+{
+    let head = p.head;
+    Place {
+        head,
+        end: p.end,
+        next: p.next,
+        file: p.file,
+        lines: p.lines - i,
+        line: p.line + 8 * i,
+        column: p.column + 4 * i,
+    }
+}
+
+// Puts the record that is held, if there is one, as an end closes it; how many records there are then.
+fn put_held(out: &mut [u64], n: usize, held: Held, section: u16, end: u32) -> usize
+    requires { ⌜ 12 * n + 12 ≤ length (now out) ⌝ }
+    ensures { λ r. ⌜ HeldPut held section end n (now (out .entry)) r (now (out .exit)) ⌝ }
+{
+    match held {
+        Held::Nothing => n,
+        Held::One(q) => {
+            let more = n + 1;
+            put_words(out, 12 * n, closed(q, section, end));
+            more
+        }
+    }
+}
+
+// How far the walk has come in a body. `stuck`: there is no room for another record, or it stands before a turn that is left to others.
+pub struct Lined {
+    pub n: usize,
+    pub place: Place,
+    pub held: Held,
+    pub stuck: bool,
+}
+
+// The same behind a line that gives a record.
+fn first_line(
+    area: &[u8],
+    p: Place,
+    held: Held,
+    n: usize,
+    e: Line,
+    room: usize,
+    out: &mut [u64],
+) -> Lined
+    requires { ⌜ Fit (now area) p ⌝ }
+    requires { ⌜ (1 ≤ p .lines) × (n < room) × (12 * room ≤ length (now out)) ⌝ }
+    requires { ⌜ FirstLine (now area) p (e .offset) (e .flags) ⌝ }
+    ensures { λ r. ⌜ Ran (now (area .entry)) room p held n (now (out .entry)) r (now (out .exit)) ⌝ }
+    ensures { λ r. ⌜ (r .stuck ≡ false → (r .n < room) × (r .place .lines < p .lines)) ⌝ }
+{
+    let h = p.head;
+    let offset = h.offset + e.offset;
+    let word = column_at(area, has_columns(h.flags), p.column);
+    let m = put_held(out, n, held, h.section, offset);
+    let first = Plain {
+        n: m,
+        done: 1,
+        offset,
+        flags: e.flags,
+        word,
+    };
+    let x = stretch(area, p, first, room, out);
+    let place = at_line(p, x.done);
+    let r = record_in(p, x.offset, x.flags, x.word);
+    Lined {
+        n: x.n,
+        place,
+        held: Held::One(r),
+        stuck: x.n == room,
+    }
+}
+
+// The lines of a block, of which there is one at least.
+fn block_lines(area: &[u8], p: Place, held: Held, n: usize, room: usize, out: &mut [u64]) -> Lined
+    requires { ⌜ Fit (now area) p ⌝ }
+    requires { ⌜ (1 ≤ p .lines) × (n < room) × (12 * room ≤ length (now out)) ⌝ }
+    ensures { λ r. ⌜ Ran (now (area .entry)) room p held n (now (out .entry)) r (now (out .exit)) ⌝ }
+    ensures { λ r. ⌜ (r .stuck ≡ false → (r .n < room) × (r .place .lines < p .lines)) ⌝ }
+{
+    let h = p.head;
+    let e = line_at(area, p.line);
+    if is_marker(e.flags) {
+        let place = at_line(p, 1);
+        return Lined {
+            n,
+            place,
+            held,
+            stuck: false,
+        };
+    }
+    if LineRecord::MAX_OFFSET - h.offset < e.offset {
+        return Lined {
+            n,
+            place: p,
+            held,
+            stuck: true,
+        };
+    }
+    first_line(area, p, held, n, e, room, out)
+}
+
+// Where the columns of a block begin, as for a turn.
+fn columns_at(columns: bool, start: usize, count: usize) -> usize
+    requires { ⌜ start + 8 * count < 2 ^ 64 ⌝ }
+    ensures { λ r. ⌜ r ≡ columnPlace columns start count ⌝ }
+{
+    if columns {
+        return start + 8 * count;
+    }
+    start
+}
+
+// The next block of a body, or that there is none to go into.
+enum Opened {
+    At(Place),
+    End,
+    Stuck,
+}
+
+fn open_block(area: &[u8], p: Place) -> Opened
+    requires { ⌜ Fit (now area) p ⌝ }
+    ensures { λ r. ⌜ OpenedIs (now (area .entry)) p r ⌝ }
+{
+    let end = p.end;
+    let head = p.head;
+    let columns = has_columns(head.flags);
+    match block_at(&area[..end], p.next, columns) {
+        BlockStep::Block {
+            file,
+            count,
+            start,
+            next,
+        } => {
+            let column = columns_at(columns, start, count);
+            Opened::At(Place {
+                head,
+                end,
+                next,
+                file,
+                lines: count,
+                line: start,
+                column,
+            })
+        }
+        BlockStep::None => Opened::End,
+        BlockStep::Refused(_) => Opened::Stuck,
+    }
+}
+
+// Do the lines of the place, and their columns, lie in its body, and that in an area that is not too long?
+fn fits(area: &[u8], p: Place) -> bool
+    ensures { λ r. ⌜ (r ≡ true → Fit (now (area .entry)) p) ⌝ }
+{
+    let end = p.end;
+    let lines = p.lines;
+    if LONGEST < area.len() {
+        return false;
+    }
+    if area.len() < end {
+        return false;
+    }
+    if end < p.line {
+        return false;
+    }
+    if (end - p.line) / 8 < lines {
+        return false;
+    }
+    if end < p.column {
+        return false;
+    }
+    lines <= (end - p.column) / 4
+}
+
+// The blocks of a body from a place on, and their lines, until the body is used up or the walk is stuck.
+fn blocks(area: &[u8], first: Lined, room: usize, out: &mut [u64]) -> Lined
+    requires { ⌜ Fit (now area) (first .place) ⌝ }
+    requires { ⌜ (first .n < room) × (12 * room ≤ length (now out)) ⌝ }
+    ensures { λ r. ⌜ Rode (now (area .entry)) room (first .place) (first .held) (first .n) (now (out .entry)) r (now (out .exit)) ⌝ }
+{
+    let mut x = first;
+    loop {
+        let n = x.n;
+        let p = x.place;
+        let held = x.held;
+        if p.lines == 0 {
+            match open_block(area, p) {
+                Opened::At(place) => {
+                    x = Lined {
+                        n,
+                        place,
+                        held,
+                        stuck: false,
+                    };
+                }
+                Opened::End => {
+                    return Lined {
+                        n,
+                        place: p,
+                        held,
+                        stuck: false,
+                    };
+                }
+                Opened::Stuck => {
+                    return Lined {
+                        n,
+                        place: p,
+                        held,
+                        stuck: true,
+                    };
+                }
+            }
+        } else {
+            x = block_lines(area, p, held, n, room, out);
+            if x.stuck {
+                return x;
+            }
+        }
+    }
+}
+
+// The lines of a body from a place on, as many as there is room for. Where anything is unusual the walk stands before it.
+pub fn body_lines(
+    area: &[u8],
+    place: Place,
+    held: Held,
+    n: usize,
+    room: usize,
+    out: &mut [u64],
+) -> Lined
+    ensures { λ r. ⌜ Rode (now (area .entry)) room place held n (now (out .entry)) r (now (out .exit)) ⌝ }
+{
+    let x = Lined {
+        n,
+        place,
+        held,
+        stuck: true,
+    };
+    if room <= n {
+        return x;
+    }
+    if out.len() / 12 < room {
+        return x;
+    }
+    if !fits(area, place) {
+        return x;
+    }
+    blocks(area, x, room, out)
+}

@@ -1,0 +1,147 @@
+-- A line record in 12 words, and a state of the line walk in 27: its tag (0 new, 1 between two subsections, 2 inside one); the next slot, how many
+-- subsections are left, how far the area has been searched, 1 and the record held back or 0; and of the place the header's four fields, its end,
+-- the next block, the file, the lines left, the next line and the next column. Where a state lacks a part its words are 0.
+-- Read back, a word too large for its field counts modulo the field's size, and a tag above the last is the last.
+-- Source: docs/DECISIONS.md, 32.
+-- Definitions only; a reader must believe them.
+use Prim.Native.Nat.{ℕ, _%_}
+use mathlib.Core.List.{List, [], _∷_, _++_}
+use mathlib.Core.Bool.{cond}
+use lib.ListN.{getD}
+use lib.Dec.{eqb}
+use Rattle.line_record.specs.declared.Length.{Length}
+use Rattle.line_record.specs.declared.Length.the-variants as length
+use Rattle.line_record.specs.declared.Column.{Column}
+use Rattle.line_record.specs.declared.Column.the-variants as column
+use Rattle.line_record.specs.declared.LineKind.{LineKind}
+use Rattle.line_record.specs.declared.LineKind.the-variants as kind
+use Rattle.line_record.specs.declared.LineRecord.{LineRecord}
+use Rattle.lines.specs.declared.LineHeader.{LineHeader}
+use Rattle.line_step.specs.declared.Held.{Held}
+use Rattle.line_step.specs.declared.Held.the-variants as held
+use Rattle.line_step.specs.declared.Rest.{Rest}
+use Rattle.line_step.specs.declared.Place.{Place}
+use Rattle.line_step.specs.declared.LineWalk.{LineWalk}
+use Rattle.line_step.specs.declared.LineWalk.the-variants as walk
+
+-- ---- a record
+
+-- 0 and 0 without one, else 1 and the number
+abbrev pub lengthWords : Length → List ℕ
+lengthWords length.Unset = 0 ∷ 0 ∷ []
+lengthWords (length.Is n) = 1 ∷ n ∷ []
+
+abbrev pub columnWords : Column → List ℕ
+columnWords column.None = 0 ∷ 0 ∷ []
+columnWords (column.At n) = 1 ∷ n ∷ []
+
+abbrev pub kindWord : LineKind → ℕ
+kindWord kind.Expression = 0
+kindWord kind.Statement = 1
+
+abbrev pub recordWords : LineRecord → List ℕ
+recordWords r =
+    r .section
+    ∷ r .offset
+    ∷ (lengthWords (r .length)
+    ++ (r .file
+    ∷ r .«start_line»
+    ∷ r .«end_line»
+    ∷ (columnWords (r .«column_start») ++ (columnWords (r .«column_end») ++ (kindWord (r .kind) ∷ [])))))
+
+-- ---- read back
+
+abbrev pub u16Of : ℕ → ℕ
+u16Of x = x % 0x1_0000
+
+abbrev pub u32Of : ℕ → ℕ
+u32Of x = x % 0x1_0000_0000
+
+abbrev pub lengthOf : ℕ → ℕ → Length
+lengthOf t n = cond (eqb t 0) length.Unset (length.Is (u32Of n))
+
+abbrev pub columnOf : ℕ → ℕ → Column
+columnOf t n = cond (eqb t 0) column.None (column.At (u32Of n))
+
+abbrev pub kindOf : ℕ → LineKind
+kindOf t = cond (eqb t 0) kind.Expression kind.Statement
+
+-- the record that is held stands behind four words
+abbrev pub recordIn : List ℕ → LineRecord
+recordIn o =
+    record {
+      section = u16Of (getD o 5 0);
+      offset = u32Of (getD o 6 0);
+      length = lengthOf (getD o 7 0) (getD o 8 0);
+      file = u32Of (getD o 9 0);
+      «start_line» = u32Of (getD o 10 0);
+      «end_line» = u32Of (getD o 11 0);
+      «column_start» = columnOf (getD o 12 0) (getD o 13 0);
+      «column_end» = columnOf (getD o 14 0) (getD o 15 0);
+      kind = kindOf (getD o 16 0);
+    }
+
+unfoldable pub heldIn : List ℕ → Held
+heldIn o = cond (eqb (getD o 4 0) 0) held.Nothing (held.One (recordIn o))
+
+abbrev pub restIn : List ℕ → Rest
+restIn o = record { slot = getD o 1 0; left = getD o 2 0; scan = getD o 3 0; held = heldIn o }
+
+abbrev pub headIn : List ℕ → LineHeader
+headIn o = record { offset = u32Of (getD o 17 0); section = u16Of (getD o 18 0); flags = u16Of (getD o 19 0); code = u32Of (getD o 20 0) }
+
+abbrev pub placeIn : List ℕ → Place
+placeIn o =
+    record {
+      head = headIn o;
+      end = getD o 21 0;
+      next = getD o 22 0;
+      file = u32Of (getD o 23 0);
+      lines = getD o 24 0;
+      line = getD o 25 0;
+      column = getD o 26 0;
+    }
+
+unfoldable pub lineWalkIn : List ℕ → LineWalk
+lineWalkIn o =
+    cond (eqb (getD o 0 0) 0) walk.New
+    (cond (eqb (getD o 0 0) 1) (walk.Between (restIn o))
+    (walk.Inside (placeIn o) (restIn o)))
+
+-- ---- put
+
+abbrev noRecord : List ℕ
+noRecord = 0 ∷ 0 ∷ 0 ∷ 0 ∷ 0 ∷ 0 ∷ 0 ∷ 0 ∷ 0 ∷ 0 ∷ 0 ∷ 0 ∷ []
+
+abbrev pub heldWords : Held → List ℕ
+heldWords held.Nothing = 0 ∷ noRecord
+heldWords (held.One r) = 1 ∷ recordWords r
+
+abbrev pub restWords : Rest → List ℕ
+restWords t = t .slot ∷ t .left ∷ t .scan ∷ heldWords (t .held)
+
+abbrev pub placeWords : Place → List ℕ
+placeWords p =
+    p .head .offset
+    ∷ p .head .section
+    ∷ p .head .flags
+    ∷ p .head .code
+    ∷ p .end
+    ∷ p .next
+    ∷ p .file
+    ∷ p .lines
+    ∷ p .line
+    ∷ p .column
+    ∷ []
+
+abbrev pub noPlace : List ℕ
+noPlace = 0 ∷ 0 ∷ 0 ∷ 0 ∷ 0 ∷ 0 ∷ 0 ∷ 0 ∷ 0 ∷ 0 ∷ []
+
+abbrev pub lineWalkWords : LineWalk → List ℕ
+lineWalkWords walk.New = 0 ∷ 0 ∷ 0 ∷ 0 ∷ 0 ∷ (noRecord ++ noPlace)
+lineWalkWords (walk.Between t) = 1 ∷ (restWords t ++ noPlace)
+lineWalkWords (walk.Inside p t) = 2 ∷ (restWords t ++ placeWords p)
+
+-- a step: the next state, and the record
+abbrev pub lineWords : LineRecord → LineWalk → List ℕ
+lineWords r w = lineWalkWords w ++ recordWords r

@@ -1,0 +1,311 @@
+// A line record and a state of the line walk in words, for programs in other languages, and back.
+ghost use mathlib.Core.Path.{_≡_};
+ghost use mathlib.Core.List.{[], _∷_};
+ghost use Prim.Native.Nat.{_≤_};
+ghost use lib.ListN.{length, getD};
+ghost use Rattle.word.specs.Word.{put, store};
+ghost use Rattle.answer_words.specs.Given.{given, Gives};
+ghost use Rattle.line_state_words.specs.LineWords.{u16Of, u32Of, lengthOf, columnOf, kindOf, recordIn, heldIn, restIn, headIn, placeIn, lineWalkIn};
+ghost use Rattle.line_state_words.specs.LineWords.{lengthWords, columnWords, kindWord, recordWords, heldWords, restWords, placeWords, lineWalkWords, lineWords};
+use answer_words::GIVEN;
+use answer_words::TOO_SHORT;
+use answer_words::state_word;
+use line_record::Column;
+use line_record::Length;
+use line_record::LineKind;
+use line_record::LineRecord;
+use line_step::Held;
+use line_step::LineWalk;
+use line_step::Place;
+use line_step::Rest;
+use lines::LineHeader;
+
+// ---- read back
+
+fn word16(out: &[u64], i: usize) -> u16
+    ensures { λ r. ⌜ r ≡ u16Of (getD (now (out .entry)) i 0) ⌝ }
+{
+    (state_word(out, i) % 0x1_0000) as u16
+}
+
+fn word32(out: &[u64], i: usize) -> u32
+    ensures { λ r. ⌜ r ≡ u32Of (getD (now (out .entry)) i 0) ⌝ }
+{
+    (state_word(out, i) % 0x1_0000_0000) as u32
+}
+
+fn length_of(tag: u64, n: u64) -> Length
+    ensures { λ r. ⌜ r ≡ lengthOf tag n ⌝ }
+{
+    if tag == 0 {
+        Length::Unset
+    } else {
+        Length::Is((n % 0x1_0000_0000) as u32)
+    }
+}
+
+fn column_of(tag: u64, n: u64) -> Column
+    ensures { λ r. ⌜ r ≡ columnOf tag n ⌝ }
+{
+    if tag == 0 {
+        Column::None
+    } else {
+        Column::At((n % 0x1_0000_0000) as u32)
+    }
+}
+
+fn kind_of(tag: u64) -> LineKind
+    ensures { λ r. ⌜ r ≡ kindOf tag ⌝ }
+{
+    if tag == 0 {
+        LineKind::Expression
+    } else {
+        LineKind::Statement
+    }
+}
+
+fn record_in(out: &[u64]) -> LineRecord
+    ensures { λ r. ⌜ r ≡ recordIn (now (out .entry)) ⌝ }
+{
+    let length = length_of(state_word(out, 7), state_word(out, 8));
+    let column_start = column_of(state_word(out, 12), state_word(out, 13));
+    let column_end = column_of(state_word(out, 14), state_word(out, 15));
+    let kind = kind_of(state_word(out, 16));
+    LineRecord {
+        section: word16(out, 5),
+        offset: word32(out, 6),
+        length,
+        file: word32(out, 9),
+        start_line: word32(out, 10),
+        end_line: word32(out, 11),
+        column_start,
+        column_end,
+        kind,
+    }
+}
+
+fn held_in(out: &[u64]) -> Held
+    ensures { λ r. ⌜ r ≡ heldIn (now (out .entry)) ⌝ }
+{
+    if state_word(out, 4) == 0 {
+        return Held::Nothing;
+    }
+    Held::One(record_in(out))
+}
+
+fn rest_in(out: &[u64]) -> Rest
+    ensures { λ r. ⌜ r ≡ restIn (now (out .entry)) ⌝ }
+{
+    let held = held_in(out);
+    Rest {
+        slot: state_word(out, 1) as usize,
+        left: state_word(out, 2) as usize,
+        scan: state_word(out, 3) as usize,
+        held,
+    }
+}
+
+fn head_in(out: &[u64]) -> LineHeader
+    ensures { λ r. ⌜ r ≡ headIn (now (out .entry)) ⌝ }
+{
+    LineHeader {
+        offset: word32(out, 17),
+        section: word16(out, 18),
+        flags: word16(out, 19),
+        code: word32(out, 20),
+    }
+}
+
+fn place_in(out: &[u64]) -> Place
+    ensures { λ r. ⌜ r ≡ placeIn (now (out .entry)) ⌝ }
+{
+    let head = head_in(out);
+    Place {
+        head,
+        end: state_word(out, 21) as usize,
+        next: state_word(out, 22) as usize,
+        file: word32(out, 23),
+        lines: state_word(out, 24) as usize,
+        line: state_word(out, 25) as usize,
+        column: state_word(out, 26) as usize,
+    }
+}
+
+// The state of a line walk that the first 27 words say.
+pub fn line_walk_in(out: &[u64]) -> LineWalk
+    ensures { λ r. ⌜ r ≡ lineWalkIn (now (out .entry)) ⌝ }
+{
+    let tag = state_word(out, 0);
+    if tag == 0 {
+        return LineWalk::New;
+    }
+    let rest = rest_in(out);
+    if tag == 1 {
+        return LineWalk::Between(rest);
+    }
+    LineWalk::Inside(place_in(out), rest)
+}
+
+// ---- put
+
+struct Pair(u64, u64);
+
+fn length_words(l: Length) -> Pair
+    ensures { λ r. ⌜ lengthWords l ≡ r .0 ∷ r .1 ∷ [] ⌝ }
+{
+    match l {
+        Length::Unset => Pair(0, 0),
+        Length::Is(n) => Pair(1, n as u64),
+    }
+}
+
+fn column_words(l: Column) -> Pair
+    ensures { λ r. ⌜ columnWords l ≡ r .0 ∷ r .1 ∷ [] ⌝ }
+{
+    match l {
+        Column::None => Pair(0, 0),
+        Column::At(n) => Pair(1, n as u64),
+    }
+}
+
+fn kind_word(k: LineKind) -> u64
+    ensures { λ r. ⌜ kindWord k ≡ r ⌝ }
+{
+    match k {
+        LineKind::Expression => 0,
+        LineKind::Statement => 1,
+    }
+}
+
+// A state takes 27 words, and a step 39: the state's, and behind them 12 of the record. Pieces are put one behind the other.
+const STATE: usize = 27;
+
+const STEP: usize = 39;
+
+// A record at a place. Where its words do not fit nothing is put.
+pub fn put_record(out: &mut [u64], at: usize, r: LineRecord)
+    ensures { λ _. ⌜ now (out .exit) ≡ store (now (out .entry)) at (recordWords r) ⌝ }
+{
+    let length = r.length;
+    let column_start = r.column_start;
+    let column_end = r.column_end;
+    let kind = r.kind;
+    let l = length_words(length);
+    let s = column_words(column_start);
+    let e = column_words(column_end);
+    let k = kind_word(kind);
+    answer_words::put(
+        out,
+        at,
+        &[
+            r.section as u64,
+            r.offset as u64,
+            l.0,
+            l.1,
+            r.file as u64,
+            r.start_line as u64,
+            r.end_line as u64,
+            s.0,
+            s.1,
+            e.0,
+            e.1,
+            k,
+        ],
+        GIVEN,
+    );
+}
+
+fn put_held(out: &mut [u64], h: Held)
+    requires { ⌜ 27 ≤ length (now out) ⌝ }
+    ensures { λ _. ⌜ now (out .exit) ≡ put (now (out .entry)) 4 (heldWords h) ⌝ }
+{
+    match h {
+        Held::Nothing => {
+            answer_words::put(out, 4, &[0; 13], GIVEN);
+        }
+        Held::One(r) => {
+            answer_words::put(out, 4, &[1], GIVEN);
+            put_record(out, 5, r);
+        }
+    }
+}
+
+fn put_rest(out: &mut [u64], tag: u64, t: Rest)
+    requires { ⌜ 27 ≤ length (now out) ⌝ }
+    ensures { λ _. ⌜ now (out .exit) ≡ put (now (out .entry)) 0 (tag ∷ restWords t) ⌝ }
+{
+    answer_words::put(
+        out,
+        0,
+        &[tag, t.slot as u64, t.left as u64, t.scan as u64],
+        GIVEN,
+    );
+    let held = t.held;
+    put_held(out, held);
+}
+
+fn put_place(out: &mut [u64], p: Place)
+    requires { ⌜ 27 ≤ length (now out) ⌝ }
+    ensures { λ _. ⌜ now (out .exit) ≡ put (now (out .entry)) 17 (placeWords p) ⌝ }
+{
+    let head = p.head;
+    answer_words::put(
+        out,
+        17,
+        &[
+            head.offset as u64,
+            head.section as u64,
+            head.flags as u64,
+            head.code as u64,
+            p.end as u64,
+            p.next as u64,
+            p.file as u64,
+            p.lines as u64,
+            p.line as u64,
+            p.column as u64,
+        ],
+        GIVEN,
+    );
+}
+
+fn put_walk(out: &mut [u64], w: LineWalk)
+    requires { ⌜ 27 ≤ length (now out) ⌝ }
+    ensures { λ _. ⌜ now (out .exit) ≡ put (now (out .entry)) 0 (lineWalkWords w) ⌝ }
+{
+    match w {
+        LineWalk::New => {
+            answer_words::put(out, 0, &[0; 27], GIVEN);
+        }
+        LineWalk::Between(t) => {
+            put_rest(out, 1, t);
+            answer_words::put(out, 17, &[0; 10], GIVEN);
+        }
+        LineWalk::Inside(p, t) => {
+            put_rest(out, 2, t);
+            put_place(out, p);
+        }
+    }
+}
+
+// A state of the line walk.
+pub fn put_line_walk(out: &mut [u64], w: LineWalk) -> u32
+    ensures { λ q. ⌜ Gives (now (out .entry)) (given 1 0 (lineWalkWords w)) q (now (out .exit)) ⌝ }
+{
+    if out.len() < STATE {
+        return TOO_SHORT;
+    }
+    put_walk(out, w);
+    GIVEN
+}
+
+// A step of the line walk: the next state, and behind it the record.
+pub fn put_line(out: &mut [u64], r: LineRecord, w: LineWalk) -> u32
+    ensures { λ q. ⌜ Gives (now (out .entry)) (given 1 0 (lineWords r w)) q (now (out .exit)) ⌝ }
+{
+    if out.len() < STEP {
+        return TOO_SHORT;
+    }
+    put_walk(out, w);
+    put_record(out, 27, r);
+    GIVEN
+}

@@ -1,0 +1,157 @@
+-- The turns of the line walk: what one turn does to its state, for every state, also one that no walk comes to. What a walk of turns means is in
+-- crate `line_walk`. Source: document 01, "Line subsections": one record is held back until its end is known; the ends are the next non-marker
+-- line's offset, then section offset plus code size when a subsection's blocks are done; a place past the lent bytes is 1; 11 comes first.
+-- Definitions only; a reader must believe them.
+use Prim.Native.Nat.{ℕ, _+_, _-_, _*_}
+use mathlib.Core.List.{List}
+use mathlib.Core.Bool.{Bool, true, false, cond}
+use lib.ListN.{length, take}
+use lib.Dec.{ltb, eqb}
+use Rattle.word.specs.Word.{u32At}
+use Rattle.walk.specs.Listing.{Move, item, pass, over, fail, Answer, gives, none, refuses, Reply, gave, nothing, refused}
+use Rattle.refusal.specs.Told.{Told, told, longest}
+use Rattle.refusal.specs.declared.Refusal.the-variants as why
+use Rattle.area.specs.Kind.{Sort}
+use Rattle.body.specs.Lines.{lineHead, columned}
+use Rattle.find.specs.Find.{Span, bytesAt}
+use Rattle.line_record.specs.Record.{maxOffset, columnIf, startColumn, endColumn, entryOf, closedAt}
+use Rattle.line_record.specs.declared.LineRecord.{LineRecord}
+use Rattle.lines.specs.Lines.{countLines}
+use Rattle.lines.specs.Blocks.{LineBlock, blockAt}
+use Rattle.lines.specs.Slots.{slotAt}
+use Rattle.lines.specs.Untold.{untoldHeader}
+use Rattle.lines.specs.declared.LineHeader.{LineHeader}
+use Rattle.line_step.specs.declared.Held.{Held}
+use Rattle.line_step.specs.declared.Held.the-variants.{Nothing, One}
+use Rattle.line_step.specs.declared.Rest.{Rest}
+use Rattle.line_step.specs.declared.Place.{Place}
+use Rattle.line_step.specs.declared.LineWalk.{LineWalk}
+use Rattle.line_step.specs.declared.LineWalk.the-variants.{New, Between, Inside}
+
+abbrev pub LineMove : Type 0
+LineMove = Move LineWalk LineRecord Told
+
+-- ---- a line
+
+-- what the entry says whose words stand at the place
+abbrev pub entryIn : List ℕ → Place → Reply LineRecord Told
+entryIn b p =
+    entryOf (p .head .section) (p .head .offset) (p .file) (u32At b (p .line)) (u32At b (p .line + 4))
+    (startColumn (columnIf (columned (p .head .flags)) (u32At b (p .column))))
+    (endColumn (columnIf (columned (p .head .flags)) (u32At b (p .column))))
+
+unfoldable pub entryAt : List ℕ → Place → Reply LineRecord Told
+entryAt b p =
+    cond (ltb (length b) (p .line + 8)) (refused (told why.Cut))
+    (cond (ltb (length b) (p .column + 4)) (refused (told why.Cut)) (entryIn b p))
+
+abbrev pub withHeld : Rest → Held → Rest
+withHeld t h = record { slot = t .slot; left = t .left; scan = t .scan; held = h }
+
+abbrev pub pastLine : Place → Place
+pastLine p =
+    record { head = p .head; end = p .end; next = p .next; file = p .file; lines = p .lines - 1; line = p .line + 8; column = p .column + 4 }
+
+-- a new record r, with the walk w behind it: the record that was held is closed by it
+abbrev pub holdIn : Held → LineRecord → LineWalk → LineMove
+holdIn Nothing r w = pass w
+holdIn (One old) r w = item (closedAt (r .section) (r .offset) old) w
+
+abbrev pub holdOf : Place → Rest → LineRecord → LineMove
+holdOf p t r = holdIn (t .held) r (Inside p (withHeld t (One r)))
+
+abbrev pub lineOf : Place → Rest → Reply LineRecord Told → LineMove
+lineOf p t (gave r) = holdOf (pastLine p) t r
+lineOf p t nothing = pass (Inside (pastLine p) t)
+lineOf p t (refused e) = fail e
+
+abbrev pub lineTurn : List ℕ → Place → Rest → LineMove
+lineTurn b p t = lineOf p t (entryAt b p)
+
+-- ---- a block, or the end of the blocks
+
+-- where the columns of n lines at a begin: behind the lines. Without columns nothing is read there
+abbrev pub columnPlace : Bool → ℕ → ℕ → ℕ
+columnPlace true a n = a + 8 * n
+columnPlace false a n = a
+
+abbrev pub inBlock : Place → LineBlock → ℕ → Place
+inBlock p k x = record {
+  head = p .head;
+  end = p .end;
+  next = x;
+  file = k .file;
+  lines = k .count;
+  line = k .start;
+  column = columnPlace (columned (p .head .flags)) (k .start) (k .count);
+}
+
+unfoldable pub endIn : Held → LineHeader → Rest → LineMove
+endIn Nothing h t = pass (Between t)
+endIn (One r) h t =
+    cond (ltb maxOffset (h .offset + h .code)) (fail (told why.OffsetTooLarge))
+    (pass (Between (withHeld t (One (closedAt (h .section) (h .offset + h .code) r)))))
+
+abbrev pub endOf : LineHeader → Rest → LineMove
+endOf h t = endIn (t .held) h t
+
+abbrev pub blockOf : Place → Rest → Answer ℕ LineBlock Told → LineMove
+blockOf p t (gives k x) = pass (Inside (inBlock p k x) t)
+blockOf p t none = endOf (p .head) t
+blockOf p t (refuses e) = fail e
+
+abbrev pub blockTurn : List ℕ → Place → Rest → LineMove
+blockTurn b p t = blockOf p t (blockAt (columned (p .head .flags)) b (p .next))
+
+unfoldable pub insideTurn : List ℕ → Place → Rest → LineMove
+insideTurn s p t =
+    cond (ltb (length s) (p .end)) (fail (told why.Cut))
+    (cond (eqb (p .lines) 0) (blockTurn (take (p .end) s) p t) (lineTurn (take (p .end) s) p t))
+
+-- ---- a subsection
+
+abbrev pub placeAt : LineHeader → ℕ → ℕ → Place
+placeAt h first end = record { head = h; end = end; next = first; file = 0; lines = 0; line = 0; column = 0 }
+
+-- before the first block of the body of n bytes at a
+abbrev pub bodyPlace : List ℕ → ℕ → ℕ → Place
+bodyPlace s a n = placeAt (untoldHeader (lineHead (bytesAt s (record { start = a; len = n })))) (a + 12) (a + n)
+
+abbrev pub restAt : Rest → ℕ → Rest
+restAt t x = record { slot = t .slot + 1; left = t .left - 1; scan = x; held = t .held }
+
+unfoldable pub enterAt : List ℕ → Rest → ℕ → ℕ → LineMove
+enterAt s t a n = cond (ltb n 12) (fail (told why.Cut)) (pass (Inside (bodyPlace s a n) (restAt t (a + n))))
+
+abbrev pub namedOf : List ℕ → Rest → Reply Span Told → LineMove
+namedOf s t (gave a) = enterAt s t (a .start) (a .len)
+namedOf s t nothing = fail (told why.WrongSlot)
+namedOf s t (refused e) = fail e
+
+abbrev pub subTurn : (ℕ → Sort) → List ℕ → List ℕ → Rest → LineMove
+subTurn rule s v t = namedOf s t (slotAt rule s v (t .slot) (t .scan))
+
+-- ---- the whole turn
+
+abbrev pub finishIn : Held → Rest → LineMove
+finishIn Nothing t = over
+finishIn (One r) t = item r (Between (withHeld t Nothing))
+
+abbrev pub finishOf : Rest → LineMove
+finishOf t = finishIn (t .held) t
+
+unfoldable pub betweenTurn : (ℕ → Sort) → List ℕ → List ℕ → Rest → LineMove
+betweenTurn rule s v t = cond (eqb (t .left) 0) (finishOf t) (subTurn rule s v t)
+
+abbrev pub openOf : Reply ℕ Told → LineMove
+openOf (gave n) = pass (Between (record { slot = 0; left = n; scan = 0; held = Nothing }))
+openOf nothing = over
+openOf (refused e) = fail e
+
+abbrev pub turnIn : (ℕ → Sort) → List ℕ → List ℕ → LineWalk → LineMove
+turnIn rule s v New = openOf (countLines rule s)
+turnIn rule s v (Between t) = betweenTurn rule s v t
+turnIn rule s v (Inside p t) = insideTurn s p t
+
+unfoldable pub turnOf : (ℕ → Sort) → List ℕ → List ℕ → LineWalk → LineMove
+turnOf rule s v w = cond (ltb longest (length s)) (fail (told why.TooLong)) (turnIn rule s v w)

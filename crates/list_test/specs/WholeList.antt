@@ -1,0 +1,85 @@
+-- What is tested of a lent list before it is called whole. Source: document 01, "each look at the middle leaves a shorter span": halving over sorted
+-- slots. No answer of the library depends on these definitions: they say when a call may begin its searches elsewhere, and that this changes no
+-- answer is proved (WholeListLaws).
+-- Definitions only; a reader must believe them.
+use Prim.Native.Nat.{ℕ, zero, suc, _+_, _-_, _/_}
+use mathlib.Core.List.{List, [], _∷_}
+use mathlib.Core.Bool.{Bool, true, false, cond}
+use lib.ListN.{length, getD, take}
+use lib.Dec.{ltb, leb, eqb}
+use Rattle.walk.specs.Listing.{Listing, more, ends, fails, Reply, gave, nothing, refused}
+use Rattle.refusal.specs.Told.{Told}
+use Rattle.area.specs.Kind.{Sort}
+use Rattle.area.specs.Subs.{Sub, subsFrom}
+use Rattle.lines.specs.Lines.{countLines}
+use Rattle.slot_key.specs.Rank.{rank, inside}
+use Rattle.order.specs.Order.{startsFrom}
+
+-- a look for v at the middle of the slots from a to e, w being their order, and then f of the half that is left. Where v is found the answer is the
+-- place behind its slot, and else 0
+abbrev pub middle : ℕ → ℕ → ℕ
+middle a e = a + (e - a) / 2
+
+unfoldable pub lookAt : (ℕ → ℕ) → ℕ → List ℕ → (ℕ → ℕ → ℕ) → ℕ → ℕ → ℕ
+lookAt w v xs f a e =
+    cond (leb e a) 0
+    (cond (eqb (getD xs (middle a e) 0) v) (middle a e + 1)
+    (cond (ltb (w (getD xs (middle a e) 0)) (w v)) (f (middle a e + 1) e) (f a (middle a e))))
+
+-- v found by halving: in at most k looks, and in as many as it takes
+unfoldable pub halvedIn : (ℕ → ℕ) → ℕ → List ℕ → ℕ → ℕ → ℕ → ℕ
+halvedIn w v xs zero a e = 0
+halvedIn w v xs (suc k) a e = lookAt w v xs (halvedIn w v xs k) a e
+
+unfoldable pub halved : (ℕ → ℕ) → ℕ → List ℕ → ℕ → ℕ → ℕ
+halved w v xs a e = halvedIn w v xs (suc (e - a)) a e
+
+-- does slot i hold v?
+unfoldable pub holds : ℕ → List ℕ → ℕ → Bool
+holds v xs i = cond (leb (length xs) i) false (eqb (getD xs i 0) v)
+
+-- v in slot i, or in that two before it, or else found by halving
+unfoldable pub slotBehind : (ℕ → ℕ) → ℕ → List ℕ → ℕ → ℕ
+slotBehind w v xs i =
+    cond (holds v xs i) (i + 1)
+    (cond (leb 2 i) (cond (holds v xs (i - 2)) (i - 1) (halved w v xs 0 (length xs))) (halved w v xs 0 (length xs)))
+
+-- each of them found so, i being the place behind the slot found last: the slots on both sides of that one are looked at first
+unfoldable pub allFound : (ℕ → ℕ) → List ℕ → ℕ → List ℕ → Bool
+allFound w xs i [] = true
+allFound w xs i (v ∷ vs) = cond (eqb (slotBehind w v xs i) 0) false (allFound w xs (slotBehind w v xs i) vs)
+
+-- does a walk over the subsections that stands at p come to q?
+unfoldable pub comesBy : ℕ → ℕ → Listing Sub Told → Bool
+comesBy q p (more b l) = cond (ltb p q) (comesBy q (b .start + b .len) l) (eqb p q)
+comesBy q p ends = eqb p q
+comesBy q p (fails t) = eqb p q
+
+abbrev pub comesTo : (ℕ → Sort) → List ℕ → ℕ → Bool
+comesTo rule s q = comesBy q 0 (subsFrom rule s 0)
+
+-- the number of the line bodies if each is found in the slots xs, else 0
+abbrev pub foundIn : (ℕ → Sort) → List ℕ → List ℕ → Reply ℕ Told → ℕ
+foundIn rule s xs (gave n) = cond (allFound (rank s) xs 0 (startsFrom rule s 0)) n 0
+foundIn rule s xs nothing = 0
+foundIn rule s xs (refused t) = 0
+
+abbrev pub found : (ℕ → Sort) → List ℕ → List ℕ → ℕ
+found rule s xs = foundIn rule s xs (countLines rule s)
+
+-- the same of slots that need not lie in the area
+unfoldable pub listed : (ℕ → Sort) → List ℕ → List ℕ → ℕ
+listed rule s xs = cond (inside s xs) (found rule s xs) 0
+
+-- the same of the first slots of v, as many as there are line bodies
+abbrev pub firstIn : (ℕ → Sort) → List ℕ → List ℕ → Reply ℕ Told → ℕ
+firstIn rule s v (gave n) = cond (ltb (length v) n) 0 (listed rule s (take n v))
+firstIn rule s v nothing = 0
+firstIn rule s v (refused t) = 0
+
+abbrev pub firstListed : (ℕ → Sort) → List ℕ → List ℕ → ℕ
+firstListed rule s v = firstIn rule s v (countLines rule s)
+
+-- how many slots a whole list v takes, or 0: each line body is found among them, and p is a place that a walk comes to
+unfoldable pub wholeList : (ℕ → Sort) → List ℕ → List ℕ → ℕ → ℕ
+wholeList rule s v p = cond (comesTo rule s p) (firstListed rule s v) 0

@@ -1,0 +1,30 @@
+-- The plain predicate and the calls on a whole area: what a plain area promises who reads it. That the tables are those of the full reading is said by
+-- the crate `reading_agrees`, wherever that refuses nothing. Source: document 01, "Writer and plain areas".
+-- Definitions only; a reader must believe them.
+use Prim.Native.Nat.{ℕ}
+use mathlib.Core.Path.{_≡_}
+use mathlib.Core.List.{List}
+use Rattle.walk.specs.Listing.{Reply, gave, nothing, refused}
+use Rattle.walk.specs.Pick.{failure}
+use Rattle.area.specs.Kind.{ruled}
+use Rattle.lines.specs.Lines.{countLines}
+use Rattle.files.specs.Files.{filesIn}
+use Rattle.inlinees.specs.Inlinees.{inlineesIn}
+use Rattle.imports.specs.Imports.{importsOf}
+use Rattle.exports.specs.Exports.{pairsOf, resolveExport}
+use Rattle.reading.specs.Reading.{reading}
+
+abbrev pub NotRefused : {B R : Type 0} → Reply B R → Type 0
+NotRefused (gave b) = Unit {0}
+NotRefused nothing = Unit {0}
+NotRefused (refused r) = ⊥
+
+-- the full reading refuses nothing, nor do the tests before the lines, nor any table; and a lookup in its exports never finds them unordered
+pub record Answered (s : List ℕ) : Type 0 where
+  pub items : failure (reading ruled s) ≡ nothing
+  pub lines : NotRefused (countLines ruled s)
+  pub files : failure (filesIn ruled s) ≡ nothing
+  pub inlinees : failure (inlineesIn ruled s) ≡ nothing
+  pub imports : failure (importsOf ruled s) ≡ nothing
+  pub exports : failure (pairsOf ruled s) ≡ nothing
+  pub lookup : (n : ℕ) → NotRefused (resolveExport ruled s n)
