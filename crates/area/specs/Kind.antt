@@ -14,5 +14,5 @@ onSort skipped a b c = b
 onSort unknown a b c = c
 
 -- the crate's rule
-unfoldable pub ruled : ℕ → Sort
-ruled k = cond (leb 0xf1 k && leb k 0xfd) known (cond (eqb k 0x8000_0000) skipped unknown)
+unfoldable pub crateRule : ℕ → Sort
+crateRule k = cond (leb 0xf1 k && leb k 0xfd) known (cond (eqb k 0x8000_0000) skipped unknown)

@@ -48,10 +48,10 @@ abbrev pub stepAt : (ℕ → Sort) → List ℕ → ℕ → Answer ℕ Sub Told
 stepAt rule s p = firstOf (subsFrom rule s p)
 
 -- where a walk stands behind an answer: it stays at its end and at a refusal
-abbrev pub after : Answer ℕ Sub Told → ℕ → ℕ
-after (gives b x) p = x
-after none p = p
-after (refuses r) p = p
+abbrev pub placeBehind : Answer ℕ Sub Told → ℕ → ℕ
+placeBehind (gives b x) p = x
+placeBehind none p = p
+placeBehind (refuses r) p = p
 
 -- the same without places: the bodies themselves, and a refusal's number alone
 unfoldable pub bodiesIn : (ℕ → Sort) → Parts → Listing Raw ℕ

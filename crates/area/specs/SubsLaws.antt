@@ -18,8 +18,8 @@ use Rattle.refusal.specs.Told.{Told, told, longest, numberOf}
 use Rattle.refusal.specs.declared.Refusal.the-variants as why
 use Rattle.area.specs.Parts.{Raw, Lack, Parts, bite, parts}
 use Rattle.area.specs.PartsLaws.{parts-step, parts-ind, Bitten, bitten}
-use Rattle.area.specs.Kind.{Sort, known, skipped, unknown, onSort, ruled}
-use Rattle.area.specs.Subs.{Sub, subOf, placed, subsFrom, firstOf, stepAt, bodiesIn, bodies, after}
+use Rattle.area.specs.Kind.{Sort, known, skipped, unknown, onSort, crateRule}
+use Rattle.area.specs.Subs.{Sub, subOf, placed, subsFrom, firstOf, stepAt, bodiesIn, bodies, placeBehind}
 use Rattle.area.specs.declared.SubStep.{SubStep}
 use Rattle.area.specs.Told.{toldStep}
 
@@ -44,22 +44,22 @@ headAt rule s p =
 -- ---- the tests of the code: a law for each way out of `whole` and of `head_at`
 
 module _ (k p n : ℕ) where
-  pub whole-low : k < 0xf1 → (k ≡ 0x8000_0000 → ⊥) → fail (told (why.UnknownKind k)) ≡ wholeAs ruled k p n
-  unfolding wholeAs ruled
+  pub whole-low : k < 0xf1 → (k ≡ 0x8000_0000 → ⊥) → fail (told (why.UnknownKind k)) ≡ wholeAs crateRule k p n
+  unfolding wholeAs crateRule
   whole-low h d = simp tests
 
   module _ (h₁ : 0xf1 ≤ k) where
-    pub whole-known : k ≤ 0xfd → item (record { kind = k; start = p + 8; len = n }) (p + 8 + n) ≡ wholeAs ruled k p n
-    unfolding wholeAs ruled
+    pub whole-known : k ≤ 0xfd → item (record { kind = k; start = p + 8; len = n }) (p + 8 + n) ≡ wholeAs crateRule k p n
+    unfolding wholeAs crateRule
     whole-known h = simp tests
 
     module _ (h₂ : 0xfd < k) where
-      pub whole-skipped : k ≡ 0x8000_0000 → pass (p + 8 + n) ≡ wholeAs ruled k p n
-      unfolding wholeAs ruled
+      pub whole-skipped : k ≡ 0x8000_0000 → pass (p + 8 + n) ≡ wholeAs crateRule k p n
+      unfolding wholeAs crateRule
       whole-skipped h = simp tests
 
-      pub whole-high : (k ≡ 0x8000_0000 → ⊥) → fail (told (why.UnknownKind k)) ≡ wholeAs ruled k p n
-      unfolding wholeAs ruled
+      pub whole-high : (k ≡ 0x8000_0000 → ⊥) → fail (told (why.UnknownKind k)) ≡ wholeAs crateRule k p n
+      unfolding wholeAs crateRule
       whole-high h = simp tests
 
 module _ (rule : ℕ → Sort) (s : List ℕ) (p : ℕ) where
@@ -202,7 +202,7 @@ module _ (rule : ℕ → Sort) (s : List ℕ) (p : ℕ) where
       let w : Within (length s) p (item b x) = subst⁻¹ (Within (length s) p) e (head-within rule s p) in
       ap (gives b) (w .1) ∙ ap firstOf (subs-is rule s p (item b x) e)
 
--- ---- the walk that the code makes, one head after the other, is the meaning with its places; no other listing has these steps
+-- ---- the walk that the code makes, one head placeBehind the other, is the meaning with its places; no other listing has these steps
 
 pub subs-all : (rule : ℕ → Sort) (s : List ℕ) (p : ℕ) → subsFrom rule s p ≡ all (headAt rule s) (left s) p
 subs-all rule s p = all-unique (headAt rule s) (left s) (falls rule s) (subsFrom rule s) (subs-step rule s) p
@@ -357,7 +357,7 @@ pub steps-are : (rule : ℕ → Sort) (s : List ℕ) (n p : ℕ) → calls (step
 steps-are rule s = calls-are (stepAt rule s) (subsFrom rule s) (step-right rule s)
 
 -- what an answer h that tells m says of a walk's step, read off the case g that h is
-pub stepped : (h g : SubStep) (m : Answer ℕ Sub Told) (p : ℕ) → toldStep h ≡ m → h ≡ g → (toldStep g ≡ m) × (after (toldStep g) p ≡ after m p)
+pub stepped : (h g : SubStep) (m : Answer ℕ Sub Told) (p : ℕ) → toldStep h ≡ m → h ≡ g → (toldStep g ≡ m) × (placeBehind (toldStep g) p ≡ placeBehind m p)
 stepped h g m p e q =
     let f : toldStep g ≡ m = ap toldStep (sym q) ∙ e in
-    (f, ap (λ (x : Answer ℕ Sub Told). after x p) f)
+    (f, ap (λ (x : Answer ℕ Sub Told). placeBehind x p) f)

@@ -4,8 +4,8 @@
 // goes through `head_at`.
 ghost use mathlib.Core.Path.{_≡_};
 ghost use Prim.Native.Nat.{_+_, _<_, _^_};
-ghost use Rattle.area.specs.Kind.{ruled};
-ghost use Rattle.area.specs.Subs.{stepAt, after};
+ghost use Rattle.area.specs.Kind.{crateRule};
+ghost use Rattle.area.specs.Subs.{stepAt, placeBehind};
 ghost use Rattle.area.specs.SubsLaws.{wholeAs, headAt};
 ghost use Rattle.area.specs.Told.{toldHead, toldStep};
 use refusal::LONGEST;
@@ -30,7 +30,7 @@ enum Head {
 // A subsection whose header and body are whole: the one decision over its kind.
 fn whole(kind: u32, at: usize, len: usize) -> Head
     requires { ⌜ at + 8 + len < 2 ^ 64 ⌝ }
-    ensures { λ r. ⌜ toldHead r ≡ wholeAs ruled kind at len ⌝ }
+    ensures { λ r. ⌜ toldHead r ≡ wholeAs crateRule kind at len ⌝ }
 {
     match kind {
         0xf1..=0xfd => Head::Sub {
@@ -45,7 +45,7 @@ fn whole(kind: u32, at: usize, len: usize) -> Head
 }
 
 fn head_at(area: &[u8], at: usize) -> Head
-    ensures { λ r. ⌜ toldHead r ≡ headAt ruled (now (area .entry)) at ⌝ }
+    ensures { λ r. ⌜ toldHead r ≡ headAt crateRule (now (area .entry)) at ⌝ }
 {
     if LONGEST < area.len() {
         return Head::Refused(Refusal::TooLong);
@@ -81,7 +81,7 @@ pub enum SubStep {
 }
 
 pub fn sub_at(area: &[u8], at: usize) -> SubStep
-    ensures { λ r. ⌜ toldStep r ≡ stepAt ruled (now (area .entry)) at ⌝ }
+    ensures { λ r. ⌜ toldStep r ≡ stepAt crateRule (now (area .entry)) at ⌝ }
 {
     let mut p = at;
     loop {
@@ -131,8 +131,8 @@ impl SubWalk {
     }
 
     pub fn step(self, area: &[u8]) -> Stepped
-        ensures { λ r. ⌜ (toldStep (r .step) ≡ stepAt ruled (now (area .entry)) (self .at))
-            × (r .walk .at ≡ after (stepAt ruled (now (area .entry)) (self .at)) (self .at)) ⌝ }
+        ensures { λ r. ⌜ (toldStep (r .step) ≡ stepAt crateRule (now (area .entry)) (self .at))
+            × (r .walk .at ≡ placeBehind (stepAt crateRule (now (area .entry)) (self .at)) (self .at)) ⌝ }
     {
         let at = self.at;
         let step = sub_at(area, at);

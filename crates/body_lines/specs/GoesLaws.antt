@@ -7,7 +7,7 @@ use native.Mathlib.Omega.{arith}
 use lib.ListN.{length}
 use Rattle.word.specs.Word.{store}
 use Rattle.walk.specs.Listing.{item, pass}
-use Rattle.area.specs.Kind.{ruled}
+use Rattle.area.specs.Kind.{crateRule}
 use Rattle.line_record.specs.declared.LineRecord.{LineRecord}
 use Rattle.line_state_words.specs.LineWords.{recordWords}
 use Rattle.line_step.specs.declared.LineWalk.{LineWalk}
@@ -20,31 +20,31 @@ use Rattle.body_lines.specs.FillLaws.{Fills, turns-pass, turns-record, r
 -- record is known where there is no more room: w itself
 pub record Going (s v : List ℕ) (w₀ : LineWalk) (o₀ : List ℕ) (n : ℕ) (w : LineWalk) (o : List ℕ) : Type 0 where
   pub last : LineWalk
-  pub fills : Fills ruled s v w₀ o₀ n last w o
+  pub fills : Fills crateRule s v w₀ o₀ n last w o
   pub full : length o₀ / 12 ≤ n → last ≡ w
 
 module _ (s v : List ℕ) (room : ℕ) where
   -- every call that stands there, with room for so many records, comes to stand here, with no more to do
   pub record Goes (n : ℕ) (w : LineWalk) (o : List ℕ) (n′ : ℕ) (w′ : LineWalk) (o′ : List ℕ) : Type 0 where
     pub going : (w₀ : LineWalk) (o₀ : List ℕ) → length o₀ / 12 ≡ room → Going s v w₀ o₀ n w o → Going s v w₀ o₀ n′ w′ o′
-    pub less : todo ruled s w′ ≤ todo ruled s w
+    pub less : todo crateRule s w′ ≤ todo crateRule s w
 
   module _ {n : ℕ} {w : LineWalk} {o : List ℕ} where
     pub goes-same : Goes n w o n w o
     goes-same = record { going = λ w₀ o₀ e g. g; less = omega arith }
 
     module _ (l : n < room) where
-      pub goes-pass : (t : LineWalk) → pass t ≡ turnOf ruled s v w → Goes n w o n t o
+      pub goes-pass : (t : LineWalk) → pass t ≡ turnOf crateRule s v w → Goes n w o n t o
       goes-pass t q = record {
-        going = λ w₀ o₀ e g. record { last = g .last; fills = turns-pass ruled s v w₀ o₀ (g .fills) t q; full = λ f. absurd (omega arith) };
-        less = omega (arith, next-falls ruled s v w t q);
+        going = λ w₀ o₀ e g. record { last = g .last; fills = turns-pass crateRule s v w₀ o₀ (g .fills) t q; full = λ f. absurd (omega arith) };
+        less = omega (arith, next-falls crateRule s v w t q);
       }
 
-      pub goes-record : (r : LineRecord) (t : LineWalk) (o′ : List ℕ) → item r t ≡ turnOf ruled s v w → o′ ≡ store o (12 * n) (recordWords r)
+      pub goes-record : (r : LineRecord) (t : LineWalk) (o′ : List ℕ) → item r t ≡ turnOf crateRule s v w → o′ ≡ store o (12 * n) (recordWords r)
           → Goes n w o (n + 1) t o′
       goes-record r t o′ q eo = record {
-        going = λ w₀ o₀ e g. record { last = t; fills = turns-record ruled s v w₀ o₀ (g .fills) r t o′ q (omega arith) eo; full = λ f. refl };
-        less = omega (arith, record-falls ruled s v w r t q);
+        going = λ w₀ o₀ e g. record { last = t; fills = turns-record crateRule s v w₀ o₀ (g .fills) r t o′ q (omega arith) eo; full = λ f. refl };
+        less = omega (arith, record-falls crateRule s v w r t q);
       }
 
     pub goes-on : {n′ n″ : ℕ} {w′ w″ : LineWalk} {o′ o″ : List ℕ} → Goes n w o n′ w′ o′ → Goes n′ w′ o′ n″ w″ o″ → Goes n w o n″ w″ o″

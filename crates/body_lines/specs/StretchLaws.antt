@@ -10,7 +10,7 @@ use Rattle.word.specs.Word.{u32At, store}
 use Rattle.word.specs.WordLaws.{u32-drop, u32-take, put-length}
 use Rattle.walk.specs.Listing.{item, pass, gives, none}
 use Rattle.refusal.specs.Told.{longest}
-use Rattle.area.specs.Kind.{ruled}
+use Rattle.area.specs.Kind.{crateRule}
 use Rattle.body.specs.Lines.{columned, lineBytes}
 use Rattle.line_record.specs.Flags.{isMarker}
 use Rattle.line_record.specs.Record.{maxOffset, columnIf, startColumn, endColumn, recordOf, entryOf, closedAt}
@@ -21,7 +21,7 @@ use Rattle.line_state_words.specs.LineWords.{recordWords}
 use Rattle.line_state_words.specs.LineWordsLaws.{record-length, record-is}
 use Rattle.lines.specs.Blocks.{LineBlock, blockAt}
 use Rattle.lines.specs.BlocksLaws.{block-in}
-use Rattle.line_step.specs.Turn.{entryAt, withHeld, pastLine, holdIn, lineOf, lineTurn, columnPlace, blockTurn, turnOf}
+use Rattle.line_step.specs.Turn.{lineEntryAt, withHeld, pastLine, holdIn, lineOf, lineTurn, columnPlace, blockTurn, turnOf}
 use Rattle.line_step.specs.TurnLaws.{entry-in, block-lines, inside-block, inside-line, turn-is}
 use Rattle.line_step.specs.declared.Held.{Held}
 use Rattle.line_step.specs.declared.Held.the-variants.{Nothing, One}
@@ -75,7 +75,7 @@ module _ (s v : List ℕ) (p : Place) (f : Fit s p) (i : ℕ) (l : i < p .lines)
   module _ (o g w : ℕ) (eo : o ≡ u32At s (p .line + 8 * i)) (eg : g ≡ u32At s (p .line + 8 * i + 4))
       (ew : columnIf (columned (p .head .flags)) w ≡ columnIf (columned (p .head .flags)) (u32At s (p .column + 4 * i))) where
     entry-words : entryOf (p .head .section) (p .head .offset) (p .file) o g (startColumn (columnIf (columned (p .head .flags)) w)) (endColumn (columnIf (columned (p .head .flags)) w))
-        ≡ entryAt (take (p .end) s) (atLine p i)
+        ≡ lineEntryAt (take (p .end) s) (atLine p i)
     entry-words =
         let b = take (p .end) s in
         let c = columned (p .head .flags) in
@@ -86,11 +86,11 @@ module _ (s v : List ℕ) (p : Place) (f : Fit s p) (i : ℕ) (l : i < p .lines)
         entry-in b (atLine p i) (omega (arith, body-length, f .lines)) (omega (arith, body-length, f .columns)) o g (u32At b (p .column + 4 * i)) c
         (startColumn (columnIf c w)) (endColumn (columnIf c w)) (eo ∙ wo) (eg ∙ wg) refl refl (ap startColumn q) (ap endColumn q)
 
-    line-turn-is : (t : Rest) → lineTurn (take (p .end) s) (atLine p i) t ≡ turnOf ruled s v (Inside (atLine p i) t)
+    line-turn-is : (t : Rest) → lineTurn (take (p .end) s) (atLine p i) t ≡ turnOf crateRule s v (Inside (atLine p i) t)
     line-turn-is t =
-        inside-line s (atLine p i) t (f .body) (λ z. omega arith) ∙ turn-is ruled s v (Inside (atLine p i) t) (f .short) (Inside (atLine p i) t) refl
+        inside-line s (atLine p i) t (f .body) (λ z. omega arith) ∙ turn-is crateRule s v (Inside (atLine p i) t) (f .short) (Inside (atLine p i) t) refl
 
-    pub turn-marker : isMarker g ≡ true → (t : Rest) → pass (Inside (atLine p (i + 1)) t) ≡ turnOf ruled s v (Inside (atLine p i) t)
+    pub turn-marker : isMarker g ≡ true → (t : Rest) → pass (Inside (atLine p (i + 1)) t) ≡ turnOf crateRule s v (Inside (atLine p i) t)
     turn-marker m t =
         ap (λ q. pass (Inside q t)) (sym past-line)
         ∙ ap (lineOf (atLine p i) t) (entry-marker _ _ _ _ _ _ _ m ∙ entry-words)
@@ -98,19 +98,19 @@ module _ (s v : List ℕ) (p : Place) (f : Fit s p) (i : ℕ) (l : i < p .lines)
 
     turn-line : isMarker g ≡ false → p .head .offset + o ≤ maxOffset → (t : Rest) (h : Held)
         → holdIn h (plainOf p (p .head .offset + o) g w) (Inside (atLine p (i + 1)) (withHeld t (One (plainOf p (p .head .offset + o) g w))))
-        ≡ turnOf ruled s v (Inside (atLine p i) (withHeld t h))
+        ≡ turnOf crateRule s v (Inside (atLine p i) (withHeld t h))
     turn-line m k t h =
         ap (λ q. holdIn h (plainOf p (p .head .offset + o) g w) (Inside q (withHeld t (One (plainOf p (p .head .offset + o) g w))))) (sym past-line)
         ∙ ap (lineOf (atLine p i) (withHeld t h)) (entry-line _ _ _ _ _ _ _ m k ∙ entry-words)
         ∙ line-turn-is (withHeld t h)
 
     pub turn-first : isMarker g ≡ false → p .head .offset + o ≤ maxOffset → (t : Rest)
-        → pass (Inside (atLine p (i + 1)) (withHeld t (One (plainOf p (p .head .offset + o) g w)))) ≡ turnOf ruled s v (Inside (atLine p i) (withHeld t Nothing))
+        → pass (Inside (atLine p (i + 1)) (withHeld t (One (plainOf p (p .head .offset + o) g w)))) ≡ turnOf crateRule s v (Inside (atLine p i) (withHeld t Nothing))
     turn-first m k t = turn-line m k t Nothing
 
     pub turn-next : isMarker g ≡ false → p .head .offset + o ≤ maxOffset → (t : Rest) (r : LineRecord)
         → item (closedAt (p .head .section) (p .head .offset + o) r) (Inside (atLine p (i + 1)) (withHeld t (One (plainOf p (p .head .offset + o) g w))))
-        ≡ turnOf ruled s v (Inside (atLine p i) (withHeld t (One r)))
+        ≡ turnOf crateRule s v (Inside (atLine p i) (withHeld t (One r)))
     turn-next m k t r = turn-line m k t (One r)
 
 -- a record put where it fits leaves as many words
@@ -204,7 +204,7 @@ module _ (s : List ℕ) (room : ℕ) (p : Place) (held : Held) (n : ℕ) (o : Li
           next = refl;
           goes = λ v t. goes-pass s v room less (Inside (atLine p 1) (withHeld t held))
               (turn-marker s v p f 0 (omega arith) (u32At s (p .line + 8 * 0)) g (u32At s (p .column + 4 * 0)) refl e refl m (withHeld t held)
-              ∙ ap (λ x. turnOf ruled s v (Inside x (withHeld t held))) (at-none p));
+              ∙ ap (λ x. turnOf crateRule s v (Inside x (withHeld t held))) (at-none p));
         })
 
     -- w is the column word of the line, and m the number of the records with the one that it closed
@@ -238,12 +238,12 @@ module _ (s : List ℕ) (room : ℕ) (p : Place) (held : Held) (n : ℕ) (o : Li
           let ec = ew ∙ ap (λ (x : ℕ). columnIf (columned (p .head .flags)) (u32At s x)) e₁ in
           let l₀ : 0 < p .lines = omega arith in
           go h q
-          (λ x. turn-first s v p f 0 l₀ a g w ea eg ec (d .line) (d .sum) x ∙ ap (λ y. turnOf ruled s v (Inside y (withHeld x Nothing))) (at-none p))
-          (λ r x. turn-next s v p f 0 l₀ a g w ea eg ec (d .line) (d .sum) x r ∙ ap (λ y. turnOf ruled s v (Inside y (withHeld x (One r)))) (at-none p))
+          (λ x. turn-first s v p f 0 l₀ a g w ea eg ec (d .line) (d .sum) x ∙ ap (λ y. turnOf crateRule s v (Inside y (withHeld x Nothing))) (at-none p))
+          (λ r x. turn-next s v p f 0 l₀ a g w ea eg ec (d .line) (d .sum) x r ∙ ap (λ y. turnOf crateRule s v (Inside y (withHeld x (One r)))) (at-none p))
         where
           go : (h : Held) → PutAs h (p .head .section) (p .head .offset + a) n o m o₁
-              → ((x : Rest) → pass (Inside (atLine p 1) (withHeld x (One (plainOf p (p .head .offset + a) g w)))) ≡ turnOf ruled s v (Inside p (withHeld x Nothing)))
-              → ((r : LineRecord) (x : Rest) → item (closedAt (p .head .section) (p .head .offset + a) r) (Inside (atLine p 1) (withHeld x (One (plainOf p (p .head .offset + a) g w)))) ≡ turnOf ruled s v (Inside p (withHeld x (One r))))
+              → ((x : Rest) → pass (Inside (atLine p 1) (withHeld x (One (plainOf p (p .head .offset + a) g w)))) ≡ turnOf crateRule s v (Inside p (withHeld x Nothing)))
+              → ((r : LineRecord) (x : Rest) → item (closedAt (p .head .section) (p .head .offset + a) r) (Inside (atLine p 1) (withHeld x (One (plainOf p (p .head .offset + a) g w)))) ≡ turnOf crateRule s v (Inside p (withHeld x (One r))))
               → Goes s v room n (Inside p (withHeld t h)) o m (insideAt p t first) o₁
           go Nothing q one two = rw (q .0, q .1) (goes-pass s v room less (insideAt p t first) (one t))
           go (One r) q one two =
@@ -303,9 +303,9 @@ module _ (s : List ℕ) (room : ℕ) (p : Place) (held : Held) (n : ℕ) (o : Li
   ride-start f l stuck = record { fit = f; less = l; size = refl; head = refl; end = refl; goes = λ v t. goes-same s v room }
 
   module _ (x : Lined) (o′ : List ℕ) (h : Riding s room p held n o x o′) where
-    block-turn-is : x .place .lines ≡ 0 → (v : List ℕ) (t : Rest) → blockTurn (take (x .place .end) s) (x .place) t ≡ turnOf ruled s v (Inside (x .place) t)
+    block-turn-is : x .place .lines ≡ 0 → (v : List ℕ) (t : Rest) → blockTurn (take (x .place .end) s) (x .place) t ≡ turnOf crateRule s v (Inside (x .place) t)
     block-turn-is z v t =
-        inside-block s (x .place) t (h .fit .body) z ∙ turn-is ruled s v (Inside (x .place) t) (h .fit .short) (Inside (x .place) t) refl
+        inside-block s (x .place) t (h .fit .body) z ∙ turn-is crateRule s v (Inside (x .place) t) (h .fit .short) (Inside (x .place) t) refl
 
     pub ride-block : x .place .lines ≡ 0 → (q : Place) (stuck : Bool) → Opens s (x .place) q → Riding s room p held n o (record { n = x .n; place = q; held = x .held; stuck = stuck }) o′
     ride-block z q stuck k = record {

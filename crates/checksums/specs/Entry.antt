@@ -22,8 +22,8 @@ pub record Entry : Type 0 where
   pub len : ℕ
 
 -- a byte as a kind
-unfoldable pub kindOf : ℕ → Reply ℕ Told
-kindOf k = cond (ltb 3 k) (refused (told (why.UnknownChecksumKind k))) (gave k)
+unfoldable pub checksumKind : ℕ → Reply ℕ Told
+checksumKind k = cond (ltb 3 k) (refused (told (why.UnknownChecksumKind k))) (gave k)
 
 -- how many of its bytes a checksum keeps: kind 0 drops them
 unfoldable pub keptOf : ℕ → ℕ → ℕ
@@ -50,8 +50,8 @@ unfoldable pub entriesFrom : List ℕ → ℕ → Listing Entry Told
 entriesFrom b = all (λ (p : ℕ). moved (entryAt b p)) (λ (p : ℕ). length b - p)
 
 -- an entry with its bytes in place of where they stand
-abbrev pub spelt : List ℕ → Entry → Checksum
-spelt b e = record { name = e .name; kind = e .kind; bytes = take (e .len) (drop (e .start) b) }
+abbrev pub entrySpelt : List ℕ → Entry → Checksum
+entrySpelt b e = record { name = e .name; kind = e .kind; bytes = take (e .len) (drop (e .start) b) }
 
 -- a raw entry as calls answer it: without the bytes of kind 0
 abbrev pub shown : Checksum → Checksum

@@ -17,28 +17,28 @@ use Rattle.walk.specs.ListingLaws.{To, Holds, Every, all-step, all-ind, all-eve
 use Rattle.refusal.specs.Told.{Told, told}
 use Rattle.refusal.specs.declared.Refusal.the-variants as why
 use Rattle.body.specs.Checksums.{Checksum, up4, checksumBite, checksums}
-use Rattle.checksums.specs.Entry.{Entry, kindOf, keptOf, closedAs, entryAt, entriesFrom, spelt, shown}
+use Rattle.checksums.specs.Entry.{Entry, checksumKind, keptOf, closedAs, entryAt, entriesFrom, entrySpelt, shown}
 
 -- ---- the tests of `parse_kind` and `kept`
 
 module _ (k : ℕ) where
-  pub kind-known : k ≤ 3 → (j : ℕ) → j ≡ k → gave j ≡ kindOf k
-  unfolding kindOf
+  pub kind-known : k ≤ 3 → (j : ℕ) → j ≡ k → gave j ≡ checksumKind k
+  unfolding checksumKind
   kind-known h j e = simp (tests, e)
 
-  pub kind-unknown : 3 < k → refused (told (why.UnknownChecksumKind k)) ≡ kindOf k
-  unfolding kindOf
+  pub kind-unknown : 3 < k → refused (told (why.UnknownChecksumKind k)) ≡ checksumKind k
+  unfolding checksumKind
   kind-unknown h = simp tests
 
   -- what its answer says
-  pub kind-gave : (j : ℕ) → gave j ≡ kindOf k → (j ≡ k) × (k ≤ 3)
-  unfolding kindOf
+  pub kind-gave : (j : ℕ) → gave j ≡ checksumKind k → (j ≡ k) × (k ≤ 3)
+  unfolding checksumKind
   kind-gave j = by-cases (λ (x : Reply ℕ Told). gave j ≡ x → (j ≡ k) × (k ≤ 3)) (ltb 3 k)
       (λ a e. let z : _≡_ {A = ℕ} 0 1 = cc in absurd (omega arith))
       (λ a e. (cc, ltb-false 3 k a))
 
-  pub kind-refused : (t : Told) → refused t ≡ kindOf k → (t ≡ told (why.UnknownChecksumKind k)) × (3 < k)
-  unfolding kindOf
+  pub kind-refused : (t : Told) → refused t ≡ checksumKind k → (t ≡ told (why.UnknownChecksumKind k)) × (3 < k)
+  unfolding checksumKind
   kind-refused t = by-cases (λ (x : Reply ℕ Told). refused t ≡ x → (t ≡ told (why.UnknownChecksumKind k)) × (3 < k)) (ltb 3 k)
       (λ a e. (cc, ltb-true 3 k a))
       (λ a e. let z : _≡_ {A = ℕ} 0 1 = cc in absurd (omega arith))
@@ -54,13 +54,13 @@ kept-all k n h = simp tests
 -- ---- the tests of `closed`
 
 module _ (m name kind start size : ℕ) where
-  pub closed-kind : (t : Told) → refused t ≡ kindOf kind → refuses t ≡ closedAs m name kind start size
+  pub closed-kind : (t : Told) → refused t ≡ checksumKind kind → refuses t ≡ closedAs m name kind start size
   unfolding closedAs
   closed-kind t e =
       let h = kind-refused kind t e in
       rw (lt-ltb 3 kind (h .1)) (ap refuses (h .0))
 
-  module _ (j : ℕ) (e : gave j ≡ kindOf kind) where
+  module _ (j : ℕ) (e : gave j ≡ checksumKind kind) where
     pub closed-cut : m < up4 (start + size) → refuses (told why.Cut) ≡ closedAs m name kind start size
     unfolding closedAs
     closed-cut h = rw (le-ltb 3 kind (kind-gave kind j e .1), lt-ltb m (up4 (start + size)) h)
@@ -278,7 +278,7 @@ module _ (b : List ℕ) {C : Type 0} (f : Entry → C) (g : Checksum → C)
       0 (omega arith) refl
 
 -- so with their bytes they are those of the body, but for what kind 0 drops
-pub entries-mean : (b : List ℕ) → mapped (spelt b) (λ (t : Told). t) (entriesFrom b 0) ≡ mapped shown (λ (t : Told). t) (checksums b)
+pub entries-mean : (b : List ℕ) → mapped (entrySpelt b) (λ (t : Told). t) (entriesFrom b 0) ≡ mapped shown (λ (t : Told). t) (checksums b)
 entries-mean b =
-    entries-as b (spelt b) shown
+    entries-as b (entrySpelt b) shown
     (λ p h. λ i. record { name = u32At b p; kind = getD b (p + 5) 0; bytes = kept-bytes (getD b (p + 5) 0) (getD b (p + 4) 0) (drop (p + 6) b) i })

@@ -6,7 +6,7 @@
 ghost use mathlib.Core.Path.{_≡_};
 ghost use Prim.Native.Nat.{_+_, _≤_};
 ghost use lib.ListN.{length};
-ghost use Rattle.checksums.specs.Entry.{kindOf, keptOf, closedAs, entryAt};
+ghost use Rattle.checksums.specs.Entry.{checksumKind, keptOf, closedAs, entryAt};
 ghost use Rattle.checksums.specs.Equal.{equalBytes, equalSums};
 ghost use Rattle.checksums.specs.Told.{toldKind, toldParsed, toldEntry};
 use refusal::Refusal;
@@ -27,7 +27,7 @@ pub enum ParsedKind {
 
 // The kind that a byte says (crate: `FileChecksumKind::parse`).
 pub fn parse_kind(value: u8) -> ParsedKind
-    ensures { λ r. ⌜ toldParsed r ≡ kindOf value ⌝ }
+    ensures { λ r. ⌜ toldParsed r ≡ checksumKind value ⌝ }
 {
     match value {
         0 => ParsedKind::Kind(ChecksumKind::None),

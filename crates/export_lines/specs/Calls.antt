@@ -4,7 +4,7 @@
 -- Definitions only; a reader must believe them.
 use Prim.Native.Nat.{ℕ}
 use mathlib.Core.List.{List}
-use Rattle.area.specs.Kind.{ruled}
+use Rattle.area.specs.Kind.{crateRule}
 use Rattle.order.specs.Order.{ordered, slotsAfter}
 use Rattle.line_walk.specs.Next.{nextOf}
 use Rattle.symbol_lines.specs.Symbol.{symbolWalk}
@@ -13,14 +13,14 @@ use Rattle.line_state_words.specs.LineWords.{lineWalkIn, lineWalkWords, lineWor
 
 -- with n slots
 abbrev pub orderGiven : List ℕ → ℕ → List ℕ → Given
-orderGiven s n o = ifRoom 2 o (replyGiven one (ordered ruled s n)) shortGiven
+orderGiven s n o = ifRoom 2 o (replyGiven one (ordered crateRule s n)) shortGiven
 
 -- the slots after it
 abbrev pub slotsLeft : List ℕ → List ℕ → List ℕ → List ℕ
-slotsLeft s v o = ifRoom 2 o (slotsAfter ruled s v) v
+slotsLeft s v o = ifRoom 2 o (slotsAfter crateRule s v) v
 
 abbrev pub lineGiven : List ℕ → List ℕ → List ℕ → Given
-lineGiven s v o = stepGiven 27 lineWords (nextOf ruled s v (lineWalkIn o))
+lineGiven s v o = stepGiven 27 lineWords (nextOf crateRule s v (lineWalkIn o))
 
 abbrev pub symbolGiven : List ℕ → List ℕ → ℕ → ℕ → Given
-symbolGiven s v section offset = replyGiven lineWalkWords (symbolWalk ruled s v section offset)
+symbolGiven s v section offset = replyGiven lineWalkWords (symbolWalk crateRule s v section offset)

@@ -5,15 +5,15 @@
 use Prim.Native.Nat.{ℕ}
 use mathlib.Core.List.{List}
 use lib.ListN.{length}
-use Rattle.area.specs.Kind.{ruled}
+use Rattle.area.specs.Kind.{crateRule}
 use Rattle.answer_words.specs.Given.{Given}
 use Rattle.answer_words.specs.FillGiven.{fillGiven, fillLeft}
 use Rattle.line_state_words.specs.LineWords.{lineWalkIn, lineWalkWords, recordWords}
 use Rattle.many_lines.specs.Lines.{linesOf}
 
 abbrev pub linesGiven : List ℕ → List ℕ → ℕ → List ℕ → Given
-linesGiven s v n o = fillGiven 27 lineWalkWords o (linesOf ruled s v n (lineWalkIn o))
+linesGiven s v n o = fillGiven 27 lineWalkWords o (linesOf crateRule s v n (lineWalkIn o))
 
 -- the words x lent for records, after it
 abbrev pub recordsLeft : List ℕ → List ℕ → List ℕ → List ℕ → List ℕ
-recordsLeft s v x o = fillLeft 27 recordWords o x (linesOf ruled s v (length x) (lineWalkIn o))
+recordsLeft s v x o = fillLeft 27 recordWords o x (linesOf crateRule s v (length x) (lineWalkIn o))

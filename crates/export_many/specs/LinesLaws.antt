@@ -6,7 +6,7 @@ use native.Mathlib.Omega.{arith}
 use lib.ListN.{length, length-append}
 use Rattle.word.specs.Word.{put}
 use Rattle.word.specs.WordLaws.{put-length, store-put}
-use Rattle.area.specs.Kind.{ruled}
+use Rattle.area.specs.Kind.{crateRule}
 use Rattle.answer_words.specs.Given.{given, Gives}
 use Rattle.answer_words.specs.GivenLaws.{gives-put}
 use Rattle.answer_words.specs.PiecesLaws.{put-join}
@@ -36,4 +36,4 @@ module _ (o p q : List ℕ) (w : LineWalk) (n r k : ℕ) (room : 29 ≤ length o
 
 -- THE LAW: with any status but 1 the words lent for records are as they were
 pub lines-careful : (s v x o : List ℕ) {r : ℕ} {left : List ℕ} → Gives o (linesGiven s v (length x) o) r left → (r ≡ 1 → ⊥) → recordsLeft s v x o ≡ x
-lines-careful s v x o = fill-careful 27 lineWalkWords recordWords o x (linesOf ruled s v (length x) (lineWalkIn o)) walk-length
+lines-careful s v x o = fill-careful 27 lineWalkWords recordWords o x (linesOf crateRule s v (length x) (lineWalkIn o)) walk-length

@@ -4,7 +4,7 @@
 use Prim.Native.Nat.{ℕ}
 use mathlib.Core.List.{List}
 use lib.ListN.{getD}
-use Rattle.area.specs.Kind.{ruled}
+use Rattle.area.specs.Kind.{crateRule}
 use Rattle.area.specs.Subs.{stepAt}
 use Rattle.strings.specs.Strings.{namesOf, nameAt}
 use Rattle.modi.specs.Modi.{moduleSymbols, linesSpan, tablesSpan}
@@ -12,7 +12,7 @@ use Rattle.answer_words.specs.Given.{Given, stepGiven, replyGiven}
 use Rattle.export_parts.specs.Words.{subWords, yes, spanWords, outcomeGiven}
 
 abbrev pub subGiven : List ℕ → List ℕ → Given
-subGiven s o = stepGiven 1 subWords (stepAt ruled s (getD o 0 0))
+subGiven s o = stepGiven 1 subWords (stepAt crateRule s (getD o 0 0))
 
 abbrev pub namesGiven : List ℕ → Given
 namesGiven s = outcomeGiven (namesOf s)

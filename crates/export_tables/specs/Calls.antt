@@ -2,7 +2,7 @@
 -- Definitions only; a reader must believe them.
 use Prim.Native.Nat.{ℕ}
 use mathlib.Core.List.{List}
-use Rattle.area.specs.Kind.{ruled}
+use Rattle.area.specs.Kind.{crateRule}
 use Rattle.rows.specs.Words.{wordIn}
 use Rattle.inlinees.specs.Inlinees.{inlineeStep}
 use Rattle.imports.specs.Imports.{importStep, resolveImport}
@@ -16,19 +16,19 @@ abbrev pub wordGiven : List ℕ → ℕ → ℕ → ℕ → Given
 wordGiven s words count i = replyGiven one (wordIn s words count i)
 
 abbrev pub inlineeGiven : List ℕ → List ℕ → Given
-inlineeGiven s o = stepGiven 4 (tableWords inlineeWords) (inlineeStep ruled s (walkIn o))
+inlineeGiven s o = stepGiven 4 (tableWords inlineeWords) (inlineeStep crateRule s (walkIn o))
 
 abbrev pub moduleGiven : List ℕ → List ℕ → Given
-moduleGiven s o = stepGiven 4 (tableWords moduleWords) (importStep ruled s (walkIn o))
+moduleGiven s o = stepGiven 4 (tableWords moduleWords) (importStep crateRule s (walkIn o))
 
 abbrev pub refGiven : List ℕ → ℕ → Given
-refGiven s index = replyGiven refWords (resolveImport ruled s index)
+refGiven s index = replyGiven refWords (resolveImport crateRule s index)
 
 abbrev pub exportGiven : List ℕ → List ℕ → Given
-exportGiven s o = stepGiven 4 (tableWords exportWords) (exportStep ruled s (walkIn o))
+exportGiven s o = stepGiven 4 (tableWords exportWords) (exportStep crateRule s (walkIn o))
 
 abbrev pub countGiven : List ℕ → Given
-countGiven s = replyGiven one (exportCount ruled s)
+countGiven s = replyGiven one (exportCount crateRule s)
 
 abbrev pub globalGiven : List ℕ → ℕ → Given
-globalGiven s local = replyGiven one (resolveExport ruled s local)
+globalGiven s local = replyGiven one (resolveExport crateRule s local)

@@ -1,4 +1,4 @@
--- What each writer call gives, and the buffer after it. The call is an item of the full reading, b the buffer, w the place behind what is written, and o
+-- What each writer call gives, and the buffer bufferAfter it. The call is an item of the full reading, b the buffer, w the place behind what is written, and o
 -- the lent words. A call changes the buffer only with two words to answer into.
 -- Source: docs/DECISIONS.md, 32.
 -- Definitions only; a reader must believe them.
@@ -7,7 +7,7 @@ use mathlib.Core.List.{List, [], _∷_}
 use mathlib.Core.Option.{Option, none, some}
 use Rattle.reading.specs.Reading.{Item}
 use Rattle.plain.specs.Plain.{Last, plainOf}
-use Rattle.writer_decides.specs.Calls.{answered, after}
+use Rattle.writer_decides.specs.Calls.{answered, bufferAfter}
 use Rattle.answer_words.specs.Given.{Given, given, noneGiven, one, replyGiven, ifRoom, shortGiven}
 
 -- the place behind what is written then
@@ -15,7 +15,7 @@ unfoldable pub wroteGiven : Item → List ℕ → ℕ → List ℕ → Given
 wroteGiven it b w o = ifRoom 2 o (replyGiven one (answered it b w)) shortGiven
 
 unfoldable pub bufferLeft : Item → List ℕ → ℕ → List ℕ → List ℕ
-bufferLeft it b w o = ifRoom 2 o (after it b w) b
+bufferLeft it b w o = ifRoom 2 o (bufferAfter it b w) b
 
 -- what is last in a plain area: its header's place, its kind and its mark, all 0 where there is none; an area that is not plain has no words
 abbrev pub lastGiven : Option Last → Given

@@ -6,7 +6,7 @@ use lib.ListN.{length}
 use Rattle.walk.specs.Listing.{Reply}
 use Rattle.refusal.specs.Told.{Told}
 use Rattle.reading.specs.Reading.{Item}
-use Rattle.writer_decides.specs.Calls.{Act, goes, stops, act, patch, wrote, kept, answered, after}
+use Rattle.writer_decides.specs.Calls.{Act, goes, stops, act, patch, wrote, kept, answered, bufferAfter}
 use Rattle.answer_words.specs.Given.{Gives, one, replyGiven}
 use Rattle.answer_words.specs.GivenLaws.{gives-as, room-changes, room-keeps, Still, room-careful}
 use Rattle.export_write.specs.Calls.{wroteGiven, bufferLeft}
@@ -14,17 +14,17 @@ use Rattle.export_write.specs.Calls.{wroteGiven, bufferLeft}
 module _ (it : Item) (b : List ℕ) (w : ℕ) (o : List ℕ) where
   pub writer-keeps : length o < 2 → Gives o (wroteGiven it b w o) 3 o × (b ≡ bufferLeft it b w o)
   unfolding wroteGiven bufferLeft
-  writer-keeps h = room-keeps 2 o (replyGiven one (answered it b w)) b (after it b w) h
+  writer-keeps h = room-keeps 2 o (replyGiven one (answered it b w)) b (bufferAfter it b w) h
 
-  pub writer-goes : {x : Reply ℕ Told} {y left : List ℕ} {r : ℕ} → 2 ≤ length o → (x ≡ answered it b w) × (y ≡ after it b w) → Gives o (replyGiven one x) r left
+  pub writer-goes : {x : Reply ℕ Told} {y left : List ℕ} {r : ℕ} → 2 ≤ length o → (x ≡ answered it b w) × (y ≡ bufferAfter it b w) → Gives o (replyGiven one x) r left
       → Gives o (wroteGiven it b w o) r left × (y ≡ bufferLeft it b w o)
   unfolding wroteGiven bufferLeft
-  writer-goes h e g = room-changes 2 o (replyGiven one (answered it b w)) b (after it b w) h (gives-as (replyGiven one) (e .0) g) (e .1)
+  writer-goes h e g = room-changes 2 o (replyGiven one (answered it b w)) b (bufferAfter it b w) h (gives-as (replyGiven one) (e .0) g) (e .1)
 
   -- THE LAW: with any status but 1 the buffer is as it was
   pub writer-careful : {r : ℕ} {left : List ℕ} → Gives o (wroteGiven it b w o) r left → (r ≡ 1 → ⊥) → bufferLeft it b w o ≡ b
   unfolding wroteGiven bufferLeft
-  writer-careful g z = room-careful o (answered it b w) b (after it b w) (still (act it b w)) g z
+  writer-careful g z = room-careful o (answered it b w) b (bufferAfter it b w) (still (act it b w)) g z
     where
       still : (a : Act) → Still (wrote a) b (kept a (patch it b w) b)
       still (goes h m n) = tt

@@ -16,7 +16,7 @@ use Rattle.body.specs.Exports.{Pair, pairBite, pairs}
 use Rattle.table.specs.declared.TableWalk.{TableWalk}
 use Rattle.table.specs.Table.{shifted, tableStep, tableOf}
 use Rattle.rows.specs.Rows.{rowAt, rowsFrom}
-use Rattle.rows.specs.Collect.{onGave, collected, counted}
+use Rattle.rows.specs.Collect.{onGave, collected, listingCount}
 
 -- an export, local and global index
 pub data Export : Type 0 where
@@ -44,7 +44,7 @@ abbrev pub exportsOf : (ℕ → Sort) → List ℕ → Listing Export Told
 exportsOf rule s = mapped exportOf same (pairsOf rule s)
 
 abbrev pub exportCount : (ℕ → Sort) → List ℕ → Reply ℕ Told
-exportCount rule s = counted (pairsOf rule s)
+exportCount rule s = listingCount (pairsOf rule s)
 
 -- each local index is above the one before it
 abbrev pub above : ℕ → List Pair → Bool

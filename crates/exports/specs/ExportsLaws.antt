@@ -23,9 +23,9 @@ use Rattle.table.specs.declared.TableWalk.the-variants as walk
 use Rattle.table.specs.Table.{tableOf}
 use Rattle.table.specs.StepLaws.{Steps, steps}
 use Rattle.table.specs.TableLaws.{table-walk, first-finds}
-use Rattle.rows.specs.Rows.{placed, rowAt, rowsFrom}
+use Rattle.rows.specs.Rows.{rowsPlaced, rowAt, rowsFrom}
 use Rattle.rows.specs.RowsLaws.{Bitten, bites-step, rows-step, rows-in}
-use Rattle.rows.specs.Collect.{onGave, collected, counted}
+use Rattle.rows.specs.Collect.{onGave, collected, listingCount}
 use Rattle.rows.specs.CollectLaws.{mapped-same, collected-length}
 use Rattle.exports.specs.Told.{toldPair}
 use Rattle.exports.specs.Exports.{Export, aType, anId, exportOf, pairSize, unplaced, exportIn, pairsOf, exportsOf, exportCount, above, ascends, globalOf, lookup, pairAt, exportShown, exportStep, pairsFrom}
@@ -103,8 +103,8 @@ pairs-right b p = by (eqb (length b % 8) 0)
     by true = rows-step pairBite pairSize unplaced bitten b p
     by false = refl
 
-placed-same : (p : ℕ) (l : Listing Pair Told) → placed pairSize unplaced p l ≡ l
-unfolding placed
+placed-same : (p : ℕ) (l : Listing Pair Told) → rowsPlaced pairSize unplaced p l ≡ l
+unfolding rowsPlaced
 placed-same p (more r l) = ap (more r) (placed-same (p + 8) l)
 placed-same p ends = refl
 placed-same p (fails t) = refl
@@ -130,7 +130,7 @@ exports-walk rule s n =
     ∙ ap (replies n) (shown s (firstSub rule 0xf8 s))
 
 -- THE THEOREM on the count: as many as the walk gives
-pub count-is : (rule : ℕ → Sort) (s : List ℕ) → counted (exportsOf rule s) ≡ exportCount rule s
+pub count-is : (rule : ℕ → Sort) (s : List ℕ) → listingCount (exportsOf rule s) ≡ exportCount rule s
 count-is rule s = collected-length exportOf (pairsOf rule s)
 
 -- ---- the pairs of a body as a list
@@ -193,11 +193,11 @@ module _ (b : List ℕ) where
 
   -- ---- `count_in`
 
-  pub count-whole : length b % 8 ≡ 0 → gave (length b / 8) ≡ counted (pairs b)
+  pub count-whole : length b % 8 ≡ 0 → gave (length b / 8) ≡ listingCount (pairs b)
   unfolding pairsBehind
   count-whole h = ap gave (omega (arith, list-length ((length b - 0) / 8) b)) ∙ ap (onGave (λ (ps : List Pair). gave (length ps))) (pairs-whole h)
 
-  pub count-odd : (length b % 8 ≡ 0 → ⊥) → refused (told why.ExportLength) ≡ counted (pairs b)
+  pub count-odd : (length b % 8 ≡ 0 → ⊥) → refused (told why.ExportLength) ≡ listingCount (pairs b)
   count-odd h = ap (onGave (λ (ps : List Pair). gave (length ps))) (pairs-odd h)
 
   -- ---- `lookup_in`

@@ -26,10 +26,10 @@ toldPair (pair.Pair l g x) = gives (record { local = l; global = g }) x
 toldPair pair.None = none
 toldPair (pair.Refused r) = refuses (told r)
 
-abbrev pub toldStep : ExportStep → Answer TableWalk Export Told
-toldStep (step.Export e w) = gives (toldExport e) w
-toldStep step.None = none
-toldStep (step.Refused r) = refuses (told r)
+abbrev pub toldExportStep : ExportStep → Answer TableWalk Export Told
+toldExportStep (step.Export e w) = gives (toldExport e) w
+toldExportStep step.None = none
+toldExportStep (step.Refused r) = refuses (told r)
 
 abbrev pub toldCount : Count → Reply ℕ Told
 toldCount (count.Exports n) = gave n

@@ -17,7 +17,7 @@ use Rattle.exports.specs.declared.Count.{Count}
 use Rattle.exports.specs.declared.Count.the-variants as count
 use Rattle.exports.specs.declared.Lookup.{Lookup}
 use Rattle.exports.specs.declared.Lookup.the-variants as found
-use Rattle.exports.specs.Told.{toldExport, toldPair, toldStep, toldCount, toldLookup}
+use Rattle.exports.specs.Told.{toldExport, toldPair, toldExportStep, toldCount, toldLookup}
 
 abbrev pub untoldExport : Export → CrossModuleExport
 untoldExport (aType l g) = export.Type l g
@@ -42,7 +42,7 @@ untoldStep (gives e w) = step.Export (untoldExport e) w
 untoldStep none = step.None
 untoldStep (refuses t) = step.Refused (untold t)
 
-pub untold-step : (h : ExportStep) → untoldStep (toldStep h) ≡ h
+pub untold-step : (h : ExportStep) → untoldStep (toldExportStep h) ≡ h
 untold-step (step.Export e w) = ap (λ (x : CrossModuleExport). step.Export x w) (untold-export e)
 untold-step step.None = refl
 untold-step (step.Refused r) = ap step.Refused (untold-told r)

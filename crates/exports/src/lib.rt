@@ -3,12 +3,12 @@
 //
 // Listing takes any order; a lookup first tests that the local indices ascend.
 ghost use mathlib.Core.Path.{_≡_};
-ghost use Rattle.area.specs.Kind.{ruled};
+ghost use Rattle.area.specs.Kind.{crateRule};
 ghost use Rattle.body.specs.Exports.{pairs};
-ghost use Rattle.rows.specs.Collect.{onGave, collected, counted};
+ghost use Rattle.rows.specs.Collect.{onGave, collected, listingCount};
 ghost use Rattle.exports.specs.Exports.{exportOf, pairAt, exportShown, exportStep, exportCount, ascends, globalOf, lookup, resolveExport};
 ghost use Rattle.exports.specs.ExportsLaws.{pairsBehind};
-ghost use Rattle.exports.specs.Told.{toldExport, toldPair, toldStep, toldCount, toldLookup};
+ghost use Rattle.exports.specs.Told.{toldExport, toldPair, toldExportStep, toldCount, toldLookup};
 use find::Found;
 use find::first_of;
 use refusal::Refusal;
@@ -81,7 +81,7 @@ pub enum ExportStep {
 }
 
 fn export_step(start: usize, len: usize, step: PairStep) -> ExportStep
-    ensures { λ r. ⌜ toldStep r ≡ exportShown start len (toldPair step) ⌝ }
+    ensures { λ r. ⌜ toldExportStep r ≡ exportShown start len (toldPair step) ⌝ }
 {
     match step {
         PairStep::Pair {
@@ -102,7 +102,7 @@ fn export_step(start: usize, len: usize, step: PairStep) -> ExportStep
 }
 
 pub fn next_export(area: &[u8], walk: TableWalk) -> ExportStep
-    ensures { λ r. ⌜ toldStep r ≡ exportStep ruled (now (area .entry)) walk ⌝ }
+    ensures { λ r. ⌜ toldExportStep r ≡ exportStep crateRule (now (area .entry)) walk ⌝ }
 {
     match spot_first(area, CROSS_SCOPE_EXPORTS, walk) {
         Spot::At { start, len, at } => export_step(
@@ -122,7 +122,7 @@ pub enum Count {
 }
 
 fn count_in(body: &[u8]) -> Count
-    ensures { λ r. ⌜ toldCount r ≡ counted (pairs (now (body .entry))) ⌝ }
+    ensures { λ r. ⌜ toldCount r ≡ listingCount (pairs (now (body .entry))) ⌝ }
 {
     let len = body.len();
     if len % 8 == 0 {
@@ -133,7 +133,7 @@ fn count_in(body: &[u8]) -> Count
 }
 
 pub fn export_count(area: &[u8]) -> Count
-    ensures { λ r. ⌜ toldCount r ≡ exportCount ruled (now (area .entry)) ⌝ }
+    ensures { λ r. ⌜ toldCount r ≡ exportCount crateRule (now (area .entry)) ⌝ }
 {
     match first_of(area, CROSS_SCOPE_EXPORTS) {
         Found::At { start, len } => count_in(&area[start..start + len]),
@@ -197,7 +197,7 @@ fn lookup_in(body: &[u8], local: u32) -> Lookup
 }
 
 pub fn resolve_export(area: &[u8], local: u32) -> Lookup
-    ensures { λ r. ⌜ toldLookup r ≡ resolveExport ruled (now (area .entry)) local ⌝ }
+    ensures { λ r. ⌜ toldLookup r ≡ resolveExport crateRule (now (area .entry)) local ⌝ }
 {
     match first_of(area, CROSS_SCOPE_EXPORTS) {
         Found::At { start, len } => lookup_in(&area[start..start + len], local),

@@ -77,5 +77,5 @@ unfoldable pub partOf : List ℕ → ℕ → ℕ → Span
 partOf s start len = held (spotIn s start len 0)
 
 -- a file with its checksum's bytes in place of where they stand
-abbrev pub spelt : List ℕ → File → Checksum
-spelt s f = record { name = f .info .name; kind = f .info .kind; bytes = bytesAt s (partOf s (f .info .start) (f .info .len)) }
+abbrev pub fileSpelt : List ℕ → File → Checksum
+fileSpelt s f = record { name = f .info .name; kind = f .info .kind; bytes = bytesAt s (partOf s (f .info .start) (f .info .len)) }

@@ -24,7 +24,7 @@ use Rattle.checksums.specs.Entry as entry
 use Rattle.checksums.specs.Told.{toldEntry}
 use Rattle.checksums.specs.EntryLaws.{entry-lies, entries-step, entries-mean, In, entries-in, Stands, entries-stand}
 use Rattle.lines.specs.Lines.{countLines}
-use Rattle.files.specs.Files.{Info, File, infoOf, fileOf, ifPassed, filesSub, fileStep, filesIn, atIndex, fileIn, fileAt, held, partOf, spelt}
+use Rattle.files.specs.Files.{Info, File, infoOf, fileOf, ifPassed, filesSub, fileStep, filesIn, atIndex, fileIn, fileAt, held, partOf, fileSpelt}
 
 -- ---- the checksum body
 
@@ -120,12 +120,12 @@ part-inside s start len m h = ap held (sym (spot-inside s start len 0 m h))
 -- THE THEOREM: the files of an area, with their checksums' bytes as `checksum_bytes` hands them back, are what the bytes of its last checksum body
 -- say, but for what kind 0 drops
 pub files-mean : (rule : ℕ → Sort) (s : List ℕ)
-    → mapped (spelt s) same (filesIn rule s) ≡ ofBody (λ (b : List ℕ). mapped shown same (checksums b)) (mapReply (bytesAt s) same (filesSub rule s))
+    → mapped (fileSpelt s) same (filesIn rule s) ≡ ofBody (λ (b : List ℕ). mapped shown same (checksums b)) (mapReply (bytesAt s) same (filesSub rule s))
 files-mean rule s =
-    table-means (λ (b : List ℕ). entriesFrom b 0) fileOf In (λ b. entries-in b 0) s spelt entry.spelt moves (filesSub rule s) (files-finds rule s)
+    table-means (λ (b : List ℕ). entriesFrom b 0) fileOf In (λ b. entries-in b 0) s fileSpelt entry.entrySpelt moves (filesSub rule s) (files-finds rule s)
     ∙ ap (λ (f : List ℕ → Listing Checksum Told). ofBody f (mapReply (bytesAt s) same (filesSub rule s))) (λ i b. entries-mean b i)
   where
-    moves : (start n : ℕ) (e : Entry) → start + n ≤ length s → length s ≤ longest → In n e → spelt s (fileOf start e) ≡ entry.spelt (take n (drop start s)) e
+    moves : (start n : ℕ) (e : Entry) → start + n ≤ length s → length s ≤ longest → In n e → fileSpelt s (fileOf start e) ≡ entry.entrySpelt (take n (drop start s)) e
     moves start n e h m q =
         let bytes : bytesAt s (partOf s (start + e .start) (e .len)) ≡ take (e .len) (drop (e .start) (take n (drop start s)))
         = ap (bytesAt s) (part-inside s (start + e .start) (e .len) m (omega arith))

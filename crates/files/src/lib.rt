@@ -6,7 +6,7 @@
 ghost use mathlib.Core.Path.{_≡_};
 ghost use Prim.Native.Nat.{_+_, _≤_};
 ghost use lib.ListN.{length};
-ghost use Rattle.area.specs.Kind.{ruled};
+ghost use Rattle.area.specs.Kind.{crateRule};
 ghost use Rattle.find.specs.Find.{HandsSpan};
 ghost use Rattle.find.specs.Told.{toldFound};
 ghost use Rattle.table.specs.Table.{spotOf};
@@ -29,7 +29,7 @@ use table::spot_new;
 
 // Where the checksum body stands.
 pub fn checksum_body(area: &[u8]) -> Found
-    ensures { λ r. ⌜ toldFound r ≡ filesSub ruled (now (area .entry)) ⌝ }
+    ensures { λ r. ⌜ toldFound r ≡ filesSub crateRule (now (area .entry)) ⌝ }
 {
     match count_lines(area) {
         Counted::Lines(_) => last_of(area, 0xf4),
@@ -38,7 +38,7 @@ pub fn checksum_body(area: &[u8]) -> Found
 }
 
 fn spot_files(area: &[u8], walk: TableWalk) -> Spot
-    ensures { λ r. ⌜ toldSpot r ≡ spotOf (filesSub ruled (now (area .entry))) (now (area .entry)) walk ⌝ }
+    ensures { λ r. ⌜ toldSpot r ≡ spotOf (filesSub crateRule (now (area .entry))) (now (area .entry)) walk ⌝ }
 {
     match walk {
         TableWalk::New => spot_new(checksum_body(area)),
@@ -61,7 +61,7 @@ pub enum FileStep {
 }
 
 pub fn next_file(area: &[u8], walk: TableWalk) -> FileStep
-    ensures { λ r. ⌜ toldFile r ≡ fileStep ruled (now (area .entry)) walk ⌝ }
+    ensures { λ r. ⌜ toldFile r ≡ fileStep crateRule (now (area .entry)) walk ⌝ }
 {
     match spot_files(area, walk) {
         Spot::At { start, len, at } => match entry_at(&area[start..start + len], at) {
@@ -127,7 +127,7 @@ fn file_in(area: &[u8], start: usize, len: usize, index: u32) -> FileAnswer
 
 // The file at an index. Without a checksum subsection the body is empty.
 pub fn file_at(area: &[u8], index: u32) -> FileAnswer
-    ensures { λ r. ⌜ toldInfo r ≡ fileAt ruled (now (area .entry)) index ⌝ }
+    ensures { λ r. ⌜ toldInfo r ≡ fileAt crateRule (now (area .entry)) index ⌝ }
 {
     match checksum_body(area) {
         Found::At { start, len } => file_in(area, start, len, index),

@@ -1,6 +1,6 @@
 // The first and the last subsection of a kind, by their place in the lent area.
 ghost use mathlib.Core.Path.{_≡_};
-ghost use Rattle.area.specs.Kind.{ruled};
+ghost use Rattle.area.specs.Kind.{crateRule};
 ghost use Rattle.find.specs.Find.{firstSub, lastSub};
 ghost use Rattle.find.specs.Told.{toldFound};
 use area::SubStep;
@@ -15,7 +15,7 @@ pub enum Found {
 
 // The first subsection of a kind: nothing behind it is read, all before it must pass.
 pub fn first_of(area: &[u8], wanted: u32) -> Found
-    ensures { λ r. ⌜ toldFound r ≡ firstSub ruled wanted (now (area .entry)) ⌝ }
+    ensures { λ r. ⌜ toldFound r ≡ firstSub crateRule wanted (now (area .entry)) ⌝ }
 {
     let mut p: usize = 0;
     loop {
@@ -43,7 +43,7 @@ pub fn first_of(area: &[u8], wanted: u32) -> Found
 
 // The last one: the whole area must pass.
 pub fn last_of(area: &[u8], wanted: u32) -> Found
-    ensures { λ r. ⌜ toldFound r ≡ lastSub ruled wanted (now (area .entry)) ⌝ }
+    ensures { λ r. ⌜ toldFound r ≡ lastSub crateRule wanted (now (area .entry)) ⌝ }
 {
     let mut best = Found::None;
     let mut p: usize = 0;

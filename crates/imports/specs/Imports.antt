@@ -16,7 +16,7 @@ use Rattle.body.specs.Words.{wordsIn}
 use Rattle.body.specs.Imports.{Module, moduleBite, modules}
 use Rattle.table.specs.declared.TableWalk.{TableWalk}
 use Rattle.table.specs.Table.{tableStep, tableOf}
-use Rattle.rows.specs.Rows.{placed, rowAt, rowsFrom}
+use Rattle.rows.specs.Rows.{rowsPlaced, rowAt, rowsFrom}
 use Rattle.rows.specs.Collect.{onGave, collected, ofNth}
 
 -- THE MODULES of an area
@@ -40,14 +40,14 @@ unfoldable pub ifRef : ℕ → Reply Ref Told → Reply Ref Told
 ifRef index y = cond (eqb (index / 0x8000_0000 % 2) 1) y (refused (told (why.NotACrossModuleRef index)))
 
 -- the word of a module that it picks, else 6
-abbrev pub wordOf : ℕ → Module → Reply Ref Told
-wordOf index m =
+abbrev pub refIn : ℕ → Module → Reply Ref Told
+refIn index m =
     ofNth (idOf index) (m .words) (refused (told (why.CrossModuleRefNotFound index))) (λ (w : ℕ). gave (record { name = m .name; word = w }))
 
 -- of the module that it picks, else 6
 abbrev pub refOf : ℕ → List Module → Reply Ref Told
 refOf index ms =
-    ifRef index (ofNth (scopeOf index) ms (refused (told (why.CrossModuleRefNotFound index))) (wordOf index))
+    ifRef index (ofNth (scopeOf index) ms (refused (told (why.CrossModuleRefNotFound index))) (refIn index))
 
 abbrev pub resolveImport : (ℕ → Sort) → List ℕ → ℕ → Reply Ref Told
 resolveImport rule s index = onGave (refOf index) (collected (modulesOf rule s))
@@ -75,7 +75,7 @@ inArea start m = record { name = m .name; words = start + m .words; count = m .c
 
 -- THE IMPORTS of an area: its modules with their places
 abbrev pub importsOf : (ℕ → Sort) → List ℕ → Listing ModuleAt Told
-importsOf rule s = tableOf (λ (b : List ℕ). placed moduleSize moduleShown 0 (modules b)) inArea s (firstSub rule 0xf7 s)
+importsOf rule s = tableOf (λ (b : List ℕ). rowsPlaced moduleSize moduleShown 0 (modules b)) inArea s (firstSub rule 0xf7 s)
 
 -- one step of a walk over them: the module at a place of the body, and where the walk goes on
 abbrev pub moduleAt : List ℕ → ℕ → Answer ℕ ModuleAt Told

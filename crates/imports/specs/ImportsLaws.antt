@@ -25,13 +25,13 @@ use Rattle.table.specs.declared.TableWalk.the-variants as walk
 use Rattle.table.specs.Table.{tableOf}
 use Rattle.table.specs.StepLaws.{Steps, steps}
 use Rattle.table.specs.TableLaws.{table-walk, first-finds}
-use Rattle.rows.specs.Rows.{placed, rowAt}
+use Rattle.rows.specs.Rows.{rowsPlaced, rowAt}
 use Rattle.rows.specs.RowsLaws.{Bitten, rows-step, rows-in, row-next, row-end, row-refused, rows-back}
 use Rattle.rows.specs.Collect.{onGave, collected, ofNth}
 use Rattle.rows.specs.CollectLaws.{mapped-same, mapped-mapped, sought, sought-is}
 use Rattle.rows.specs.WordsLaws.{words-nth, words-none, words-part}
 use Rattle.imports.specs.Told.{toldModule}
-use Rattle.imports.specs.Imports.{modulesOf, Ref, scopeOf, idOf, ifRef, wordOf, refOf, ModuleAt, moduleOf, moduleShown, moduleSize, inArea, importsOf, moduleAt, importStep, modulesFrom}
+use Rattle.imports.specs.Imports.{modulesOf, Ref, scopeOf, idOf, ifRef, refIn, refOf, ModuleAt, moduleOf, moduleShown, moduleSize, inArea, importsOf, moduleAt, importStep, modulesFrom}
 
 -- ---- the tests of `module_at`
 
@@ -69,11 +69,11 @@ module _ (b : List ℕ) (index name words count : ℕ) where
   abbrev named : ℕ → Reply Ref Told
   named w = gave (record { name = name; word = w })
 
-  pub ref-none : count ≤ idOf index → missing ≡ wordOf index (moduleOf b (record { name = name; words = words; count = count }))
+  pub ref-none : count ≤ idOf index → missing ≡ refIn index (moduleOf b (record { name = name; words = words; count = count }))
   ref-none h = words-none missing named count (drop words b) (idOf index) h
 
   pub ref-word : (id w : ℕ) → id ≡ idOf index → id < count → w ≡ u32At b (words + 4 * id)
-      → named w ≡ wordOf index (moduleOf b (record { name = name; words = words; count = count }))
+      → named w ≡ refIn index (moduleOf b (record { name = name; words = words; count = count }))
   ref-word id w e h ew =
       ap named ew ∙ words-nth missing named count b words id h ∙ ap (λ (i : ℕ). ofNth i (wordsIn count (drop words b)) missing named) e
 
@@ -161,25 +161,25 @@ module-next b p m x q =
 
 -- from place p on, n modules being passed
 abbrev pub Sought : List ℕ → ℕ → ℕ → Reply Ref Told → ℕ → Reply Ref Told
-Sought b index n best p = sought (wordOf index) (ifRef index) (scopeOf index) n best (modules (drop p b))
+Sought b index n best p = sought (refIn index) (ifRef index) (scopeOf index) n best (modules (drop p b))
 
 pub sought-first : (b : List ℕ) (index : ℕ)
     → Sought b index 0 (refused (told (why.CrossModuleRefNotFound index))) 0 ≡ onGave (refOf index) (collected (modules b))
 sought-first b index =
-    sought-is (wordOf index) (ifRef index) (scopeOf index) (scopeOf index) 0 (refused (told (why.CrossModuleRefNotFound index))) (modules b) (omega arith)
+    sought-is (refIn index) (ifRef index) (scopeOf index) (scopeOf index) 0 (refused (told (why.CrossModuleRefNotFound index))) (modules b) (omega arith)
 
 module _ (b : List ℕ) (index n : ℕ) (best : Reply Ref Told) (p : ℕ) where
   module _ (m : ModuleAt) (x : ℕ) (q : gives m x ≡ moduleAt b p) (scope : ℕ) (e : scope ≡ scopeOf index) where
     abbrev kept : Bool → Reply Ref Told
-    kept t = cond t (wordOf index (moduleOf b m)) best
+    kept t = cond t (refIn index (moduleOf b m)) best
 
     onward : (t : Bool) → eqb n (scopeOf index) ≡ t → Sought b index (n + 1) (kept t) x ≡ Sought b index n best p
     unfolding sought
     onward t et =
         ap (λ (a : Bool). Sought b index (n + 1) (kept a) x) (sym et)
-        ∙ ap (sought (wordOf index) (ifRef index) (scopeOf index) n best) (module-next b p m x q .is)
+        ∙ ap (sought (refIn index) (ifRef index) (scopeOf index) n best) (module-next b p m x q .is)
 
-    pub sought-hit : n ≡ scope → (y : Reply Ref Told) → y ≡ wordOf index (moduleOf b m) → Sought b index (n + 1) y x ≡ Sought b index n best p
+    pub sought-hit : n ≡ scope → (y : Reply Ref Told) → y ≡ refIn index (moduleOf b m) → Sought b index (n + 1) y x ≡ Sought b index n best p
     sought-hit h y ey = ap (λ (z : Reply Ref Told). Sought b index (n + 1) z x) ey ∙ onward true (eq-eqb n (scopeOf index) (h ∙ e))
 
     pub sought-miss : (n ≡ scope → ⊥) → (y : Reply Ref Told) → y ≡ best → Sought b index (n + 1) y x ≡ Sought b index n best p
@@ -188,11 +188,11 @@ module _ (b : List ℕ) (index n : ℕ) (best : Reply Ref Told) (p : ℕ) where
   module _ (h : p ≤ length b) where
     pub sought-end : none ≡ moduleAt b p → ifRef index best ≡ Sought b index n best p
     unfolding sought modules
-    sought-end q = ap (sought (wordOf index) (ifRef index) (scopeOf index) n best) (row-end moduleBite moduleSize moduleShown bitten b p h q)
+    sought-end q = ap (sought (refIn index) (ifRef index) (scopeOf index) n best) (row-end moduleBite moduleSize moduleShown bitten b p h q)
 
     pub sought-refused : (t : Told) → refuses t ≡ moduleAt b p → refused t ≡ Sought b index n best p
     unfolding sought modules
-    sought-refused t q = ap (sought (wordOf index) (ifRef index) (scopeOf index) n best) (row-refused moduleBite moduleSize moduleShown bitten b p h t q)
+    sought-refused t q = ap (sought (refIn index) (ifRef index) (scopeOf index) n best) (row-refused moduleBite moduleSize moduleShown bitten b p h t q)
 
 -- ---- a step of the walk
 
@@ -217,12 +217,12 @@ unfolding modules
 modules-placed s start len p h =
     rows-back moduleBite moduleSize moduleShown bitten (take len (drop start s)) (λ (m : ModuleAt). moduleOf s (inArea start m)) (in-area s start len) p h
 
-whole : (b : List ℕ) → modulesFrom b 0 ≡ placed moduleSize moduleShown 0 (modules b)
+whole : (b : List ℕ) → modulesFrom b 0 ≡ rowsPlaced moduleSize moduleShown 0 (modules b)
 unfolding modules
 whole b = rows-in moduleBite moduleSize moduleShown b 0 (omega arith)
 
 placed-whole : (s : List ℕ) (x : Reply Span Told)
-    → tableOf (λ (b : List ℕ). modulesFrom b 0) inArea s x ≡ tableOf (λ (b : List ℕ). placed moduleSize moduleShown 0 (modules b)) inArea s x
+    → tableOf (λ (b : List ℕ). modulesFrom b 0) inArea s x ≡ tableOf (λ (b : List ℕ). rowsPlaced moduleSize moduleShown 0 (modules b)) inArea s x
 placed-whole s (gave a) = ap (mapped (inArea (a .start)) same) (whole (take (a .len) (drop (a .start) s)))
 placed-whole s nothing = refl
 placed-whole s (refused t) = refl
@@ -234,10 +234,10 @@ imports-walk rule s n =
     ∙ ap (replies n) (placed-whole s (firstSub rule 0xf7 s))
 
 back : (s : List ℕ) (x : Reply Span Told)
-    → mapped (moduleOf s) same (tableOf (λ (b : List ℕ). placed moduleSize moduleShown 0 (modules b)) inArea s x) ≡ tableOf modules (λ (_ : ℕ) (m : Module). m) s x
+    → mapped (moduleOf s) same (tableOf (λ (b : List ℕ). rowsPlaced moduleSize moduleShown 0 (modules b)) inArea s x) ≡ tableOf modules (λ (_ : ℕ) (m : Module). m) s x
 back s (gave a) =
     let b = take (a .len) (drop (a .start) s) in
-    mapped-mapped (moduleOf s) (inArea (a .start)) (placed moduleSize moduleShown 0 (modules b))
+    mapped-mapped (moduleOf s) (inArea (a .start)) (rowsPlaced moduleSize moduleShown 0 (modules b))
     ∙ ap (mapped (λ (m : ModuleAt). moduleOf s (inArea (a .start) m)) same) (sym (whole b))
     ∙ modules-placed s (a .start) (a .len) 0 (omega arith)
     ∙ sym (mapped-same (modules b))

@@ -17,10 +17,10 @@ toldModule (row.Module name words count x) = gives (record { name = name; words 
 toldModule row.None = none
 toldModule (row.Refused r) = refuses (told r)
 
-abbrev pub toldStep : ImportStep → Answer TableWalk ModuleAt Told
-toldStep (step.Module name words count w) = gives (record { name = name; words = words; count = count }) w
-toldStep step.None = none
-toldStep (step.Refused r) = refuses (told r)
+abbrev pub toldImportStep : ImportStep → Answer TableWalk ModuleAt Told
+toldImportStep (step.Module name words count w) = gives (record { name = name; words = words; count = count }) w
+toldImportStep step.None = none
+toldImportStep (step.Refused r) = refuses (told r)
 
 abbrev pub toldResolved : Resolved → Reply Ref Told
 toldResolved (resolved.Ref name w) = gave (record { name = name; word = w })

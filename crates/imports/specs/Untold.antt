@@ -12,7 +12,7 @@ use Rattle.imports.specs.declared.ImportStep.{ImportStep}
 use Rattle.imports.specs.declared.ImportStep.the-variants as step
 use Rattle.imports.specs.declared.Resolved.{Resolved}
 use Rattle.imports.specs.declared.Resolved.the-variants as resolved
-use Rattle.imports.specs.Told.{toldModule, toldStep, toldResolved}
+use Rattle.imports.specs.Told.{toldModule, toldImportStep, toldResolved}
 
 abbrev pub untoldModule : Answer ℕ ModuleAt Told → ModuleStep
 untoldModule (gives m x) = row.Module (m .name) (m .words) (m .count) x
@@ -29,7 +29,7 @@ untoldStep (gives m w) = step.Module (m .name) (m .words) (m .count) w
 untoldStep none = step.None
 untoldStep (refuses t) = step.Refused (untold t)
 
-pub untold-step : (h : ImportStep) → untoldStep (toldStep h) ≡ h
+pub untold-step : (h : ImportStep) → untoldStep (toldImportStep h) ≡ h
 untold-step (step.Module name words count w) = refl
 untold-step step.None = refl
 untold-step (step.Refused r) = ap step.Refused (untold-told r)

@@ -5,11 +5,11 @@
 ghost use mathlib.Core.Path.{_≡_};
 ghost use Prim.Native.Nat.{_+_, _*_, _≤_};
 ghost use lib.ListN.{length};
-ghost use Rattle.area.specs.Kind.{ruled};
+ghost use Rattle.area.specs.Kind.{crateRule};
 ghost use Rattle.body.specs.Imports.{modules};
 ghost use Rattle.rows.specs.Collect.{onGave, collected};
-ghost use Rattle.imports.specs.Imports.{moduleAt, moduleOf, importStep, ifRef, wordOf, refOf, resolveImport};
-ghost use Rattle.imports.specs.Told.{toldModule, toldStep, toldResolved};
+ghost use Rattle.imports.specs.Imports.{moduleAt, moduleOf, importStep, ifRef, refIn, refOf, resolveImport};
+ghost use Rattle.imports.specs.Told.{toldModule, toldImportStep, toldResolved};
 use find::Found;
 use find::first_of;
 use refusal::Refusal;
@@ -72,7 +72,7 @@ pub enum ImportStep {
 }
 
 pub fn next_import(area: &[u8], walk: TableWalk) -> ImportStep
-    ensures { λ r. ⌜ toldStep r ≡ importStep ruled (now (area .entry)) walk ⌝ }
+    ensures { λ r. ⌜ toldImportStep r ≡ importStep crateRule (now (area .entry)) walk ⌝ }
 {
     match spot_first(area, CROSS_SCOPE_IMPORTS, walk) {
         Spot::At { start, len, at } => match module_at(&area[start..start + len], at) {
@@ -108,7 +108,7 @@ pub enum Resolved {
 // The word that an index picks in a module.
 fn word_of(body: &[u8], name: u32, words: usize, count: usize, index: u32) -> Resolved
     requires { ⌜ words + 4 * count ≤ length (now body) ⌝ }
-    ensures { λ r. ⌜ toldResolved r ≡ wordOf index (moduleOf (now (body .entry)) (record { name = name; words = words; count = count })) ⌝ }
+    ensures { λ r. ⌜ toldResolved r ≡ refIn index (moduleOf (now (body .entry)) (record { name = name; words = words; count = count })) ⌝ }
 {
     let id = (index % 0x10_0000) as usize;
     if id < count {
@@ -165,7 +165,7 @@ fn resolve_in(body: &[u8], index: u32) -> Resolved
 }
 
 pub fn resolve_import(area: &[u8], index: u32) -> Resolved
-    ensures { λ r. ⌜ toldResolved r ≡ resolveImport ruled (now (area .entry)) index ⌝ }
+    ensures { λ r. ⌜ toldResolved r ≡ resolveImport crateRule (now (area .entry)) index ⌝ }
 {
     match first_of(area, CROSS_SCOPE_IMPORTS) {
         Found::At { start, len } => resolve_in(&area[start..start + len], index),

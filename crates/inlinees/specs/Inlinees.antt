@@ -33,13 +33,13 @@ headSize false = 12
 headSize true = 16
 
 -- the front of the bytes at p, and the place behind it
-abbrev pub placed : Bool → ℕ → Move (List ℕ) Inlinee Told → Answer ℕ SourceLine Told
-placed x p (item e t) =
+abbrev pub inlineePlaced : Bool → ℕ → Move (List ℕ) Inlinee Told → Answer ℕ SourceLine Told
+inlineePlaced x p (item e t) =
     gives (record { inlinee = e .inlinee; file = e .file; line = e .line; extra = p + headSize x; count = length (e .extra) })
     (p + headSize x + 4 * length (e .extra))
-placed x p (pass t) = none
-placed x p over = none
-placed x p (fail r) = refuses r
+inlineePlaced x p (pass t) = none
+inlineePlaced x p over = none
+inlineePlaced x p (fail r) = refuses r
 
 -- the entries stand behind the signature: a place inside it is that of the first one
 unfoldable pub entryPlace : ℕ → ℕ
@@ -50,7 +50,7 @@ unfoldable pub sourceLineAt : List ℕ → ℕ → Answer ℕ SourceLine Told
 sourceLineAt b p =
     cond (ltb (length b) 4) (refuses (told why.Cut))
     (cond (ltb (length b) (entryPlace p)) (refuses (told why.Cut))
-    (placed (extended (u32At b 0)) (entryPlace p) (inlineeBite (extended (u32At b 0)) (drop (entryPlace p) b))))
+    (inlineePlaced (extended (u32At b 0)) (entryPlace p) (inlineeBite (extended (u32At b 0)) (drop (entryPlace p) b))))
 
 -- THE ENTRIES of a body from a place on
 unfoldable pub sourceLinesFrom : List ℕ → ℕ → Listing SourceLine Told
@@ -69,8 +69,8 @@ abbrev pub inlineesIn : (ℕ → Sort) → List ℕ → Listing SourceLine Told
 inlineesIn rule s = tableOf (λ (b : List ℕ). sourceLinesFrom b 0) show s (firstSub rule 0xf6 s)
 
 -- an entry with its extra files in place of where they stand in s
-abbrev pub spelt : List ℕ → SourceLine → Inlinee
-spelt s e = record { inlinee = e .inlinee; file = e .file; line = e .line; extra = wordsIn (e .count) (drop (e .extra) s) }
+abbrev pub inlineeSpelt : List ℕ → SourceLine → Inlinee
+inlineeSpelt s e = record { inlinee = e .inlinee; file = e .file; line = e .line; extra = wordsIn (e .count) (drop (e .extra) s) }
 
 -- what the bytes of a body say: the signature, and the entries behind it
 unfoldable pub inlineesOf : List ℕ → Listing Inlinee Told

@@ -20,15 +20,15 @@ use Rattle.body.specs.Inlinees.{Inlinee}
 use Rattle.rows.specs.Collect.{ofNth}
 use Rattle.rows.specs.Words.{wordIn}
 use Rattle.rows.specs.WordsLaws.{words-part, word-of}
-use Rattle.inlinees.specs.Inlinees.{SourceLine, sourceLineAt, sourceLinesFrom, show, inlineeStep, inlineesIn, spelt, inlineesOf}
-use Rattle.inlinees.specs.Told.{toldLine}
+use Rattle.inlinees.specs.Inlinees.{SourceLine, sourceLineAt, sourceLinesFrom, show, inlineeStep, inlineesIn, inlineeSpelt, inlineesOf}
+use Rattle.inlinees.specs.Told.{toldSourceLine}
 use Rattle.inlinees.specs.SourceLineLaws.{lines-step, In, lines-in, lines-mean}
 
 -- ---- a walk over the inlinees of an area
 
-pub inlinee-steps : (rule : ℕ → Sort) (s : List ℕ) (w : TableWalk) → Steps sourceLineAt show toldLine (firstSub rule 0xf6 s) s w (inlineeStep rule s w)
+pub inlinee-steps : (rule : ℕ → Sort) (s : List ℕ) (w : TableWalk) → Steps sourceLineAt show toldSourceLine (firstSub rule 0xf6 s) s w (inlineeStep rule s w)
 unfolding inlineeStep
-inlinee-steps rule s w = steps sourceLineAt show toldLine (firstSub rule 0xf6 s) s w (first-finds rule 0xf6 s)
+inlinee-steps rule s w = steps sourceLineAt show toldSourceLine (firstSub rule 0xf6 s) s w (first-finds rule 0xf6 s)
 
 -- THE WALK: n calls from a new walk on answer the inlinees in order, and then the end, or the same refusal, again and again
 pub inlinees-walk : (rule : ℕ → Sort) (s : List ℕ) (n : ℕ) → calls (inlineeStep rule s) n walk.New ≡ replies n (inlineesIn rule s)
@@ -39,12 +39,12 @@ inlinees-walk rule s n =
 -- ---- the words of extra files
 
 -- THE THEOREM: the inlinees of an area, with their extra files, are what the bytes of its first inlinee body say
-pub inlinees-mean : (rule : ℕ → Sort) (s : List ℕ) → mapped (spelt s) same (inlineesIn rule s) ≡ ofBody inlineesOf (firstBytes rule 0xf6 s)
+pub inlinees-mean : (rule : ℕ → Sort) (s : List ℕ) → mapped (inlineeSpelt s) same (inlineesIn rule s) ≡ ofBody inlineesOf (firstBytes rule 0xf6 s)
 inlinees-mean rule s =
-    table-means (λ (b : List ℕ). sourceLinesFrom b 0) show In (λ b. lines-in b 0) s spelt spelt moves (firstSub rule 0xf6 s) (first-finds rule 0xf6 s)
+    table-means (λ (b : List ℕ). sourceLinesFrom b 0) show In (λ b. lines-in b 0) s inlineeSpelt inlineeSpelt moves (firstSub rule 0xf6 s) (first-finds rule 0xf6 s)
     ∙ ap (λ (f : List ℕ → Listing Inlinee Told). ofBody f (firstBytes rule 0xf6 s)) (λ i b. lines-mean b i)
   where
-    moves : (start n : ℕ) (e : SourceLine) → start + n ≤ length s → length s ≤ longest → In n e → spelt s (show start e) ≡ spelt (take n (drop start s)) e
+    moves : (start n : ℕ) (e : SourceLine) → start + n ≤ length s → length s ≤ longest → In n e → inlineeSpelt s (show start e) ≡ inlineeSpelt (take n (drop start s)) e
     moves start n e h m q =
         let words : wordsIn (e .count) (drop (start + e .extra) s) ≡ wordsIn (e .count) (drop (e .extra) (take n (drop start s)))
         = words-part s start n (e .extra) (e .count) q in
@@ -52,9 +52,9 @@ inlinees-mean rule s =
 
 -- and `rows::word_in`, asked for each inlinee of an area, hands out its extra files in order, and nothing behind them
 pub extra-files : (rule : ℕ → Sort) (s : List ℕ)
-    → Every (λ (e : SourceLine). (i : ℕ) → wordIn s (e .extra) (e .count) i ≡ ofNth i (spelt s e .extra) nothing gave) (inlineesIn rule s)
+    → Every (λ (e : SourceLine). (i : ℕ) → wordIn s (e .extra) (e .count) i ≡ ofNth i (inlineeSpelt s e .extra) nothing gave) (inlineesIn rule s)
 extra-files rule s =
     table-every (λ (b : List ℕ). sourceLinesFrom b 0) show In (λ b. lines-in b 0) s
-    (λ (e : SourceLine). (i : ℕ) → wordIn s (e .extra) (e .count) i ≡ ofNth i (spelt s e .extra) nothing gave)
+    (λ (e : SourceLine). (i : ℕ) → wordIn s (e .extra) (e .count) i ≡ ofNth i (inlineeSpelt s e .extra) nothing gave)
     (λ start n e h m q i. word-of s (start + e .extra) (e .count) i m (omega arith))
     (firstSub rule 0xf6 s) (first-finds rule 0xf6 s)

@@ -20,7 +20,7 @@ use Rattle.find.specs.Find.{same}
 use Rattle.body.specs.Words.{wordsIn}
 use Rattle.body.specs.WordsLaws.{words-length}
 use Rattle.body.specs.Inlinees.{Inlinee, extended, extraBite, inlineeBite, inlinees}
-use Rattle.inlinees.specs.Inlinees.{SourceLine, headSize, placed, entryPlace, sourceLineAt, sourceLinesFrom, spelt, inlineesOf}
+use Rattle.inlinees.specs.Inlinees.{SourceLine, headSize, inlineePlaced, entryPlace, sourceLineAt, sourceLinesFrom, inlineeSpelt, inlineesOf}
 
 -- ---- the tests of the code
 
@@ -43,7 +43,7 @@ line-words b p extra count x i f l ei ef el = λ j. gives (record { inlinee = ei
 
 -- an extended entry whose first three words are there
 unfoldable pub extendedAt : List ℕ → ℕ → Answer ℕ SourceLine Told
-extendedAt b p = placed true p (extraBite true (drop p b))
+extendedAt b p = inlineePlaced true p (extraBite true (drop p b))
 
 module _ (b : List ℕ) (p : ℕ) where
   pub extra-short : length b - p < 16 → refuses (told why.Cut) ≡ extendedAt b p
@@ -126,7 +126,7 @@ Within m q (gives e x) = (e .extra + 4 * e .count ≡ x) × (q + 12 ≤ x) × (x
 Within m q none = Unit {0}
 Within m q (refuses t) = Unit {0}
 
-placed-within : (x : Bool) (b : List ℕ) (q : ℕ) → q ≤ length b → (u : Move (List ℕ) Inlinee Told) → Bitten x (drop q b) u → Within (length b) q (placed x q u)
+placed-within : (x : Bool) (b : List ℕ) (q : ℕ) → q ≤ length b → (u : Move (List ℕ) Inlinee Told) → Bitten x (drop q b) u → Within (length b) q (inlineePlaced x q u)
 placed-within x b q h (item e t) w = (refl, omega (arith, head-some x), omega (arith, length-drop q b))
 placed-within x b q h (pass t) w = tt
 placed-within x b q h over w = tt
@@ -194,17 +194,17 @@ module _ (b : List ℕ) (signed : 4 ≤ length b) where
   x = extended (u32At b 0)
 
   abbrev Same : ℕ → Listing SourceLine Told → Type 0
-  Same p l = entryPlace p ≤ length b → mapped (spelt b) same l ≡ inlinees x (drop (entryPlace p) b)
+  Same p l = entryPlace p ≤ length b → mapped (inlineeSpelt b) same l ≡ inlinees x (drop (entryPlace p) b)
 
   turn : (q : ℕ) → 4 ≤ q → (u : Move (List ℕ) Inlinee Told) → Bitten x (drop q b) u → q ≤ length b
-      → To (moved (placed x q u)) (λ t. Same t (sourceLinesFrom b t))
-      → mapped (spelt b) same (onMove (sourceLinesFrom b) (moved (placed x q u))) ≡ onMove (inlinees x) u
+      → To (moved (inlineePlaced x q u)) (λ t. Same t (sourceLinesFrom b t))
+      → mapped (inlineeSpelt b) same (onMove (sourceLinesFrom b) (moved (inlineePlaced x q u))) ≡ onMove (inlinees x) u
   turn q h (item e t) w i f =
       let n = length (e .extra) in
       let y = q + headSize x + 4 * n in
       let ey : entryPlace y ≡ y = sym (place-is y (omega (arith, head-some x))) in
       let words : wordsIn n (drop (q + headSize x) b) ≡ e .extra = ap (wordsIn n) (sym (drop-drop (headSize x) q b)) ∙ sym (w .2) in
-      let rest : mapped (spelt b) same (sourceLinesFrom b y) ≡ inlinees x t =
+      let rest : mapped (inlineeSpelt b) same (sourceLinesFrom b y) ≡ inlinees x t =
       f (omega (arith, length-drop q b))
       ∙ ap (inlinees x) (ap (λ (j : ℕ). drop j b) (ey ∙ add-assoc q (headSize x) (4 * n)) ∙ sym (w .1 ∙ drop-drop (headSize x + 4 * n) q b)) in
       λ j. more (record { inlinee = e .inlinee; file = e .file; line = e .line; extra = words j }) (rest j)
@@ -213,7 +213,7 @@ module _ (b : List ℕ) (signed : 4 ≤ length b) where
   turn q h (fail r) w i f = refl
 
   -- a place past the signature and inside
-  line-placed : (p : ℕ) → entryPlace p ≤ length b → placed x (entryPlace p) (inlineeBite x (drop (entryPlace p) b)) ≡ sourceLineAt b p
+  line-placed : (p : ℕ) → entryPlace p ≤ length b → inlineePlaced x (entryPlace p) (inlineeBite x (drop (entryPlace p) b)) ≡ sourceLineAt b p
   unfolding sourceLineAt
   line-placed p h = simp tests
 
@@ -228,21 +228,21 @@ module _ (b : List ℕ) (signed : 4 ≤ length b) where
       (λ p f h.
       let q = entryPlace p in
       let e = line-placed p h in
-      ap (λ (a : Answer ℕ SourceLine Told). mapped (spelt b) same (onMove (sourceLinesFrom b) (moved a))) (sym e)
+      ap (λ (a : Answer ℕ SourceLine Told). mapped (inlineeSpelt b) same (onMove (sourceLinesFrom b) (moved a))) (sym e)
       ∙ turn q (place-behind p) (inlineeBite x (drop q b)) (bitten x (drop q b)) h
       (subst⁻¹ (λ (a : Answer ℕ SourceLine Told). To (moved a) (λ t. Same t (sourceLinesFrom b t))) e f)
       ∙ sym (inlinees-step x (drop q b)))
       0
 
 -- THE THEOREM for a body: the entries of a new walk, with their extra files, are what the body says
-pub lines-mean : (b : List ℕ) → mapped (spelt b) same (sourceLinesFrom b 0) ≡ inlineesOf b
+pub lines-mean : (b : List ℕ) → mapped (inlineeSpelt b) same (sourceLinesFrom b 0) ≡ inlineesOf b
 unfolding inlineesOf
 lines-mean b = go (ltb (length b) 4) refl
   where
     go : (t : Bool) → ltb (length b) 4 ≡ t
-        → mapped (spelt b) same (sourceLinesFrom b 0) ≡ cond t (fails (told why.Cut)) (inlinees (extended (u32At b 0)) (drop 4 b))
+        → mapped (inlineeSpelt b) same (sourceLinesFrom b 0) ≡ cond t (fails (told why.Cut)) (inlinees (extended (u32At b 0)) (drop 4 b))
     go true e =
-        ap (mapped (spelt b) same) (lines-step b 0 ∙ ap (λ (a : Answer ℕ SourceLine Told). onMove (sourceLinesFrom b) (moved a)) (sym (line-unsigned b 0 (ltb-true (length b) 4 e))))
+        ap (mapped (inlineeSpelt b) same) (lines-step b 0 ∙ ap (λ (a : Answer ℕ SourceLine Told). onMove (sourceLinesFrom b) (moved a)) (sym (line-unsigned b 0 (ltb-true (length b) 4 e))))
     go false e =
         let h : 4 ≤ length b = ltb-false (length b) 4 e in
         let q : 4 ≡ entryPlace 0 = place-first 0 (omega arith) in

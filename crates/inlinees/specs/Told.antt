@@ -10,10 +10,10 @@ use Rattle.inlinees.specs.declared.SourceLineStep.the-variants as line
 use Rattle.inlinees.specs.declared.InlineeStep.{InlineeStep}
 use Rattle.inlinees.specs.declared.InlineeStep.the-variants as step
 
-abbrev pub toldLine : SourceLineStep → Answer ℕ SourceLine Told
-toldLine (line.SourceLine i f l a n x) = gives (record { inlinee = i; file = f; line = l; extra = a; count = n }) x
-toldLine line.None = none
-toldLine (line.Refused r) = refuses (told r)
+abbrev pub toldSourceLine : SourceLineStep → Answer ℕ SourceLine Told
+toldSourceLine (line.SourceLine i f l a n x) = gives (record { inlinee = i; file = f; line = l; extra = a; count = n }) x
+toldSourceLine line.None = none
+toldSourceLine (line.Refused r) = refuses (told r)
 
 abbrev pub toldInlinee : InlineeStep → Answer TableWalk SourceLine Told
 toldInlinee (step.Inlinee i f l a n w) = gives (record { inlinee = i; file = f; line = l; extra = a; count = n }) w

@@ -10,14 +10,14 @@ use Rattle.inlinees.specs.declared.SourceLineStep.{SourceLineStep}
 use Rattle.inlinees.specs.declared.SourceLineStep.the-variants as line
 use Rattle.inlinees.specs.declared.InlineeStep.{InlineeStep}
 use Rattle.inlinees.specs.declared.InlineeStep.the-variants as step
-use Rattle.inlinees.specs.Told.{toldLine, toldInlinee}
+use Rattle.inlinees.specs.Told.{toldSourceLine, toldInlinee}
 
 abbrev pub untoldLine : Answer ℕ SourceLine Told → SourceLineStep
 untoldLine (gives e x) = line.SourceLine (e .inlinee) (e .file) (e .line) (e .extra) (e .count) x
 untoldLine none = line.None
 untoldLine (refuses t) = line.Refused (untold t)
 
-pub untold-line : (h : SourceLineStep) → untoldLine (toldLine h) ≡ h
+pub untold-line : (h : SourceLineStep) → untoldLine (toldSourceLine h) ≡ h
 untold-line (line.SourceLine i f l a n x) = refl
 untold-line line.None = refl
 untold-line (line.Refused r) = ap line.Refused (untold-told r)

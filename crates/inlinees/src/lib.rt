@@ -6,10 +6,10 @@ ghost use mathlib.Core.Path.{_≡_};
 ghost use Prim.Native.Nat.{_+_, _*_, _≤_};
 ghost use lib.ListN.{length};
 ghost use Rattle.walk.specs.Listing.{gives};
-ghost use Rattle.area.specs.Kind.{ruled};
+ghost use Rattle.area.specs.Kind.{crateRule};
 ghost use Rattle.inlinees.specs.Inlinees.{entryPlace, sourceLineAt, inlineeStep};
 ghost use Rattle.inlinees.specs.SourceLineLaws.{lineAt, extendedAt};
-ghost use Rattle.inlinees.specs.Told.{toldLine, toldInlinee};
+ghost use Rattle.inlinees.specs.Told.{toldSourceLine, toldInlinee};
 use refusal::Refusal;
 use table::Spot;
 use table::TableWalk;
@@ -40,7 +40,7 @@ fn entry_place(at: usize) -> usize
 // The entry at p, whose words are there.
 fn line_of(body: &[u8], p: usize, extra: usize, count: usize) -> SourceLineStep
     requires { ⌜ (p + 12 ≤ length (now body)) × (extra + 4 * count ≤ length (now body)) ⌝ }
-    ensures { λ r. ⌜ toldLine r ≡ gives (lineAt (now (body .entry)) p extra count) (extra + 4 * count) ⌝ }
+    ensures { λ r. ⌜ toldSourceLine r ≡ gives (lineAt (now (body .entry)) p extra count) (extra + 4 * count) ⌝ }
 {
     SourceLineStep::SourceLine {
         inlinee: u32_at(body, p),
@@ -55,7 +55,7 @@ fn line_of(body: &[u8], p: usize, extra: usize, count: usize) -> SourceLineStep
 // An entry with a count and that many words behind its line.
 fn extended_line(body: &[u8], p: usize) -> SourceLineStep
     requires { ⌜ p + 12 ≤ length (now body) ⌝ }
-    ensures { λ r. ⌜ toldLine r ≡ extendedAt (now (body .entry)) p ⌝ }
+    ensures { λ r. ⌜ toldSourceLine r ≡ extendedAt (now (body .entry)) p ⌝ }
 {
     let left = body.len() - p;
     if left < 16 {
@@ -70,7 +70,7 @@ fn extended_line(body: &[u8], p: usize) -> SourceLineStep
 
 // The entry at a place of a body. A place inside the signature is that of the first entry.
 pub fn source_line_at(body: &[u8], at: usize) -> SourceLineStep
-    ensures { λ r. ⌜ toldLine r ≡ sourceLineAt (now (body .entry)) at ⌝ }
+    ensures { λ r. ⌜ toldSourceLine r ≡ sourceLineAt (now (body .entry)) at ⌝ }
 {
     if body.len() < 4 {
         return SourceLineStep::Refused(Refusal::Cut);
@@ -107,7 +107,7 @@ pub enum InlineeStep {
 }
 
 pub fn next_inlinee(area: &[u8], walk: TableWalk) -> InlineeStep
-    ensures { λ r. ⌜ toldInlinee r ≡ inlineeStep ruled (now (area .entry)) walk ⌝ }
+    ensures { λ r. ⌜ toldInlinee r ≡ inlineeStep crateRule (now (area .entry)) walk ⌝ }
 {
     match spot_first(area, 0xf6, walk) {
         Spot::At { start, len, at } => match source_line_at(&area[start..start + len], at) {

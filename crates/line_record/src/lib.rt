@@ -2,9 +2,9 @@
 //
 // Everything is decided by the words alone: no call here reads an area.
 ghost use mathlib.Core.Path.{_≡_};
-ghost use Rattle.line_record.specs.Flags.{startLine, endLine, kindOf, isMarker};
+ghost use Rattle.line_record.specs.Flags.{startLine, endLine, lineKind, isMarker};
 ghost use Rattle.line_record.specs.Record.{emptyRecord, columnIf, startColumn, endColumn, recordOf, entryOf, shorterOf, withLength, closedAt};
-ghost use Rattle.line_record.specs.Told.{toldEntry};
+ghost use Rattle.line_record.specs.Told.{toldLineEntry};
 use refusal::Refusal;
 
 // A length, or none yet.
@@ -78,7 +78,7 @@ pub fn end_line(flags: u32) -> u32
 
 // Bit 31 of the flags word.
 pub fn kind(flags: u32) -> LineKind
-    ensures { λ r. ⌜ r ≡ kindOf flags ⌝ }
+    ensures { λ r. ⌜ r ≡ lineKind flags ⌝ }
 {
     if flags < 0x8000_0000 {
         return LineKind::Expression;
@@ -161,7 +161,7 @@ pub fn entry_of(
     column_start: Column,
     column_end: Column,
 ) -> Entry
-    ensures { λ r. ⌜ toldEntry r ≡ entryOf section base file offset flags «column_start» «column_end» ⌝ }
+    ensures { λ r. ⌜ toldLineEntry r ≡ entryOf section base file offset flags «column_start» «column_end» ⌝ }
 {
     if is_marker(flags) {
         return Entry::Marker;

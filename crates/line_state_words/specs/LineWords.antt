@@ -63,8 +63,8 @@ lengthOf t n = cond (eqb t 0) length.Unset (length.Is (u32Of n))
 abbrev pub columnOf : ℕ → ℕ → Column
 columnOf t n = cond (eqb t 0) column.None (column.At (u32Of n))
 
-abbrev pub kindOf : ℕ → LineKind
-kindOf t = cond (eqb t 0) kind.Expression kind.Statement
+abbrev pub kindIn : ℕ → LineKind
+kindIn t = cond (eqb t 0) kind.Expression kind.Statement
 
 -- the record that is held stands behind four words
 abbrev pub recordIn : List ℕ → LineRecord
@@ -78,7 +78,7 @@ recordIn o =
       «end_line» = u32Of (getD o 11 0);
       «column_start» = columnOf (getD o 12 0) (getD o 13 0);
       «column_end» = columnOf (getD o 14 0) (getD o 15 0);
-      kind = kindOf (getD o 16 0);
+      kind = kindIn (getD o 16 0);
     }
 
 unfoldable pub heldIn : List ℕ → Held

@@ -5,7 +5,7 @@ ghost use Prim.Native.Nat.{_≤_};
 ghost use lib.ListN.{length, getD};
 ghost use Rattle.word.specs.Word.{put, store};
 ghost use Rattle.answer_words.specs.Given.{given, Gives};
-ghost use Rattle.line_state_words.specs.LineWords.{u16Of, u32Of, lengthOf, columnOf, kindOf, recordIn, heldIn, restIn, headIn, placeIn, lineWalkIn};
+ghost use Rattle.line_state_words.specs.LineWords.{u16Of, u32Of, lengthOf, columnOf, kindIn, recordIn, heldIn, restIn, headIn, placeIn, lineWalkIn};
 ghost use Rattle.line_state_words.specs.LineWords.{lengthWords, columnWords, kindWord, recordWords, heldWords, restWords, placeWords, lineWalkWords, lineWords};
 use answer_words::GIVEN;
 use answer_words::TOO_SHORT;
@@ -55,7 +55,7 @@ fn column_of(tag: u64, n: u64) -> Column
 }
 
 fn kind_of(tag: u64) -> LineKind
-    ensures { λ r. ⌜ r ≡ kindOf tag ⌝ }
+    ensures { λ r. ⌜ r ≡ kindIn tag ⌝ }
 {
     if tag == 0 {
         LineKind::Expression

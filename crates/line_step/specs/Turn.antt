@@ -40,8 +40,8 @@ entryIn b p =
     (startColumn (columnIf (columned (p .head .flags)) (u32At b (p .column))))
     (endColumn (columnIf (columned (p .head .flags)) (u32At b (p .column))))
 
-unfoldable pub entryAt : List ℕ → Place → Reply LineRecord Told
-entryAt b p =
+unfoldable pub lineEntryAt : List ℕ → Place → Reply LineRecord Told
+lineEntryAt b p =
     cond (ltb (length b) (p .line + 8)) (refused (told why.Cut))
     (cond (ltb (length b) (p .column + 4)) (refused (told why.Cut)) (entryIn b p))
 
@@ -66,7 +66,7 @@ lineOf p t nothing = pass (Inside (pastLine p) t)
 lineOf p t (refused e) = fail e
 
 abbrev pub lineTurn : List ℕ → Place → Rest → LineMove
-lineTurn b p t = lineOf p t (entryAt b p)
+lineTurn b p t = lineOf p t (lineEntryAt b p)
 
 -- ---- a block, or the end of the blocks
 

@@ -28,29 +28,29 @@ use Rattle.line_step.specs.declared.Rest.{Rest}
 use Rattle.line_step.specs.declared.Place.{Place}
 use Rattle.line_step.specs.declared.LineWalk.{LineWalk}
 use Rattle.line_step.specs.declared.LineWalk.the-variants.{Between, Inside}
-use Rattle.line_step.specs.Turn.{LineMove, entryIn, entryAt, withHeld, pastLine, holdIn, holdOf, lineOf, lineTurn, columnPlace, endIn, blockOf, blockTurn, insideTurn, placeAt, restAt, enterAt, namedOf, subTurn, finishIn, finishOf, betweenTurn, turnIn, turnOf}
+use Rattle.line_step.specs.Turn.{LineMove, entryIn, lineEntryAt, withHeld, pastLine, holdIn, holdOf, lineOf, lineTurn, columnPlace, endIn, blockOf, blockTurn, insideTurn, placeAt, restAt, enterAt, namedOf, subTurn, finishIn, finishOf, betweenTurn, turnIn, turnOf}
 
 -- ---- a line
 
 module _ (b : List ℕ) (p : Place) where
-  pub entry-past : length b < p .line + 8 → refused (told why.Cut) ≡ entryAt b p
-  unfolding entryAt
+  pub entry-past : length b < p .line + 8 → refused (told why.Cut) ≡ lineEntryAt b p
+  unfolding lineEntryAt
   entry-past h = simp tests
 
   module _ (h₁ : p .line + 8 ≤ length b) where
-    pub entry-past-column : length b < p .column + 4 → refused (told why.Cut) ≡ entryAt b p
-    unfolding entryAt
+    pub entry-past-column : length b < p .column + 4 → refused (told why.Cut) ≡ lineEntryAt b p
+    unfolding lineEntryAt
     entry-past-column h = simp tests
 
     module _ (h₂ : p .column + 4 ≤ length b) where
-      pub entry-inside : entryIn b p ≡ entryAt b p
-      unfolding entryAt
+      pub entry-inside : entryIn b p ≡ lineEntryAt b p
+      unfolding lineEntryAt
       entry-inside = sym (simp tests)
 
       -- what was read, as code has it
       pub entry-in : (o g w : ℕ) (c : Bool) (x y : Column) → o ≡ u32At b (p .line) → g ≡ u32At b (p .line + 4) → w ≡ u32At b (p .column)
           → c ≡ columned (p .head .flags) → x ≡ startColumn (columnIf c w) → y ≡ endColumn (columnIf c w)
-          → entryOf (p .head .section) (p .head .offset) (p .file) o g x y ≡ entryAt b p
+          → entryOf (p .head .section) (p .head .offset) (p .file) o g x y ≡ lineEntryAt b p
       entry-in o g w c x y eo eg ew ec ex ey =
           let ex′ = ex ∙ (λ i. startColumn (columnIf (ec i) (ew i))) in
           let ey′ = ey ∙ (λ i. endColumn (columnIf (ec i) (ew i))) in
@@ -67,14 +67,14 @@ entry-is-in m p (gave r) h g = (h, g)
 entry-is-in m p nothing h g = (h, g)
 entry-is-in m p (refused t) h g = tt
 
-entry-lies : (b : List ℕ) (p : Place) → EntryIn (length b) p (entryAt b p)
-unfolding entryAt
+entry-lies : (b : List ℕ) (p : Place) → EntryIn (length b) p (lineEntryAt b p)
+unfolding lineEntryAt
 entry-lies b p =
     by-cases (EntryIn (length b) p) (ltb (length b) (p .line + 8)) (λ e. tt)
     (λ e. by-cases (EntryIn (length b) p) (ltb (length b) (p .column + 4)) (λ g. tt)
     (λ g. entry-is-in (length b) p (entryIn b p) (ltb-false (length b) (p .line + 8) e) (ltb-false (length b) (p .column + 4) g)))
 
-pub entry-within : (b : List ℕ) (p : Place) (e : Reply LineRecord Told) → e ≡ entryAt b p → EntryIn (length b) p e
+pub entry-within : (b : List ℕ) (p : Place) (e : Reply LineRecord Told) → e ≡ lineEntryAt b p → EntryIn (length b) p e
 entry-within b p e q = subst⁻¹ (EntryIn (length b) p) q (entry-lies b p)
 
 module _ (o : Held) (p : Place) (t : Rest) (r : LineRecord) (u : Rest) (eu : u ≡ withHeld t (One r)) where
@@ -87,13 +87,13 @@ module _ (o : Held) (p : Place) (t : Rest) (r : LineRecord) (u : Rest) (eu : u �
 
 module _ (b : List ℕ) (p : Place) (t : Rest) where
   module _ (k : Place) (ek : k ≡ pastLine p) where
-    pub line-line : (r : LineRecord) (u : LineMove) → gave r ≡ entryAt b p → u ≡ holdOf k t r → u ≡ lineTurn b p t
+    pub line-line : (r : LineRecord) (u : LineMove) → gave r ≡ lineEntryAt b p → u ≡ holdOf k t r → u ≡ lineTurn b p t
     line-line r u e eu = eu ∙ ap (λ q. holdOf q t r) ek ∙ ap (lineOf p t) e
 
-    pub line-marker : nothing ≡ entryAt b p → pass (Inside k t) ≡ lineTurn b p t
+    pub line-marker : nothing ≡ lineEntryAt b p → pass (Inside k t) ≡ lineTurn b p t
     line-marker e = ap (λ q. pass (Inside q t)) ek ∙ ap (lineOf p t) e
 
-  pub line-refused : (e : Told) → refused e ≡ entryAt b p → fail e ≡ lineTurn b p t
+  pub line-refused : (e : Told) → refused e ≡ lineEntryAt b p → fail e ≡ lineTurn b p t
   line-refused e q = ap (lineOf p t) q
 
 -- ---- a block, or the end of the blocks

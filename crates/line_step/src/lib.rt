@@ -5,9 +5,9 @@
 ghost use mathlib.Core.Path.{_≡_};
 ghost use Prim.Native.Nat.{_+_, _*_, _≤_, _<_, _^_};
 ghost use lib.ListN.{length};
-ghost use Rattle.area.specs.Kind.{ruled};
-ghost use Rattle.line_record.specs.Told.{toldEntry};
-ghost use Rattle.line_step.specs.Turn.{entryAt, withHeld, pastLine, holdOf, lineTurn, columnPlace, endOf, blockTurn, insideTurn, placeAt, enterAt, subTurn, finishOf, betweenTurn, openOf, turnOf};
+ghost use Rattle.area.specs.Kind.{crateRule};
+ghost use Rattle.line_record.specs.Told.{toldLineEntry};
+ghost use Rattle.line_step.specs.Turn.{lineEntryAt, withHeld, pastLine, holdOf, lineTurn, columnPlace, endOf, blockTurn, insideTurn, placeAt, enterAt, subTurn, finishOf, betweenTurn, openOf, turnOf};
 ghost use Rattle.lines.specs.Lines.{countLines};
 ghost use Rattle.line_step.specs.Told.{toldTurn};
 use line_record::Entry;
@@ -72,7 +72,7 @@ pub enum Turn {
 
 // The entry at a place. Where it does not lie in the body it is 1; without columns `column` is the first line's place.
 fn entry_at(body: &[u8], p: Place) -> Entry
-    ensures { λ r. ⌜ toldEntry r ≡ entryAt (now (body .entry)) p ⌝ }
+    ensures { λ r. ⌜ toldLineEntry r ≡ lineEntryAt (now (body .entry)) p ⌝ }
 {
     let line = p.line;
     let column = p.column;
@@ -264,7 +264,7 @@ fn enter(area: &[u8], t: Rest, start: usize, len: usize) -> Turn
 // The next subsection: the one that the next slot names.
 fn sub_turn(area: &[u8], slots: &[u32], t: Rest) -> Turn
     requires { ⌜ 1 ≤ t .left ⌝ }
-    ensures { λ r. ⌜ toldTurn r ≡ subTurn ruled (now (area .entry)) (now (slots .entry)) t ⌝ }
+    ensures { λ r. ⌜ toldTurn r ≡ subTurn crateRule (now (area .entry)) (now (slots .entry)) t ⌝ }
 {
     match slot_body(area, slots, t.slot, t.scan) {
         Named::Body { start, len } => enter(area, t, start, len),
@@ -284,7 +284,7 @@ pub fn finish(t: Rest) -> Turn
 }
 
 fn between_turn(area: &[u8], slots: &[u32], t: Rest) -> Turn
-    ensures { λ r. ⌜ toldTurn r ≡ betweenTurn ruled (now (area .entry)) (now (slots .entry)) t ⌝ }
+    ensures { λ r. ⌜ toldTurn r ≡ betweenTurn crateRule (now (area .entry)) (now (slots .entry)) t ⌝ }
 {
     if t.left == 0 {
         return finish(t);
@@ -294,7 +294,7 @@ fn between_turn(area: &[u8], slots: &[u32], t: Rest) -> Turn
 
 // A new walk makes the tests over the whole area.
 fn open_turn(area: &[u8]) -> Turn
-    ensures { λ r. ⌜ toldTurn r ≡ openOf (countLines ruled (now (area .entry))) ⌝ }
+    ensures { λ r. ⌜ toldTurn r ≡ openOf (countLines crateRule (now (area .entry))) ⌝ }
 {
     match count_lines(area) {
         Counted::Lines(n) => Turn::Pass(LineWalk::Between(Rest {
@@ -308,7 +308,7 @@ fn open_turn(area: &[u8]) -> Turn
 }
 
 pub fn take_turn(area: &[u8], slots: &[u32], w: LineWalk) -> Turn
-    ensures { λ r. ⌜ toldTurn r ≡ turnOf ruled (now (area .entry)) (now (slots .entry)) w ⌝ }
+    ensures { λ r. ⌜ toldTurn r ≡ turnOf crateRule (now (area .entry)) (now (slots .entry)) w ⌝ }
 {
     if LONGEST < area.len() {
         return Turn::Refused(Refusal::TooLong);

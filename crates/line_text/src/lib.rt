@@ -3,7 +3,7 @@
 ghost use mathlib.Core.Path.{_≡_};
 ghost use Prim.Native.Nat.{_≤_};
 ghost use lib.ListN.{length};
-ghost use Rattle.text.specs.Text.{page, written, writtenAll, joined};
+ghost use Rattle.text.specs.Text.{page, pieceWritten, writtenAll, joined};
 ghost use Rattle.text.specs.Told.{toldPlace};
 ghost use Rattle.printed.specs.Printed.{longestLine};
 ghost use Rattle.printed.specs.PrintedLaws.{Short};
@@ -20,7 +20,7 @@ use text::put_decimal;
 use text::put_hex;
 
 fn put_length(buf: &mut [u8], place: Place, length: Length) -> Place
-    ensures { λ r. ⌜ page (now (buf .exit)) (toldPlace r) ≡ written (lengthText length) (page (now (buf .entry)) (toldPlace place)) ⌝ }
+    ensures { λ r. ⌜ page (now (buf .exit)) (toldPlace r) ≡ pieceWritten (lengthText length) (page (now (buf .entry)) (toldPlace place)) ⌝ }
     ensures { λ _. ⌜ ShortLength length ⌝ }
 {
     match length {
@@ -30,7 +30,7 @@ fn put_length(buf: &mut [u8], place: Place, length: Length) -> Place
 }
 
 fn put_side(buf: &mut [u8], place: Place, column: Column) -> Place
-    ensures { λ r. ⌜ page (now (buf .exit)) (toldPlace r) ≡ written (sideText column) (page (now (buf .entry)) (toldPlace place)) ⌝ }
+    ensures { λ r. ⌜ page (now (buf .exit)) (toldPlace r) ≡ pieceWritten (sideText column) (page (now (buf .entry)) (toldPlace place)) ⌝ }
     ensures { λ _. ⌜ ShortColumn column ⌝ }
 {
     match column {
@@ -40,7 +40,7 @@ fn put_side(buf: &mut [u8], place: Place, column: Column) -> Place
 }
 
 fn put_kind(buf: &mut [u8], place: Place, kind: LineKind) -> Place
-    ensures { λ r. ⌜ page (now (buf .exit)) (toldPlace r) ≡ written (kindText kind) (page (now (buf .entry)) (toldPlace place)) ⌝ }
+    ensures { λ r. ⌜ page (now (buf .exit)) (toldPlace r) ≡ pieceWritten (kindText kind) (page (now (buf .entry)) (toldPlace place)) ⌝ }
 {
     match kind {
         LineKind::Statement => put_bytes(buf, place, b" st\n"),

@@ -22,18 +22,18 @@ oneHeld Nothing = 0
 oneHeld (One r) = 1
 
 -- a line subsection takes no more turns than the area has bytes
-unfoldable pub weight : List ℕ → ℕ → ℕ
-weight s n = n * suc (length s)
+unfoldable pub turnBound : List ℕ → ℕ → ℕ
+turnBound s n = n * suc (length s)
 
 abbrev pub counting : List ℕ → Reply ℕ Told → ℕ
-counting s (gave n) = weight s n
+counting s (gave n) = turnBound s n
 counting s nothing = 0
 counting s (refused t) = 0
 
 abbrev pub todo : (ℕ → Sort) → List ℕ → LineWalk → ℕ
 todo rule s New = suc (counting s (countLines rule s))
-todo rule s (Between t) = weight s (t .left) + oneHeld (t .held)
-todo rule s (Inside p t) = suc (weight s (t .left) + (p .end - p .next) + 2 * p .lines + oneHeld (t .held))
+todo rule s (Between t) = turnBound s (t .left) + oneHeld (t .held)
+todo rule s (Inside p t) = suc (turnBound s (t .left) + (p .end - p .next) + 2 * p .lines + oneHeld (t .held))
 
 -- what `next_line` answers
 unfoldable pub nextOf : (ℕ → Sort) → List ℕ → List ℕ → LineWalk → Answer LineWalk LineRecord Told

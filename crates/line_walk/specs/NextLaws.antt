@@ -32,11 +32,11 @@ use Rattle.line_step.specs.declared.Rest.{Rest}
 use Rattle.line_step.specs.declared.Place.{Place}
 use Rattle.line_step.specs.declared.LineWalk.{LineWalk}
 use Rattle.line_step.specs.declared.LineWalk.the-variants.{New, Between, Inside}
-use Rattle.line_step.specs.Turn.{LineMove, entryAt, withHeld, pastLine, holdIn, lineOf, endIn, blockOf, insideTurn, enterAt, namedOf, finishIn, betweenTurn, openOf, turnIn, turnOf}
-use Rattle.line_walk.specs.Next.{oneHeld, weight, counting, todo, nextOf}
+use Rattle.line_step.specs.Turn.{LineMove, lineEntryAt, withHeld, pastLine, holdIn, lineOf, endIn, blockOf, insideTurn, enterAt, namedOf, finishIn, betweenTurn, openOf, turnIn, turnOf}
+use Rattle.line_walk.specs.Next.{oneHeld, turnBound, counting, todo, nextOf}
 
-weight-less : (s : List ℕ) (n : ℕ) → 1 ≤ n → weight s n ≡ suc (length s) + weight s (n - 1)
-unfolding weight
+weight-less : (s : List ℕ) (n : ℕ) → 1 ≤ n → turnBound s n ≡ suc (length s) + turnBound s (n - 1)
+unfolding turnBound
 weight-less s zero h = absurd (omega arith)
 weight-less s (suc n) h = let e : suc n - 1 ≡ n = omega arith in rw e (omega (arith, suc-mul n (suc (length s))))
 
@@ -50,7 +50,7 @@ module _ (rule : ℕ → Sort) (s v : List ℕ) where
   open-less nothing = tt
   open-less (refused t) = tt
 
-  finish-less : (t : Rest) (o : Held) → Less (weight s (t .left) + oneHeld o) (finishIn o t)
+  finish-less : (t : Rest) (o : Held) → Less (turnBound s (t .left) + oneHeld o) (finishIn o t)
   finish-less t Nothing = tt
   finish-less t (One r) = omega arith
 
@@ -70,7 +70,7 @@ module _ (rule : ℕ → Sort) (s v : List ℕ) where
       by-cases (Less (todo rule s (Between t))) (eqb (t .left) 0) (λ e. finish-less t (t .held))
       (λ e. named-less t (slotAt rule s v (t .slot) (t .scan)) (omega (arith, eqb-false)) (slot-lies rule s v (t .slot) (t .scan)))
 
-  end-less : (h : LineHeader) (t : Rest) (o : Held) (m : ℕ) → weight s (t .left) + oneHeld o < m → oneHeld o ≡ oneHeld (t .held) → Less m (endIn o h t)
+  end-less : (h : LineHeader) (t : Rest) (o : Held) (m : ℕ) → turnBound s (t .left) + oneHeld o < m → oneHeld o ≡ oneHeld (t .held) → Less m (endIn o h t)
   unfolding endIn
   end-less h t Nothing m l e = omega arith
   end-less h t (One r) m l e = by-cases (Less m) (ltb maxOffset (h .offset + h .code)) (λ g. tt) (λ g. l)
@@ -82,7 +82,7 @@ module _ (rule : ℕ → Sort) (s v : List ℕ) where
   block-less p t (refuses e) h w = tt
 
   hold-less : (p : Place) (t : Rest) (r : LineRecord) (o : Held) → 1 ≤ p .lines
-      → Less (suc (weight s (t .left) + (p .end - p .next) + 2 * p .lines + oneHeld o)) (holdIn o r (Inside (pastLine p) (withHeld t (One r))))
+      → Less (suc (turnBound s (t .left) + (p .end - p .next) + 2 * p .lines + oneHeld o)) (holdIn o r (Inside (pastLine p) (withHeld t (One r))))
   hold-less p t r Nothing h = omega arith
   hold-less p t r (One o) h = omega arith
 
@@ -100,7 +100,7 @@ module _ (rule : ℕ → Sort) (s v : List ℕ) where
       (λ e. block-less p t (blockAt (columned (p .head .flags)) b (p .next)) (eqb-true (p .lines) 0 e)
       (subst (λ (m : ℕ). Within (columned (p .head .flags)) m (p .next) (blockAt (columned (p .head .flags)) b (p .next))) (length-take-le (p .end) s (ltb-false (length s) (p .end) g))
       (block-within (columned (p .head .flags)) b (p .next))))
-      (λ e. line-less p t (entryAt b p) (omega (arith, eqb-false))))
+      (λ e. line-less p t (lineEntryAt b p) (omega (arith, eqb-false))))
 
   turn-less : (w : LineWalk) → Less (todo rule s w) (turnIn rule s v w)
   turn-less New = open-less (countLines rule s)

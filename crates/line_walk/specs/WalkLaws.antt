@@ -40,7 +40,7 @@ use Rattle.line_step.specs.declared.Rest.{Rest}
 use Rattle.line_step.specs.declared.Place.{Place}
 use Rattle.line_step.specs.declared.LineWalk.{LineWalk}
 use Rattle.line_step.specs.declared.LineWalk.the-variants.{New, Between, Inside}
-use Rattle.line_step.specs.Turn.{LineMove, entryIn, entryAt, withHeld, pastLine, holdIn, lineOf, columnPlace, endIn, blockOf, insideTurn, bodyPlace, restAt, enterAt, namedOf, finishIn, betweenTurn, openOf, turnIn, turnOf}
+use Rattle.line_step.specs.Turn.{LineMove, entryIn, lineEntryAt, withHeld, pastLine, holdIn, lineOf, columnPlace, endIn, blockOf, insideTurn, bodyPlace, restAt, enterAt, namedOf, finishIn, betweenTurn, openOf, turnIn, turnOf}
 use Rattle.line_step.specs.TurnLaws.{entry-inside}
 use Rattle.line_walk.specs.Meaning.{line, done, Events, entryThen, linesThen, blocksThen, bodyThen, eventsOf, Records, settleOne, settle, recordsOf}
 use Rattle.line_walk.specs.Next.{todo, nextOf}
@@ -318,7 +318,7 @@ module _ (rule : ℕ → Sort) (s v : List ℕ) where
       (λ e. block-kept p t (blockAt (columnsOn p) b (p .next)) (w .0, w .1) (w .2)
       (subst (λ (m : ℕ). Within (columnsOn p) m (p .next) (blockAt (columnsOn p) b (p .next))) (length-take-le (p .end) s (w .2)) (block-within (columnsOn p) b (p .next))))
       (λ e. let one : 1 ≤ p .lines = omega (arith, eqb-false) in
-      line-kept p t (entryAt b p) (w .0, w .1, w .2, w .3, omega arith, omega arith)))
+      line-kept p t (lineEntryAt b p) (w .0, w .1, w .2, w .3, omega arith, omega arith)))
 
   turn-kept : (w : LineWalk) → Walked w → Kept (turnIn rule s v w)
   turn-kept New i = open-kept (countLines rule s) refl

@@ -2,7 +2,7 @@
 //
 // `LineWalk::New` starts it. Where there is no record, and where it is refused, the caller keeps its walk, so that the answer repeats.
 ghost use mathlib.Core.Path.{_≡_};
-ghost use Rattle.area.specs.Kind.{ruled};
+ghost use Rattle.area.specs.Kind.{crateRule};
 ghost use Rattle.line_walk.specs.Next.{nextOf};
 ghost use Rattle.line_walk.specs.Told.{toldLine};
 use line_record::LineRecord;
@@ -18,7 +18,7 @@ pub enum LineStep {
 }
 
 pub fn next_line(area: &[u8], slots: &[u32], walk: LineWalk) -> LineStep
-    ensures { λ r. ⌜ toldLine r ≡ nextOf ruled (now (area .entry)) (now (slots .entry)) walk ⌝ }
+    ensures { λ r. ⌜ toldLine r ≡ nextOf crateRule (now (area .entry)) (now (slots .entry)) walk ⌝ }
 {
     let mut w = walk;
     loop {

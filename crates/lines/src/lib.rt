@@ -4,7 +4,7 @@
 // `header_of` and `block_at` read a line body that is lent alone. `count_lines`, `seek` and `slot_body` read an area, and test number 11 first,
 // since each goes through `sub_at`.
 ghost use mathlib.Core.Path.{_≡_};
-ghost use Rattle.area.specs.Kind.{ruled};
+ghost use Rattle.area.specs.Kind.{crateRule};
 ghost use Rattle.body.specs.Lines.{lineHead, columned, lineBytes};
 ghost use Rattle.find.specs.Told.{toldFound};
 ghost use Rattle.lines.specs.Lines.{countLines};
@@ -112,7 +112,7 @@ pub enum Counted {
 
 // The tests over the whole area, in its order: a short line header is 1 before what is behind it.
 pub fn count_lines(area: &[u8]) -> Counted
-    ensures { λ r. ⌜ toldCounted r ≡ countLines ruled (now (area .entry)) ⌝ }
+    ensures { λ r. ⌜ toldCounted r ≡ countLines crateRule (now (area .entry)) ⌝ }
 {
     let mut n: usize = 0;
     let mut p: usize = 0;
@@ -144,7 +144,7 @@ pub fn count_lines(area: &[u8]) -> Counted
 
 // The line subsection at or behind `from` whose body starts at `body`.
 pub fn seek(area: &[u8], from: usize, body: usize) -> Found
-    ensures { λ r. ⌜ toldFound r ≡ bodyFrom ruled (now (area .entry)) from body ⌝ }
+    ensures { λ r. ⌜ toldFound r ≡ bodyFrom crateRule (now (area .entry)) from body ⌝ }
 {
     let mut p = from;
     loop {
@@ -190,7 +190,7 @@ pub enum Named {
 
 // `scan` is the end of the body that was named last, or 0: bodies in the order of the area are found in one pass over it.
 pub fn slot_body(area: &[u8], slots: &[u32], slot: usize, scan: usize) -> Named
-    ensures { λ r. ⌜ toldNamed r ≡ slotAt ruled (now (area .entry)) (now (slots .entry)) slot scan ⌝ }
+    ensures { λ r. ⌜ toldNamed r ≡ slotAt crateRule (now (area .entry)) (now (slots .entry)) slot scan ⌝ }
 {
     if slots.len() <= slot {
         return Named::Refused(Refusal::WrongSlot);

@@ -19,7 +19,7 @@ use Rattle.find.specs.Find.{is}
 use Rattle.lines.specs.Slots.{bodyIn, bodyFrom}
 use Rattle.lines.specs.SlotsLaws.{body-passed}
 use Rattle.slot_key.specs.SortLaws.{Each, each-map}
-use Rattle.order.specs.Order.{listed, startOf}
+use Rattle.order.specs.Order.{listed, subStart}
 use Rattle.list_test.specs.WholeList.{comesBy}
 
 module _ (rule : ℕ → Sort) (s : List ℕ) where
@@ -62,7 +62,7 @@ module _ (rule : ℕ → Sort) (s : List ℕ) where
   abbrev pub Begins : Listing Sub Told → ℕ → ℕ → Type 0
   Begins l p v = (p + 8 ≤ v) × Finds l (v - 8)
 
-  pub begins : (l : Listing Sub Told) (p : ℕ) → l ≡ subsFrom rule s p → Each (Begins l p) (map startOf (listed (only (is 0xf2) l)))
+  pub begins : (l : Listing Sub Told) (p : ℕ) → l ≡ subsFrom rule s p → Each (Begins l p) (map subStart (listed (only (is 0xf2) l)))
   unfolding only listed
   begins (more b l) p e =
       let x = b .start + b .len in
@@ -70,8 +70,8 @@ module _ (rule : ℕ → Sort) (s : List ℕ) where
       let g = begin p b l e in
       let here = finds-there (more b l) (b .start - 8) g in
       let rest = each-map (Begins l x) (Begins (more b l) p) (λ v f. (omega arith, finds-passed b l (v - 8) (omega arith) (f .1)))
-      (map startOf (listed (only (is 0xf2) l))) (begins l x (c .0)) in
-      by-cases (λ (k : Listing Sub Told). Each (Begins (more b l) p) (map startOf (listed k))) (eqb (b .kind) 0xf2)
+      (map subStart (listed (only (is 0xf2) l))) (begins l x (c .0)) in
+      by-cases (λ (k : Listing Sub Told). Each (Begins (more b l) p) (map subStart (listed k))) (eqb (b .kind) 0xf2)
       (λ t. ((c .1, here), rest))
       (λ t. rest)
   begins ends p e = tt

@@ -18,7 +18,7 @@ use Rattle.area.specs.SubsLaws.{sub-next, sub-end, sub-refused}
 use Rattle.lines.specs.Lines.{countLines}
 use Rattle.slot_key.specs.Rank.{rank, inside}
 use Rattle.order.specs.Order.{startsFrom}
-use Rattle.list_test.specs.WholeList.{middle, lookAt, halvedIn, halved, holds, slotBehind, allFound, comesBy, comesTo, foundIn, found, listed, firstIn, firstListed, wholeList}
+use Rattle.list_test.specs.WholeList.{middle, lookAt, halvedIn, halved, holds, slotBehind, allFound, comesBy, comesTo, foundIn, found, listedInside, firstListedIn, firstListed, wholeList}
 
 -- ---- the halving
 
@@ -172,12 +172,12 @@ module _ (rule : ℕ → Sort) (s xs : List ℕ) where
   pub found-all : (n : ℕ) → gave n ≡ countLines rule s → true ≡ allFound (rank s) xs 0 (startsFrom rule s 0) → n ≡ found rule s xs
   found-all n e h = ap (λ (t : Bool). cond t n 0) h ∙ ap (foundIn rule s xs) e
 
-  pub listed-outside : false ≡ inside s xs → 0 ≡ listed rule s xs
-  unfolding listed
+  pub listed-outside : false ≡ inside s xs → 0 ≡ listedInside rule s xs
+  unfolding listedInside
   listed-outside h = ap (λ (t : Bool). cond t (found rule s xs) 0) h
 
-  pub listed-inside : true ≡ inside s xs → (n : ℕ) → n ≡ found rule s xs → n ≡ listed rule s xs
-  unfolding listed
+  pub listed-inside : true ≡ inside s xs → (n : ℕ) → n ≡ found rule s xs → n ≡ listedInside rule s xs
+  unfolding listedInside
   listed-inside h n e = e ∙ ap (λ (t : Bool). cond t (found rule s xs) 0) h
 
 same-both : (t : Bool) (k : ℕ) → cond t k k ≡ k
@@ -193,18 +193,18 @@ one-of false u k n e = inl e
 
 module _ (rule : ℕ → Sort) (s v : List ℕ) where
   pub first-refused : (t : Told) → refused t ≡ countLines rule s → 0 ≡ firstListed rule s v
-  first-refused t e = ap (firstIn rule s v) e
+  first-refused t e = ap (firstListedIn rule s v) e
 
   module _ (n : ℕ) (e : gave n ≡ countLines rule s) where
     pub first-short : length v < n → 0 ≡ firstListed rule s v
-    first-short h = sym (simp tests) ∙ ap (firstIn rule s v) e
+    first-short h = sym (simp tests) ∙ ap (firstListedIn rule s v) e
 
-    pub first-is : n ≤ length v → (r : ℕ) → r ≡ listed rule s (take n v) → r ≡ firstListed rule s v
-    first-is h r q = q ∙ sym (simp tests) ∙ ap (firstIn rule s v) e
+    pub first-is : n ≤ length v → (r : ℕ) → r ≡ listedInside rule s (take n v) → r ≡ firstListed rule s v
+    first-is h r q = q ∙ sym (simp tests) ∙ ap (firstListedIn rule s v) e
 
   -- a list of as many slots as there are line bodies
-  exactly : (x : Reply ℕ Told) → x ≡ countLines rule s → (n : ℕ) → n ≡ cond (inside s v) (foundIn rule s v x) 0 → n ≡ length v → n ≡ firstIn rule s v x
-  unfolding listed
+  exactly : (x : Reply ℕ Told) → x ≡ countLines rule s → (n : ℕ) → n ≡ cond (inside s v) (foundIn rule s v x) 0 → n ≡ length v → n ≡ firstListedIn rule s v x
+  unfolding listedInside
   exactly (gave k) e n q h =
       let most = one-of (inside s v) (allFound (rank s) v 0 (startsFrom rule s 0)) k n q in
       by-cases (λ r. n ≡ r) (ltb (length v) k) (λ z. let l = ltb-true (length v) k z in ⊎-elim (λ (y : n ≡ 0). y) (λ (y : n ≡ k). absurd (omega arith)) most)
@@ -214,8 +214,8 @@ module _ (rule : ℕ → Sort) (s v : List ℕ) where
   exactly nothing e n q h = q ∙ same-both (inside s v) 0
   exactly (refused t) e n q h = q ∙ same-both (inside s v) 0
 
-  pub first-exact : (n : ℕ) → n ≡ listed rule s v → n ≡ length v → n ≡ firstListed rule s v
-  unfolding listed
+  pub first-exact : (n : ℕ) → n ≡ listedInside rule s v → n ≡ length v → n ≡ firstListed rule s v
+  unfolding listedInside
   first-exact n q h = exactly (countLines rule s) refl n q h
 
   module _ (p : ℕ) where

@@ -68,17 +68,17 @@ abbrev pub found : (ℕ → Sort) → List ℕ → List ℕ → ℕ
 found rule s xs = foundIn rule s xs (countLines rule s)
 
 -- the same of slots that need not lie in the area
-unfoldable pub listed : (ℕ → Sort) → List ℕ → List ℕ → ℕ
-listed rule s xs = cond (inside s xs) (found rule s xs) 0
+unfoldable pub listedInside : (ℕ → Sort) → List ℕ → List ℕ → ℕ
+listedInside rule s xs = cond (inside s xs) (found rule s xs) 0
 
 -- the same of the first slots of v, as many as there are line bodies
-abbrev pub firstIn : (ℕ → Sort) → List ℕ → List ℕ → Reply ℕ Told → ℕ
-firstIn rule s v (gave n) = cond (ltb (length v) n) 0 (listed rule s (take n v))
-firstIn rule s v nothing = 0
-firstIn rule s v (refused t) = 0
+abbrev pub firstListedIn : (ℕ → Sort) → List ℕ → List ℕ → Reply ℕ Told → ℕ
+firstListedIn rule s v (gave n) = cond (ltb (length v) n) 0 (listedInside rule s (take n v))
+firstListedIn rule s v nothing = 0
+firstListedIn rule s v (refused t) = 0
 
 abbrev pub firstListed : (ℕ → Sort) → List ℕ → List ℕ → ℕ
-firstListed rule s v = firstIn rule s v (countLines rule s)
+firstListed rule s v = firstListedIn rule s v (countLines rule s)
 
 -- how many slots a whole list v takes, or 0: each line body is found among them, and p is a place that a walk comes to
 unfoldable pub wholeList : (ℕ → Sort) → List ℕ → List ℕ → ℕ → ℕ

@@ -25,7 +25,7 @@ use Rattle.slot_key.specs.RankLaws.{After, Ascends}
 use Rattle.order.specs.Order.{startsFrom}
 use Rattle.order.specs.OrderLaws.{counted-starts}
 use Rattle.order.specs.BuiltLaws.{ascends}
-use Rattle.list_test.specs.WholeList.{middle, lookAt, halvedIn, halved, holds, slotBehind, allFound, comesTo, foundIn, listed, firstIn, wholeList}
+use Rattle.list_test.specs.WholeList.{middle, lookAt, halvedIn, halved, holds, slotBehind, allFound, comesTo, foundIn, listedInside, firstListedIn, wholeList}
 use Rattle.list_test.specs.StepLaws.{holds-at}
 use Rattle.list_test.specs.MemberLaws.{In, in-at, each-in, Apart, nothing-else}
 use Rattle.list_test.specs.PlacesLaws.{Begins, begins, comes-finds}
@@ -88,8 +88,8 @@ module _ (rule : ℕ → Sort) (s v : List ℕ) (p : ℕ) where
     all : allFound (rank s) (take n v) 0 (startsFrom rule s 0) ≡ true
 
   -- n being how many line bodies there are
-  listed-all : (n m : ℕ) (xs : List ℕ) → gave n ≡ countLines rule s → m < listed rule s xs → (listed rule s xs ≡ n) × (allFound (rank s) xs 0 (startsFrom rule s 0) ≡ true)
-  unfolding listed
+  listed-all : (n m : ℕ) (xs : List ℕ) → gave n ≡ countLines rule s → m < listedInside rule s xs → (listedInside rule s xs ≡ n) × (allFound (rank s) xs 0 (startsFrom rule s 0) ≡ true)
+  unfolding listedInside
   listed-all n m xs e =
       subst (λ x. m < cond (inside s xs) (foundIn rule s xs x) 0 → (cond (inside s xs) (foundIn rule s xs x) 0 ≡ n) × (allFound (rank s) xs 0 (startsFrom rule s 0) ≡ true)) e
       (by-cases (λ k. m < k → (k ≡ n) × (allFound (rank s) xs 0 (startsFrom rule s 0) ≡ true)) (inside s xs)
@@ -97,7 +97,7 @@ module _ (rule : ℕ → Sort) (s v : List ℕ) (p : ℕ) where
       (λ b h. (refl, b)) (λ b h. absurd (omega arith)))
       (λ a h. absurd (omega arith)))
 
-  passed-in : (m : ℕ) → comesTo rule s p ≡ true → (x : Reply ℕ Told) → x ≡ countLines rule s → m < firstIn rule s v x → Passed (firstIn rule s v x)
+  passed-in : (m : ℕ) → comesTo rule s p ≡ true → (x : Reply ℕ Told) → x ≡ countLines rule s → m < firstListedIn rule s v x → Passed (firstListedIn rule s v x)
   passed-in m b (gave n) e =
       by-cases (λ (k : ℕ). m < k → Passed k) (ltb (length v) n) (λ a h. absurd (omega arith))
       (λ a h.

@@ -6,9 +6,9 @@ ghost use mathlib.Core.Path.{_≡_};
 ghost use Prim.Native.Nat.{_+_, _≤_};
 ghost use lib.ListN.{length};
 ghost use lib.Dec.{ltb};
-ghost use Rattle.area.specs.Kind.{ruled};
+ghost use Rattle.area.specs.Kind.{crateRule};
 ghost use Rattle.slot_key.specs.Rank.{rank, weight, Inside};
-ghost use Rattle.list_test.specs.WholeList.{halved, holds, slotBehind, found, listed, firstListed, comesTo, wholeList};
+ghost use Rattle.list_test.specs.WholeList.{halved, holds, slotBehind, found, listedInside, firstListed, comesTo, wholeList};
 ghost use Rattle.list_test.specs.Begin.{goesBack, backs, tested, beginAt};
 use area::SubStep;
 use area::sub_at;
@@ -84,7 +84,7 @@ fn slot_behind(area: &[u8], named: &[u32], next: usize, start: u32) -> usize
 // How many line bodies there are, after the tests of `count_lines`, if the start of each is found; else 0.
 fn found(area: &[u8], named: &[u32]) -> usize
     requires { ⌜ Inside (now area) (now named) ⌝ }
-    ensures { λ r. ⌜ r ≡ found ruled (now (area .entry)) (now (named .entry)) ⌝ }
+    ensures { λ r. ⌜ r ≡ found crateRule (now (area .entry)) (now (named .entry)) ⌝ }
 {
     let mut n: usize = 0;
     let mut behind: usize = 0;
@@ -121,7 +121,7 @@ fn found(area: &[u8], named: &[u32]) -> usize
 
 // The same of any slots: they are tested to lie in the area.
 fn listed(area: &[u8], named: &[u32]) -> usize
-    ensures { λ r. ⌜ r ≡ listed ruled (now (area .entry)) (now (named .entry)) ⌝ }
+    ensures { λ r. ⌜ r ≡ listedInside crateRule (now (area .entry)) (now (named .entry)) ⌝ }
 {
     if inside(area, named) {
         return found(area, named);
@@ -131,7 +131,7 @@ fn listed(area: &[u8], named: &[u32]) -> usize
 
 // Is it a place that a walk over the subsections comes to?
 fn comes_to(area: &[u8], place: usize) -> bool
-    ensures { λ r. ⌜ r ≡ comesTo ruled (now (area .entry)) place ⌝ }
+    ensures { λ r. ⌜ r ≡ comesTo crateRule (now (area .entry)) place ⌝ }
 {
     let mut p: usize = 0;
     while p < place {
@@ -157,7 +157,7 @@ fn comes_to(area: &[u8], place: usize) -> bool
 
 // The number of the area's line bodies if the first of the slots, as many, are a whole list; else 0.
 fn first_listed(area: &[u8], slots: &[u32]) -> usize
-    ensures { λ r. ⌜ r ≡ firstListed ruled (now (area .entry)) (now (slots .entry)) ⌝ }
+    ensures { λ r. ⌜ r ≡ firstListed crateRule (now (area .entry)) (now (slots .entry)) ⌝ }
 {
     match count_lines(area) {
         Counted::Lines(n) => {
@@ -172,7 +172,7 @@ fn first_listed(area: &[u8], slots: &[u32]) -> usize
 
 // The same if a search may begin at `scan`, else 0. Most lists have no other slots, so that the line bodies need not be counted first.
 pub fn whole_list(area: &[u8], slots: &[u32], scan: usize) -> usize
-    ensures { λ r. ⌜ r ≡ wholeList ruled (now (area .entry)) (now (slots .entry)) scan ⌝ }
+    ensures { λ r. ⌜ r ≡ wholeList crateRule (now (area .entry)) (now (slots .entry)) scan ⌝ }
 {
     if !comes_to(area, scan) {
         return 0;
@@ -212,7 +212,7 @@ fn seldom_back(slots: &[u32]) -> bool
 
 // As `whole_list` where the test is worth it. A list that hardly goes back in the area is found in few passes over it, and is not tested: 0.
 pub fn tested_list(area: &[u8], slots: &[u32], scan: usize) -> usize
-    ensures { λ r. ⌜ r ≡ tested ruled (now (area .entry)) (now (slots .entry)) scan ⌝ }
+    ensures { λ r. ⌜ r ≡ tested crateRule (now (area .entry)) (now (slots .entry)) scan ⌝ }
 {
     if seldom_back(slots) {
         return 0;

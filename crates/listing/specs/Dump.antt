@@ -14,10 +14,10 @@ use Rattle.area.specs.Kind.{Sort}
 use Rattle.area.specs.Subs.{Sub, subsFrom}
 use Rattle.find.specs.Find.{same}
 use Rattle.lines.specs.Lines.{countLines}
-use Rattle.files.specs.Files.{File, filesIn, spelt}
+use Rattle.files.specs.Files.{File, filesIn, fileSpelt}
 use Rattle.line_walk.specs.Meaning.{areaRecords}
 use Rattle.text.specs.Text.{joined}
-use Rattle.printed.specs.Printed.{Pieces, headLine, subLine, fileLine, endLine, refusedLine}
+use Rattle.printed.specs.Printed.{Pieces, headLine, subLine, fileLine, endOfText, refusedLine}
 use Rattle.line_text.specs.LineText.{recordLine}
 
 abbrev pub mostBytes : ℕ
@@ -28,7 +28,7 @@ abbrev pub subRow : Sub → Pieces
 subRow b = subLine (b .kind) (b .len)
 
 abbrev pub fileRow : List ℕ → File → Pieces
-fileRow s f = fileLine (f .index) (f .info .name) (f .info .kind) (spelt s f .bytes)
+fileRow s f = fileLine (f .index) (f .info .name) (f .info .kind) (fileSpelt s f .bytes)
 
 -- the last line: the end, or the refusal's number
 abbrev pub refusal : Told → Pieces
@@ -36,26 +36,26 @@ refusal t = refusedLine (t .number)
 
 unfoldable pub closing : Listing Pieces Told → Listing Pieces Told
 closing (more x l) = more x (closing l)
-closing ends = more endLine ends
+closing ends = more endOfText ends
 closing (fails t) = more (refusal t) ends
 
 -- THE LINES of the text
-unfoldable pub linesOf : (ℕ → Sort) → List ℕ → Listing Pieces Told
-linesOf rule s =
+unfoldable pub sheetLines : (ℕ → Sort) → List ℕ → Listing Pieces Told
+sheetLines rule s =
     cond (ltb mostBytes (length s)) (more (refusal (told why.TooLong)) ends)
     (more (headLine (length s))
     (closing (andThen (mapped subRow same (subsFrom rule s 0))
     (andThen (mapped (fileRow s) same (filesIn rule s)) (mapped recordLine same (areaRecords rule s))))))
 
 -- and their bytes, one line after the other
-unfoldable pub bytesOf : Listing Pieces Told → List ℕ
-bytesOf (more x l) = joined x ++ bytesOf l
-bytesOf ends = []
-bytesOf (fails t) = []
+unfoldable pub sheetBytes : Listing Pieces Told → List ℕ
+sheetBytes (more x l) = joined x ++ sheetBytes l
+sheetBytes ends = []
+sheetBytes (fails t) = []
 
 -- THE TEXT
 abbrev pub textOf : (ℕ → Sort) → List ℕ → List ℕ
-textOf rule s = bytesOf (linesOf rule s)
+textOf rule s = sheetBytes (sheetLines rule s)
 
 -- ---- what a caller of a walk over these lines has
 
@@ -67,10 +67,10 @@ spoken (nothing ∷ rs) = spoken rs
 spoken (refused t ∷ rs) = spoken rs
 
 -- how many lines there are
-unfoldable pub size : Listing Pieces Told → ℕ
-size (more x l) = suc (size l)
-size ends = 0
-size (fails t) = 0
+unfoldable pub sheetSize : Listing Pieces Told → ℕ
+sheetSize (more x l) = suc (sheetSize l)
+sheetSize ends = 0
+sheetSize (fails t) = 0
 
 -- slots for every line subsection
 abbrev pub Room : (ℕ → Sort) → List ℕ → List ℕ → Type 0

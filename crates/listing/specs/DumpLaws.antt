@@ -1,4 +1,4 @@
--- THE THEOREM of the text: n steps, each at the state that the step before handed on, put the lines of `linesOf` in order and then answer "none"
+-- THE THEOREM of the text: n steps, each at the state that the step before handed on, put the lines of `sheetLines` in order and then answer "none"
 -- again and again, if the slots hold the area's order list. And what a loop over the steps needs: each line leaves less to do.
 use Prim.Native.Nat.{ℕ, zero, suc, _+_, _≤_}
 use mathlib.Core.Path.{_≡_, refl, sym, ap, _∙_}
@@ -37,9 +37,9 @@ use Rattle.line_walk.specs.Next.{todo, nextOf}
 use Rattle.line_walk.specs.NextLaws.{falls}
 use Rattle.line_walk.specs.WalkLaws.{walk-is}
 use Rattle.text.specs.Text.{joined}
-use Rattle.printed.specs.Printed.{Pieces, headLine, endLine}
+use Rattle.printed.specs.Printed.{Pieces, headLine, endOfText}
 use Rattle.line_text.specs.LineText.{recordLine}
-use Rattle.listing.specs.Dump.{mostBytes, subRow, fileRow, refusal, closing, linesOf, bytesOf, textOf, Room, spoken, size}
+use Rattle.listing.specs.Dump.{mostBytes, subRow, fileRow, refusal, closing, sheetLines, sheetBytes, textOf, Room, spoken, sheetSize}
 use Rattle.listing.specs.Step.{Line, stage, linesStep, filesStep, subsStep, headStep, stepOf}
 use Rattle.listing.specs.RoomLaws.{room-taken}
 use Rattle.listing.specs.declared.TextWalk.{TextWalk}
@@ -114,7 +114,7 @@ module _ (rule : ℕ → Sort) (s v : List ℕ) where
   unfolding linesFrom recordLines closing
   lines-right w =
       ap closing (sym (and-ends (recordLines w)))
-      ∙ stage-right Lines recordLine recordsAt ends (gives endLine Done) (λ t. ap closing (sym (and-ends (recordLines t)))) refl (recordsAt w) (nextOf rule s v w) (records-step w)
+      ∙ stage-right Lines recordLine recordsAt ends (gives endOfText Done) (λ t. ap closing (sym (and-ends (recordLines t)))) refl (recordsAt w) (nextOf rule s v w) (records-step w)
 
   files-right : (w : TableWalk) → closing (fileLines w) ≡ onMove linesFrom (moved (filesStep rule s v w))
   unfolding linesFrom fileLines
@@ -174,8 +174,8 @@ records-built rule s xs room (gave n) e a =
 records-built rule s xs room nothing e a = absurd a
 records-built rule s xs room (refused t) e a = rw e
 
-pub lines-new : (rule : ℕ → Sort) (s xs : List ℕ) → Room rule s xs → linesFrom rule s (slotsAfter rule s xs) Head ≡ linesOf rule s
-unfolding linesFrom linesOf subLines fileLines recordLines
+pub lines-new : (rule : ℕ → Sort) (s xs : List ℕ) → Room rule s xs → linesFrom rule s (slotsAfter rule s xs) Head ≡ sheetLines rule s
+unfolding linesFrom sheetLines subLines fileLines recordLines
 lines-new rule s xs room =
     let v = slotsAfter rule s xs in
     let l : andThen (mapped (fileRow s) same (filesAt rule s v table.New)) (mapped recordLine same (recordsAt rule s v line.New))
@@ -186,13 +186,13 @@ lines-new rule s xs room =
     (more (headLine (length s)) (closing (andThen (mapped subRow same (subsFrom rule s 0)) k)))) l
 
 -- THE THEOREM
-pub text-is : (rule : ℕ → Sort) (s xs : List ℕ) → Room rule s xs → (n : ℕ) → calls (stepOf rule s (slotsAfter rule s xs)) n Head ≡ replies n (linesOf rule s)
+pub text-is : (rule : ℕ → Sort) (s xs : List ℕ) → Room rule s xs → (n : ℕ) → calls (stepOf rule s (slotsAfter rule s xs)) n Head ≡ replies n (sheetLines rule s)
 text-is rule s xs room n = text-from rule s (slotsAfter rule s xs) n Head ∙ ap (replies n) (lines-new rule s xs room)
 
 -- ---- the bytes: what the lines of enough calls make, one after the other, is the text
 
-all-spoken : (l : Listing Pieces Told) (n : ℕ) → size l ≤ n → spoken (replies n l) ≡ bytesOf l
-unfolding spoken size replies bytesOf
+all-spoken : (l : Listing Pieces Told) (n : ℕ) → sheetSize l ≤ n → spoken (replies n l) ≡ sheetBytes l
+unfolding spoken sheetSize replies sheetBytes
 all-spoken (more x l) zero h = absurd (omega arith)
 all-spoken (more x l) (suc n) h = ap (λ (k : List ℕ). joined x ++ k) (all-spoken l n (omega arith))
 all-spoken ends zero h = refl
@@ -200,9 +200,9 @@ all-spoken ends (suc n) h = all-spoken ends n (omega arith)
 all-spoken (fails t) zero h = refl
 all-spoken (fails t) (suc n) h = all-spoken (fails t) n (omega arith)
 
-pub text-bytes : (rule : ℕ → Sort) (s xs : List ℕ) → Room rule s xs → (n : ℕ) → size (linesOf rule s) ≤ n
+pub text-bytes : (rule : ℕ → Sort) (s xs : List ℕ) → Room rule s xs → (n : ℕ) → sheetSize (sheetLines rule s) ≤ n
     → spoken (calls (stepOf rule s (slotsAfter rule s xs)) n Head) ≡ textOf rule s
-text-bytes rule s xs room n h = ap spoken (text-is rule s xs room n) ∙ all-spoken (linesOf rule s) n h
+text-bytes rule s xs room n h = ap spoken (text-is rule s xs room n) ∙ all-spoken (sheetLines rule s) n h
 
 -- 3,277 slots suffice for an area whose text has a head
 pub slots-suffice : (rule : ℕ → Sort) (s xs : List ℕ) → length s ≤ mostBytes + 1 → 3277 ≤ length xs → Room rule s xs

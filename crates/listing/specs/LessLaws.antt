@@ -31,10 +31,10 @@ use Rattle.line_step.specs.declared.LineWalk.the-variants as line
 use Rattle.line_walk.specs.Next.{todo, nextOf}
 use Rattle.line_walk.specs.NextLaws.{falls}
 use Rattle.text.specs.Text.{joined}
-use Rattle.printed.specs.Printed.{Pieces, longestLine, endLine}
+use Rattle.printed.specs.Printed.{Pieces, longestLine, endOfText}
 use Rattle.line_text.specs.LineText.{recordLine}
 use Rattle.listing.specs.Dump.{mostBytes, subRow, fileRow}
-use Rattle.listing.specs.Step.{Line, stage, linesStep, filesStep, subsStep, headStep, stepOf, Both, both, shown, stepIn}
+use Rattle.listing.specs.Step.{Line, stage, linesStep, filesStep, subsStep, headStep, stepOf, Both, both, lineShown, textStep}
 use Rattle.listing.specs.Told.{toldText}
 use Rattle.listing.specs.declared.TextStep.{TextStep}
 use Rattle.listing.specs.declared.TextStep.the-variants as step
@@ -120,7 +120,7 @@ module _ (rule : ℕ → Sort) (s : List ℕ) where
     lines-less : (w : LineWalk) → Less (recordsLeft w) (linesStep rule s v w)
     unfolding nextOf
     lines-less w =
-        stage-less Lines recordLine (todo rule s) w (recordsLeft w) 1 (λ t l. omega arith) (omega arith) (omega arith) (gives endLine Done) (omega arith)
+        stage-less Lines recordLine (todo rule s) w (recordsLeft w) 1 (λ t l. omega arith) (omega arith) (omega arith) (gives endOfText Done) (omega arith)
         (nextOf rule s v w) (first-less (turnOf rule s v) (todo rule s) (falls rule s v) w)
 
     files-step-less : (w : TableWalk) → Less (textLeft (Files w)) (filesStep rule s v w)
@@ -145,13 +145,13 @@ module _ (rule : ℕ → Sort) (s : List ℕ) where
     text-less w t x e = subst⁻¹ (Less (textLeft w)) e (step-falls w)
 
     -- what a loop over `next_text` needs of a line that it answers: it stands in the buffer, and leaves less to do
-    pub text-line : (r : TextStep) (b y : List ℕ) (n : ℕ) (w t : TextWalk) → r ≡ step.Line n t → both (toldText r) y ≡ stepIn b (stepOf rule s v w)
+    pub text-line : (r : TextStep) (b y : List ℕ) (n : ℕ) (w t : TextWalk) → r ≡ step.Line n t → both (toldText r) y ≡ textStep b (stepOf rule s v w)
         → (n ≤ length y) × (textLeft t < textLeft w)
-    unfolding stepIn shown
+    unfolding textStep lineShown
     text-line r b y n w t er q = by (ltb (length b) longestLine) (stepOf rule s v w) (text-less w) (ap (λ (k : TextStep). both (toldText k) y) (sym er) ∙ q)
       where
         by : (c : Bool) (u : Line) → ((r : TextWalk) (x : Pieces) → gives x r ≡ u → textLeft r < textLeft w)
-            → both (gives n t) y ≡ cond c (both (refuses (told why.NoRoom)) b) (shown b u) → (n ≤ length y) × (textLeft t < textLeft w)
+            → both (gives n t) y ≡ cond c (both (refuses (told why.NoRoom)) b) (lineShown b u) → (n ≤ length y) × (textLeft t < textLeft w)
         by true u f e = let q = ap (λ (z : Both). z .answer) e in let z : _≡_ {A = ℕ} 0 1 = cc in absurd (omega arith)
         by false (gives x r) f e =
             let q = ap (λ (z : Both). z .answer) e in

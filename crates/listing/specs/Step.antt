@@ -20,7 +20,7 @@ use Rattle.line_step.specs.declared.LineWalk.{LineWalk}
 use Rattle.line_step.specs.declared.LineWalk.the-variants as line
 use Rattle.line_walk.specs.Next.{nextOf}
 use Rattle.text.specs.Text.{joined, Next, at, full}
-use Rattle.printed.specs.Printed.{Pieces, longestLine, headLine, endLine}
+use Rattle.printed.specs.Printed.{Pieces, longestLine, headLine, endOfText}
 use Rattle.line_text.specs.LineText.{recordLine}
 use Rattle.listing.specs.Dump.{mostBytes, subRow, fileRow, refusal}
 use Rattle.listing.specs.declared.TextWalk.{TextWalk}
@@ -39,7 +39,7 @@ stage state row (refuses t) x = gives (refusal t) Done
 
 module _ (rule : ℕ → Sort) (s v : List ℕ) where
   abbrev pub linesStep : LineWalk → Line
-  linesStep w = stage Lines recordLine (nextOf rule s v w) (gives endLine Done)
+  linesStep w = stage Lines recordLine (nextOf rule s v w) (gives endOfText Done)
 
   abbrev pub filesStep : TableWalk → Line
   filesStep w = stage Files (fileRow s) (fileStep rule s w) (linesStep line.New)
@@ -69,15 +69,15 @@ abbrev pub both : Answer TextWalk ℕ Told → List ℕ → Both
 both a b = record { answer = a; bytes = b }
 
 -- the line at the start of the buffer, told by its length
-unfoldable pub shown : List ℕ → Line → Both
-shown b (gives x t) = both (gives (length (joined x)) t) (put b 0 (joined x))
-shown b none = both none b
-shown b (refuses t) = both (refuses t) b
+unfoldable pub lineShown : List ℕ → Line → Both
+lineShown b (gives x t) = both (gives (length (joined x)) t) (put b 0 (joined x))
+lineShown b none = both none b
+lineShown b (refuses t) = both (refuses t) b
 
-unfoldable pub stepIn : List ℕ → Line → Both
-stepIn b u = cond (ltb (length b) longestLine) (both (refuses (told why.NoRoom)) b) (shown b u)
+unfoldable pub textStep : List ℕ → Line → Both
+textStep b u = cond (ltb (length b) longestLine) (both (refuses (told why.NoRoom)) b) (lineShown b u)
 
 -- what a place behind the pieces of a line says
-abbrev pub lineOf : Next → TextWalk → Answer TextWalk ℕ Told
-lineOf (at n) t = gives n t
-lineOf full t = refuses (told why.NoRoom)
+abbrev pub lineAnswer : Next → TextWalk → Answer TextWalk ℕ Told
+lineAnswer (at n) t = gives n t
+lineAnswer full t = refuses (told why.NoRoom)

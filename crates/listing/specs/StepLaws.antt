@@ -19,25 +19,25 @@ use Rattle.table.specs.Table.{Place, spotIn, spotOf, shifted, readAt}
 use Rattle.table.specs.declared.TableWalk.{TableWalk}
 use Rattle.body.specs.Checksums.{up4}
 use Rattle.checksums.specs.Entry.{Entry, keptOf, closedAs, entryAt}
-use Rattle.files.specs.Files.{File, fileOf, filesSub, fileStep, held, partOf, spelt}
+use Rattle.files.specs.Files.{File, fileOf, filesSub, fileStep, held, partOf, fileSpelt}
 use Rattle.line_step.specs.declared.LineWalk.the-variants as line
 use Rattle.text.specs.Text.{joined, Next, at, Page, page, writtenAll}
 use Rattle.text.specs.PageLaws.{all-written}
 use Rattle.printed.specs.Printed.{Pieces, longestLine, headLine, fileLine}
 use Rattle.printed.specs.PrintedLaws.{Short, file-fits}
 use Rattle.listing.specs.Dump.{mostBytes, fileRow, refusal}
-use Rattle.listing.specs.Step.{Line, stage, linesStep, filesStep, headStep, both, shown, stepIn, lineOf}
+use Rattle.listing.specs.Step.{Line, stage, linesStep, filesStep, headStep, both, lineShown, textStep, lineAnswer}
 use Rattle.listing.specs.declared.TextWalk.{TextWalk}
 use Rattle.listing.specs.declared.TextWalk.the-variants.{Subs, Files, Done}
 
--- a line that fits, put at the start of a buffer that has room for every line: what the page says is what is shown
+-- a line that fits, put at the start of a buffer that has room for every line: what the page says is what is lineShown
 pub line-shown : (b y : List ℕ) (p : Next) (x : Pieces) (t : TextWalk) (a : Answer TextWalk ℕ Told) → longestLine ≤ length b → length (joined x) ≤ longestLine
-    → page y p ≡ writtenAll x (page b (at 0)) → a ≡ lineOf p t → both a y ≡ shown b (gives x t)
-unfolding shown
+    → page y p ≡ writtenAll x (page b (at 0)) → a ≡ lineAnswer p t → both a y ≡ lineShown b (gives x t)
+unfolding lineShown
 line-shown b y p x t a room fits e ea =
     let w : page y p ≡ page (put b 0 (joined x)) (at (length (joined x)))
     = e ∙ sym (all-written x b 0 (omega arith)) ∙ ap (λ (n : ℕ). page (put b 0 (joined x)) (at n)) (omega arith) in
-    (λ i. both (ea i) y) ∙ ap (λ (q : Page). both (lineOf (q .next) t) (q .bytes)) w
+    (λ i. both (ea i) y) ∙ ap (λ (q : Page). both (lineAnswer (q .next) t) (q .bytes)) w
 
 -- ---- the ways out of `head_step`
 
@@ -52,36 +52,36 @@ module _ (s : List ℕ) where
 
 -- ---- the room
 
-pub none-shown : (b : List ℕ) → both none b ≡ shown b none
-unfolding shown
+pub none-shown : (b : List ℕ) → both none b ≡ lineShown b none
+unfolding lineShown
 none-shown b = refl
 
-pub step-none : (b : List ℕ) (u : Line) → length b < longestLine → both (refuses (told why.NoRoom)) b ≡ stepIn b u
-unfolding stepIn
+pub step-none : (b : List ℕ) (u : Line) → length b < longestLine → both (refuses (told why.NoRoom)) b ≡ textStep b u
+unfolding textStep
 step-none b u h = rw (lt-ltb (length b) longestLine h)
 
-step-room : (b : List ℕ) (u : Line) → longestLine ≤ length b → shown b u ≡ stepIn b u
-unfolding stepIn
+step-room : (b : List ℕ) (u : Line) → longestLine ≤ length b → lineShown b u ≡ textStep b u
+unfolding textStep
 step-room b u h = rw (le-ltb (length b) longestLine h)
 
 -- ---- a stage: a is its walk's answer; r is what the code answers, and y what the buffer then holds
 
 module _ {S B : Type 0} (state : S → TextWalk) (row : B → Pieces) (a : Answer S B Told) (x : Line) (b y : List ℕ) (r : Answer TextWalk ℕ Told) where
   pub stage-gives : (p : Next) (d : B) (t : S) → gives d t ≡ a → longestLine ≤ length b → length (joined (row d)) ≤ longestLine
-      → page y p ≡ writtenAll (row d) (page b (at 0)) → r ≡ lineOf p (state t) → both r y ≡ shown b (stage state row a x)
+      → page y p ≡ writtenAll (row d) (page b (at 0)) → r ≡ lineAnswer p (state t) → both r y ≡ lineShown b (stage state row a x)
   unfolding stage
   stage-gives p d t e room fits w l =
-      line-shown b y p (row d) (state t) r room fits w l ∙ ap (λ (u : Answer S B Told). shown b (stage state row u x)) e
+      line-shown b y p (row d) (state t) r room fits w l ∙ ap (λ (u : Answer S B Told). lineShown b (stage state row u x)) e
 
-  pub stage-none : none ≡ a → both r y ≡ shown b x → both r y ≡ shown b (stage state row a x)
+  pub stage-none : none ≡ a → both r y ≡ lineShown b x → both r y ≡ lineShown b (stage state row a x)
   unfolding stage
-  stage-none e w = w ∙ ap (λ (u : Answer S B Told). shown b (stage state row u x)) e
+  stage-none e w = w ∙ ap (λ (u : Answer S B Told). lineShown b (stage state row u x)) e
 
   pub stage-refuses : (p : Next) (t : Told) → refuses t ≡ a → longestLine ≤ length b → length (joined (refusal t)) ≤ longestLine
-      → page y p ≡ writtenAll (refusal t) (page b (at 0)) → r ≡ lineOf p Done → both r y ≡ shown b (stage state row a x)
+      → page y p ≡ writtenAll (refusal t) (page b (at 0)) → r ≡ lineAnswer p Done → both r y ≡ lineShown b (stage state row a x)
   unfolding stage
   stage-refuses p t e room fits w l =
-      line-shown b y p (refusal t) Done r room fits w l ∙ ap (λ (u : Answer S B Told). shown b (stage state row u x)) e
+      line-shown b y p (refusal t) Done r room fits w l ∙ ap (λ (u : Answer S B Told). lineShown b (stage state row u x)) e
 
 -- ---- the bytes of a file's checksum: its size is a byte
 
@@ -141,7 +141,7 @@ part-small s start len h =
     by-cases (λ (x : Reply Place Told). held x .len ≤ 255) (ltb longest (length s)) (λ e. omega arith)
     (λ e. by-cases (λ (x : Reply Place Told). held x .len ≤ 255) (ltb (length s) (start + len)) (λ f. omega arith) (λ f. h))
 
-row-short : (rule : ℕ → Sort) (s : List ℕ) (w t : TableWalk) (f : File) → Bytes s → gives f t ≡ fileStep rule s w → length (spelt s f .bytes) ≤ 255
+row-short : (rule : ℕ → Sort) (s : List ℕ) (w t : TableWalk) (f : File) → Bytes s → gives f t ≡ fileStep rule s w → length (fileSpelt s f .bytes) ≤ 255
 row-short rule s w t f h e =
     let l : f .info .len ≤ 255 = subst⁻¹ SmallFile e (step-small rule s w h) in
     let a = partOf s (f .info .start) (f .info .len) in
@@ -149,14 +149,14 @@ row-short rule s w t f h e =
 
 -- a file's line, its bytes l as they are handed back
 pub file-line : (rule : ℕ → Sort) (s v : List ℕ) (w : TableWalk) (b y : List ℕ) (r : Answer TextWalk ℕ Told) (p : Next) (f : File) (t : TableWalk) (l : List ℕ)
-    → gives f t ≡ fileStep rule s w → Bytes s → Short (f .index) → Short (f .info .name) → longestLine ≤ length b → l ≡ spelt s f .bytes
-    → page y p ≡ writtenAll (fileLine (f .index) (f .info .name) (f .info .kind) l) (page b (at 0)) → r ≡ lineOf p (Files t)
-    → both r y ≡ shown b (filesStep rule s v w)
+    → gives f t ≡ fileStep rule s w → Bytes s → Short (f .index) → Short (f .info .name) → longestLine ≤ length b → l ≡ fileSpelt s f .bytes
+    → page y p ≡ writtenAll (fileLine (f .index) (f .info .name) (f .info .kind) l) (page b (at 0)) → r ≡ lineAnswer p (Files t)
+    → both r y ≡ lineShown b (filesStep rule s v w)
 file-line rule s v w b y r p f t l e h i n room el q g =
     stage-gives Files (fileRow s) (fileStep rule s w) (linesStep rule s v line.New) b y r p f t e room
-    (file-fits (f .index) (f .info .name) (f .info .kind) (spelt s f .bytes) i n (row-short rule s w t f h e))
+    (file-fits (f .index) (f .info .name) (f .info .kind) (fileSpelt s f .bytes) i n (row-short rule s w t f h e))
     (q ∙ ap (λ (m : List ℕ). writtenAll (fileLine (f .index) (f .info .name) (f .info .kind) m) (page b (at 0))) el) g
 
 -- the step u of a state, which is v, in a buffer that has the room
-pub step-is : (b y : List ℕ) (r : Answer TextWalk ℕ Told) (u v : Line) → longestLine ≤ length b → both r y ≡ shown b u → u ≡ v → both r y ≡ stepIn b v
-step-is b y r u v h e q = e ∙ ap (shown b) q ∙ step-room b v h
+pub step-is : (b y : List ℕ) (r : Answer TextWalk ℕ Told) (u v : Line) → longestLine ≤ length b → both r y ≡ lineShown b u → u ≡ v → both r y ≡ textStep b v
+step-is b y r u v h e q = e ∙ ap (lineShown b) q ∙ step-room b v h

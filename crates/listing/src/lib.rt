@@ -5,10 +5,10 @@
 ghost use mathlib.Core.Path.{_≡_};
 ghost use Prim.Native.Nat.{_≤_};
 ghost use lib.ListN.{length};
-ghost use Rattle.area.specs.Kind.{ruled};
+ghost use Rattle.area.specs.Kind.{crateRule};
 ghost use Rattle.text.specs.Told.{toldPlace};
 ghost use Rattle.printed.specs.Printed.{longestLine};
-ghost use Rattle.listing.specs.Step.{lineOf, linesStep, filesStep, subsStep, headStep, stepOf, shown, stepIn, both};
+ghost use Rattle.listing.specs.Step.{lineAnswer, linesStep, filesStep, subsStep, headStep, stepOf, lineShown, textStep, both};
 ghost use Rattle.listing.specs.Told.{toldText};
 use area::SubStep;
 use area::sub_at;
@@ -51,7 +51,7 @@ pub enum TextStep {
 }
 
 fn line_of(place: Place, next: TextWalk) -> TextStep
-    ensures { λ r. ⌜ toldText r ≡ lineOf (toldPlace place) next ⌝ }
+    ensures { λ r. ⌜ toldText r ≡ lineAnswer (toldPlace place) next ⌝ }
 {
     match place {
         Place::At(len) => TextStep::Line { len, next },
@@ -61,7 +61,7 @@ fn line_of(place: Place, next: TextWalk) -> TextStep
 
 fn lines_step(area: &[u8], slots: &[u32], walk: LineWalk, buf: &mut [u8]) -> TextStep
     requires { ⌜ longestLine ≤ length (now buf) ⌝ }
-    ensures { λ r. ⌜ both (toldText r) (now (buf .exit)) ≡ shown (now (buf .entry)) (linesStep ruled (now (area .entry)) (now (slots .entry)) walk) ⌝ }
+    ensures { λ r. ⌜ both (toldText r) (now (buf .exit)) ≡ lineShown (now (buf .entry)) (linesStep crateRule (now (area .entry)) (now (slots .entry)) walk) ⌝ }
 {
     match next_line(area, slots, walk) {
         LineStep::Line(r, t) => line_of(put_record(buf, Place::At(0), r), TextWalk::Lines(t)),
@@ -72,7 +72,7 @@ fn lines_step(area: &[u8], slots: &[u32], walk: LineWalk, buf: &mut [u8]) -> Tex
 
 fn files_step(area: &[u8], slots: &[u32], walk: TableWalk, buf: &mut [u8]) -> TextStep
     requires { ⌜ longestLine ≤ length (now buf) ⌝ }
-    ensures { λ r. ⌜ both (toldText r) (now (buf .exit)) ≡ shown (now (buf .entry)) (filesStep ruled (now (area .entry)) (now (slots .entry)) walk) ⌝ }
+    ensures { λ r. ⌜ both (toldText r) (now (buf .exit)) ≡ lineShown (now (buf .entry)) (filesStep crateRule (now (area .entry)) (now (slots .entry)) walk) ⌝ }
 {
     match next_file(area, walk) {
         FileStep::File {
@@ -94,7 +94,7 @@ fn files_step(area: &[u8], slots: &[u32], walk: TableWalk, buf: &mut [u8]) -> Te
 
 fn subs_step(area: &[u8], slots: &[u32], at: usize, buf: &mut [u8]) -> TextStep
     requires { ⌜ longestLine ≤ length (now buf) ⌝ }
-    ensures { λ r. ⌜ both (toldText r) (now (buf .exit)) ≡ shown (now (buf .entry)) (subsStep ruled (now (area .entry)) (now (slots .entry)) at) ⌝ }
+    ensures { λ r. ⌜ both (toldText r) (now (buf .exit)) ≡ lineShown (now (buf .entry)) (subsStep crateRule (now (area .entry)) (now (slots .entry)) at) ⌝ }
 {
     match sub_at(area, at) {
         SubStep::Sub {
@@ -110,7 +110,7 @@ fn subs_step(area: &[u8], slots: &[u32], at: usize, buf: &mut [u8]) -> TextStep
 
 fn head_step(area: &[u8], buf: &mut [u8]) -> TextStep
     requires { ⌜ longestLine ≤ length (now buf) ⌝ }
-    ensures { λ r. ⌜ both (toldText r) (now (buf .exit)) ≡ shown (now (buf .entry)) (headStep (now (area .entry))) ⌝ }
+    ensures { λ r. ⌜ both (toldText r) (now (buf .exit)) ≡ lineShown (now (buf .entry)) (headStep (now (area .entry))) ⌝ }
 {
     if MOST < area.len() {
         return line_of(
@@ -123,7 +123,7 @@ fn head_step(area: &[u8], buf: &mut [u8]) -> TextStep
 
 // The next line of the text. A buffer of fewer than `LINE` bytes is refused with 10 and stays as found.
 pub fn next_text(area: &[u8], slots: &[u32], walk: TextWalk, buf: &mut [u8]) -> TextStep
-    ensures { λ r. ⌜ both (toldText r) (now (buf .exit)) ≡ stepIn (now (buf .entry)) (stepOf ruled (now (area .entry)) (now (slots .entry)) walk) ⌝ }
+    ensures { λ r. ⌜ both (toldText r) (now (buf .exit)) ≡ textStep (now (buf .entry)) (stepOf crateRule (now (area .entry)) (now (slots .entry)) walk) ⌝ }
 {
     if buf.len() < LINE {
         return TextStep::Refused(Refusal::NoRoom);

@@ -5,7 +5,7 @@
 ghost use mathlib.Core.Path.{_≡_};
 ghost use Prim.Native.Nat.{_≤_};
 ghost use lib.ListN.{length};
-ghost use Rattle.area.specs.Kind.{ruled};
+ghost use Rattle.area.specs.Kind.{crateRule};
 ghost use Rattle.files.specs.Told.{toldFile};
 ghost use Rattle.answer_words.specs.Fill.{noRoom, counted, filled};
 ghost use Rattle.many_files.specs.FileWords.{fileWords};
@@ -49,8 +49,8 @@ fn no_room(step: FileStep) -> FilesStep
 // Step after step; `w` is the walk behind the last file.
 fn fill(area: &[u8], walk: TableWalk, out: &mut [u64]) -> FilesStep
     requires { ⌜ 5 ≤ length (now out) ⌝ }
-    ensures { λ r. ⌜ toldFiles r ≡ counted (filesOf ruled (now (area .entry)) (length (now (out .entry))) walk) ⌝ }
-    ensures { λ _. ⌜ now (out .exit) ≡ filled fileWords (now (out .entry)) (filesOf ruled (now (area .entry)) (length (now (out .entry))) walk) ⌝ }
+    ensures { λ r. ⌜ toldFiles r ≡ counted (filesOf crateRule (now (area .entry)) (length (now (out .entry))) walk) ⌝ }
+    ensures { λ _. ⌜ now (out .exit) ≡ filled fileWords (now (out .entry)) (filesOf crateRule (now (area .entry)) (length (now (out .entry))) walk) ⌝ }
 {
     let room = out.len() / FILE;
     let mut n: usize = 0;
@@ -95,8 +95,8 @@ fn fill(area: &[u8], walk: TableWalk, out: &mut [u64]) -> FilesStep
 
 // The files from a walk on, as many as `out` has room for, 5 words each.
 pub fn next_files(area: &[u8], walk: TableWalk, out: &mut [u64]) -> FilesStep
-    ensures { λ r. ⌜ toldFiles r ≡ counted (filesOf ruled (now (area .entry)) (length (now (out .entry))) walk) ⌝ }
-    ensures { λ _. ⌜ now (out .exit) ≡ filled fileWords (now (out .entry)) (filesOf ruled (now (area .entry)) (length (now (out .entry))) walk) ⌝ }
+    ensures { λ r. ⌜ toldFiles r ≡ counted (filesOf crateRule (now (area .entry)) (length (now (out .entry))) walk) ⌝ }
+    ensures { λ _. ⌜ now (out .exit) ≡ filled fileWords (now (out .entry)) (filesOf crateRule (now (area .entry)) (length (now (out .entry))) walk) ⌝ }
 {
     if out.len() < FILE {
         return no_room(next_file(area, walk));

@@ -29,7 +29,7 @@ use Rattle.line_step.specs.declared.Rest.{Rest}
 use Rattle.line_step.specs.declared.Place.{Place}
 use Rattle.line_step.specs.declared.LineWalk.{LineWalk}
 use Rattle.line_step.specs.declared.LineWalk.the-variants.{New, Between, Inside}
-use Rattle.line_step.specs.Turn.{LineMove, entryAt, withHeld, pastLine, holdIn, lineOf, endIn, blockOf, insideTurn, enterAt, namedOf, finishIn, betweenTurn, openOf, turnIn, turnOf}
+use Rattle.line_step.specs.Turn.{LineMove, lineEntryAt, withHeld, pastLine, holdIn, lineOf, endIn, blockOf, insideTurn, enterAt, namedOf, finishIn, betweenTurn, openOf, turnIn, turnOf}
 use Rattle.list_test.specs.Begin.{tested, beginAt}
 use Rattle.list_test.specs.BeginLaws.{begin-past, begin-scans, tested-right, tested-counted}
 use Rattle.many_lines.specs.Led.{scanOf, fewLeft, testedFor, withScan, ledRest}
@@ -149,7 +149,7 @@ module _ (rule : ℕ → Sort) (s v : List ℕ) where
   inside-right p t g =
       by-cases Kept (ltb (length s) (p .end)) (λ f. tt)
       (λ f. by-cases Kept (eqb (p .lines) 0)
-      (λ e. block-right p t (blockAt (columned (p .head .flags)) (take (p .end) s) (p .next)) g) (λ e. line-right p t (entryAt (take (p .end) s) p) g))
+      (λ e. block-right p t (blockAt (columned (p .head .flags)) (take (p .end) s) (p .next)) g) (λ e. line-right p t (lineEntryAt (take (p .end) s) p) g))
 
   turn-right : (w : LineWalk) → Right w → To (turnIn rule s v w) Right
   turn-right New g = open-right (countLines rule s)

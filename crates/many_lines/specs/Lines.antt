@@ -21,9 +21,9 @@ abbrev pub linesOf : (ℕ → Sort) → List ℕ → List ℕ → ℕ → LineWa
 linesOf rule s v n w = fill.fillOf 12 (nextOf rule s v) n w
 
 -- what is answered: how many records, and the state behind the last
-abbrev pub counted : Lines → Answer LineWalk ℕ Told
-counted a = fill.counted a
+abbrev pub linesCounted : Lines → Answer LineWalk ℕ Told
+linesCounted a = fill.counted a
 
 -- what the lent words o then are
-abbrev pub filled : List ℕ → Lines → List ℕ
-filled o a = fill.filled recordWords o a
+abbrev pub linesFilled : List ℕ → Lines → List ℕ
+linesFilled o a = fill.filled recordWords o a

@@ -8,7 +8,7 @@ use lib.ListN.{length}
 use Rattle.word.specs.Word.{u32At}
 use Rattle.walk.specs.Listing.{pass}
 use Rattle.refusal.specs.Told.{longest}
-use Rattle.area.specs.Kind.{ruled}
+use Rattle.area.specs.Kind.{crateRule}
 use Rattle.lines.specs.declared.LineHeader.{LineHeader}
 use Rattle.line_step.specs.Turn.{LineMove, withHeld, endOf}
 use Rattle.line_step.specs.declared.Rest.{Rest}
@@ -71,5 +71,5 @@ EnteredIs m t entered.Stuck = Unit {0}
 -- from n records and the walk w to r, the words o being o′ then, over the slots v of which the first `whole` are tested
 pub record Went (s v : List ℕ) (whole room n : ℕ) (w : LineWalk) (o : List ℕ) (r : Stood) (o′ : List ℕ) : Type 0 where
   pub size : length o′ ≡ length o
-  pub led : Led ruled s v whole (r .walk)
+  pub led : Led crateRule s v whole (r .walk)
   pub goes : Goes s v room n w o (r .n) (r .walk) o′

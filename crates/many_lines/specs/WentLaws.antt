@@ -14,7 +14,7 @@ use Rattle.walk.specs.First.{onFirst}
 use Rattle.walk.specs.Many.{many}
 use Rattle.walk.specs.ManyLaws.{NoRecord, many-step, many-none, many-zero}
 use Rattle.refusal.specs.Told.{Told, longest}
-use Rattle.area.specs.Kind.{ruled}
+use Rattle.area.specs.Kind.{crateRule}
 use Rattle.area.specs.Subs.{stepAt}
 use Rattle.area.specs.SubsLaws.{whole-known, head-whole, step-gives}
 use Rattle.line_record.specs.Record.{maxOffset, closedAt}
@@ -68,17 +68,17 @@ go-turn first k m e h next = subst (λ x. toGo next k < toGo x m) (sym e) (to ne
 -- ---- a search that ends at its first look
 
 module _ (s : List ℕ) (p u n : ℕ) (h : Look s p u n) where
-  look-step : gives (record { kind = 0xf2; start = p + 8; len = n }) (p + 8 + n) ≡ stepAt ruled s p
-  look-step = step-gives ruled s p (record { kind = 0xf2; start = p + 8; len = n }) (p + 8 + n)
+  look-step : gives (record { kind = 0xf2; start = p + 8; len = n }) (p + 8 + n) ≡ stepAt crateRule s p
+  look-step = step-gives crateRule s p (record { kind = 0xf2; start = p + 8; len = n }) (p + 8 + n)
       (whole-known 0xf2 p n (omega arith) (omega arith)
-      ∙ head-whole ruled s p (h .short) (omega (arith, h .place, h .inside)) (omega (arith, h .place, h .inside)) (omega (arith, h .place, h .inside))
+      ∙ head-whole crateRule s p (h .short) (omega (arith, h .place, h .inside)) (omega (arith, h .place, h .inside)) (omega (arith, h .place, h .inside))
       (omega (arith, h .place, h .inside, h .len)) 0xf2 n (sym (h .kind)) (sym (h .len)))
 
-  pub look-slot : (v : List ℕ) (i : ℕ) → i < length v → getD v i 0 ≡ u → gave (record { start = u; len = n }) ≡ slotAt ruled s v i p
+  pub look-slot : (v : List ℕ) (i : ℕ) → i < length v → getD v i 0 ≡ u → gave (record { start = u; len = n }) ≡ slotAt crateRule s v i p
   look-slot v i l e =
       ap (λ (k : ℕ). gave (record { start = k; len = n })) (sym (h .place))
-      ∙ slot-is ruled s v i p l p (gave (record { start = p + 8; len = n })) (scan-on p (getD v i 0) (omega (arith, h .place)))
-      (seek-hit ruled s p (getD v i 0) (record { kind = 0xf2; start = p + 8; len = n }) (p + 8 + n) look-step (h .place ∙ sym e) refl)
+      ∙ slot-is crateRule s v i p l p (gave (record { start = p + 8; len = n })) (scan-on p (getD v i 0) (omega (arith, h .place)))
+      (seek-hit crateRule s p (getD v i 0) (record { kind = 0xf2; start = p + 8; len = n }) (p + 8 + n) look-step (h .place ∙ sym e) refl)
 
 -- ---- the end of a body, and the next one
 
@@ -95,27 +95,27 @@ module _ (s : List ℕ) (t : Rest) (a n : ℕ) where
       → EntersTo (enterAt s t a n) t (placeAt g (a + 12) (a + n)) (restAt t (a + n))
   enters-in h l k g ek eg = record { turn = enter-in s t a n h k g (placeAt g (a + 12) (a + n)) ek eg refl; less = omega arith }
 
-module _ (s v : List ℕ) (whole : ℕ) (t : Rest) (h : Led ruled s v whole (Between t)) (l : t .left ≡ 0 → ⊥) where
+module _ (s v : List ℕ) (whole : ℕ) (t : Rest) (h : Led crateRule s v whole (Between t)) (l : t .left ≡ 0 → ⊥) where
   -- y is where the search began, and r what the body at a is entered as
-  pub enters-next : (y a n : ℕ) (r : Entered) → y ≡ beginAt v whole (t .slot) (t .scan) → gave (record { start = a; len = n }) ≡ slotAt ruled s v (t .slot) y
-      → EnteredIs (enterAt s t a n) t r → EnteredIs (betweenTurn ruled s v t) t r
+  pub enters-next : (y a n : ℕ) (r : Entered) → y ≡ beginAt v whole (t .slot) (t .scan) → gave (record { start = a; len = n }) ≡ slotAt crateRule s v (t .slot) y
+      → EnteredIs (enterAt s t a n) t r → EnteredIs (betweenTurn crateRule s v t) t r
   enters-next y a n r ey e k =
       subst (λ m. EnteredIs m t r)
-      (sub-is ruled s v t (gave (record { start = a; len = n })) (e ∙ ap (slotAt ruled s v (t .slot)) ey ∙ begin-same ruled s v whole t h) ∙ between-sub ruled s v t l) k
+      (sub-is crateRule s v t (gave (record { start = a; len = n })) (e ∙ ap (slotAt crateRule s v (t .slot)) ey ∙ begin-same crateRule s v whole t h) ∙ between-sub crateRule s v t l) k
 
 -- the turn that opens a walk, k being how many line subsections there are
-pub open-turn : (s v : List ℕ) (k : ℕ) → gave k ≡ countLines ruled s → pass (Between (record { slot = 0; left = k; scan = 0; held = Nothing })) ≡ turnOf ruled s v New
-open-turn s v k e = ap openOf e ∙ turn-is ruled s v New (counted-short ruled s k e) New refl
+pub open-turn : (s v : List ℕ) (k : ℕ) → gave k ≡ countLines crateRule s → pass (Between (record { slot = 0; left = k; scan = 0; held = Nothing })) ≡ turnOf crateRule s v New
+open-turn s v k e = ap openOf e ∙ turn-is crateRule s v New (counted-short crateRule s k e) New refl
 
 -- the turn into a body
-pub enter-turn : (s v : List ℕ) (t : Rest) (q : Place) (u : Rest) → length s ≤ longest → EntersTo (betweenTurn ruled s v t) t q u → pass (Inside q u) ≡ turnOf ruled s v (Between t)
-enter-turn s v t q u f z = z .turn ∙ turn-is ruled s v (Between t) f (Between t) refl
+pub enter-turn : (s v : List ℕ) (t : Rest) (q : Place) (u : Rest) → length s ≤ longest → EntersTo (betweenTurn crateRule s v t) t q u → pass (Inside q u) ≡ turnOf crateRule s v (Between t)
+enter-turn s v t q u f z = z .turn ∙ turn-is crateRule s v (Between t) f (Between t) refl
 
 -- ---- many turns at once
 
 module _ (s v : List ℕ) (whole room n : ℕ) (w : LineWalk) (o : List ℕ) where
   -- none; x is what w is
-  pub went-same : Led ruled s v whole w → (x : LineWalk) → w ≡ x → Went s v whole room n w o (record { n = n; walk = x }) o
+  pub went-same : Led crateRule s v whole w → (x : LineWalk) → w ≡ x → Went s v whole room n w o (record { n = n; walk = x }) o
   went-same h x e = subst (λ y. Went s v whole room n w o (record { n = n; walk = y }) o) e (record { size = refl; led = h; goes = goes-same s v room })
 
   pub went-as : (x : LineWalk) → w ≡ x → (r : Stood) (o′ : List ℕ) → Went s v whole room n x o r o′ → Went s v whole room n w o r o′
@@ -127,7 +127,7 @@ module _ (s v : List ℕ) (whole room n : ℕ) (w : LineWalk) (o : List ℕ) whe
   went-at b c e m p t o′ = subst (λ x. Went s v whole room n w o (record { n = m; walk = standsAt x p t }) o′) e
 
   -- a turn before them
-  pub went-pass : (x : LineWalk) → pass x ≡ turnOf ruled s v w → n < room → (r : Stood) (o′ : List ℕ) → Went s v whole room n x o r o′ → Went s v whole room n w o r o′
+  pub went-pass : (x : LineWalk) → pass x ≡ turnOf crateRule s v w → n < room → (r : Stood) (o′ : List ℕ) → Went s v whole room n x o r o′ → Went s v whole room n w o r o′
   went-pass x e l r o′ h = record { size = h .size; led = h .led; goes = goes-on s v room (goes-pass s v room l x e) (h .goes) }
 
   module _ (m : ℕ) (o′ : List ℕ) where
@@ -148,20 +148,20 @@ module _ (s v : List ℕ) (whole room n : ℕ) (w : LineWalk) (o : List ℕ) whe
         → Went s v whole room n w o (record { n = m; walk = Between x }) o′
     went-end r u x en k h z =
         let e = z .turn ∙ block-is (take (r .place .end) s) (r .place) u (columned (r .place .head .flags)) refl none (k .over)
-        ∙ inside-block s (r .place) u (k .fit .body) (k .lines) ∙ turn-is ruled s v (Inside (r .place) u) (k .fit .short) (Inside (r .place) u) refl in
+        ∙ inside-block s (r .place) u (k .fit .body) (k .lines) ∙ turn-is crateRule s v (Inside (r .place) u) (k .fit .short) (Inside (r .place) u) refl in
         record {
           size = h .size;
-          led = led-kept ruled s v whole (Inside (r .place) u) (h .led) (pass (Between x)) e;
+          led = led-kept crateRule s v whole (Inside (r .place) u) (h .led) (pass (Between x)) e;
           goes = goes-on s v room (h .goes) (goes-pass s v room (omega (arith, k .less)) (Between x) e);
         }
 
     pub went-enter : (t : Rest) (q : Place) (u : Rest) → length s ≤ longest → m < room → Went s v whole room n w o (record { n = m; walk = Between t }) o′
-        → EntersTo (betweenTurn ruled s v t) t q u → Went s v whole room n w o (record { n = m; walk = Inside q u }) o′
+        → EntersTo (betweenTurn crateRule s v t) t q u → Went s v whole room n w o (record { n = m; walk = Inside q u }) o′
     went-enter t q u f l h z =
         let e = enter-turn s v t q u f z in
         record {
           size = h .size;
-          led = led-kept ruled s v whole (Between t) (h .led) (pass (Inside q u)) e;
+          led = led-kept crateRule s v whole (Between t) (h .led) (pass (Inside q u)) e;
           goes = goes-on s v room (h .goes) (goes-pass s v room l (Inside q u) e);
         }
 
@@ -176,34 +176,34 @@ module _ (s v : List ℕ) (whole room n : ℕ) (w : LineWalk) (o : List ℕ) whe
 module _ (s v : List ℕ) (w₀ : LineWalk) (n : ℕ) where
   -- some are behind `last`, and `left` are to come; w is where the turns from there on stand
   pub record Behind (left : ℕ) (last w : LineWalk) : Type 0 where
-    pub same : nextOf ruled s v w ≡ nextOf ruled s v last
-    pub rest : many (nextOf ruled s v) left last .next ≡ many (nextOf ruled s v) n w₀ .next
+    pub same : nextOf crateRule s v w ≡ nextOf crateRule s v last
+    pub rest : many (nextOf crateRule s v) left last .next ≡ many (nextOf crateRule s v) n w₀ .next
 
   pub behind-start : Behind n w₀ w₀
   behind-start = record { same = refl; rest = refl }
 
   module _ (left : ℕ) (last w : LineWalk) (h : Behind left last w) where
-    pub behind-pass : (t : LineWalk) → pass t ≡ turnOf ruled s v w → Behind left last t
-    behind-pass t e = record { same = next-is ruled s v w (pass t) e ∙ h .same; rest = h .rest }
+    pub behind-pass : (t : LineWalk) → pass t ≡ turnOf crateRule s v w → Behind left last t
+    behind-pass t e = record { same = next-is crateRule s v w (pass t) e ∙ h .same; rest = h .rest }
 
-    pub behind-record : 0 < left → (r : LineRecord) (t : LineWalk) → item r t ≡ turnOf ruled s v w → Behind (left - 1) t t
+    pub behind-record : 0 < left → (r : LineRecord) (t : LineWalk) → item r t ≡ turnOf crateRule s v w → Behind (left - 1) t t
     behind-record l r t e =
         let k : suc (left - 1) ≡ left = omega arith in
         record {
           same = refl;
           rest =
-              ap (λ m. m .next) (many-step (nextOf ruled s v) (left - 1) last (gives r t) (next-is ruled s v w (item r t) e ∙ h .same))
-              ∙ ap (λ (x : ℕ). many (nextOf ruled s v) x last .next) k ∙ h .rest;
+              ap (λ m. m .next) (many-step (nextOf crateRule s v) (left - 1) last (gives r t) (next-is crateRule s v w (item r t) e ∙ h .same))
+              ∙ ap (λ (x : ℕ). many (nextOf crateRule s v) x last .next) k ∙ h .rest;
         }
 
-    pub behind-stop : (u : LineMove) → u ≡ turnOf ruled s v w → NoRecord (onFirst (nextOf ruled s v) u) → last ≡ many (nextOf ruled s v) n w₀ .next
+    pub behind-stop : (u : LineMove) → u ≡ turnOf crateRule s v w → NoRecord (onFirst (nextOf crateRule s v) u) → last ≡ many (nextOf crateRule s v) n w₀ .next
     behind-stop u e f =
-        ap (λ m. m .next) (sym (many-none (nextOf ruled s v) left last (subst NoRecord (next-is ruled s v w u e ∙ h .same) f))) ∙ h .rest
+        ap (λ m. m .next) (sym (many-none (nextOf crateRule s v) left last (subst NoRecord (next-is crateRule s v w u e ∙ h .same) f))) ∙ h .rest
 
-    pub behind-end : left ≤ 0 → last ≡ many (nextOf ruled s v) n w₀ .next
+    pub behind-end : left ≤ 0 → last ≡ many (nextOf crateRule s v) n w₀ .next
     behind-end l =
         let z : 0 ≡ left = omega arith in
-        ap (λ m. m .next) (sym (many-zero (nextOf ruled s v) last)) ∙ ap (λ (x : ℕ). many (nextOf ruled s v) x last .next) z ∙ h .rest
+        ap (λ m. m .next) (sym (many-zero (nextOf crateRule s v) last)) ∙ ap (λ (x : ℕ). many (nextOf crateRule s v) x last .next) z ∙ h .rest
 
 -- ---- the loop
 
@@ -214,39 +214,39 @@ module _ (s v : List ℕ) (w₀ : LineWalk) (o₀ : List ℕ) where
     pub exactly : exact ≡ true → going .last ≡ w
 
   pub stand-start : Standing 0 w₀ true o₀
-  stand-start = record { going = record { last = w₀; fills = turns-start ruled s v w₀ o₀; full = λ f. refl }; exactly = λ e. refl }
+  stand-start = record { going = record { last = w₀; fills = turns-start crateRule s v w₀ o₀; full = λ f. refl }; exactly = λ e. refl }
 
   module _ (n : ℕ) (w : LineWalk) (exact : Bool) (o : List ℕ) (h : Standing n w exact o) where
-    pub stand-record : (r : LineRecord) (t : LineWalk) (o′ : List ℕ) → item r t ≡ turnOf ruled s v w → n < length o₀ / 12 → o′ ≡ store o (12 * n) (recordWords r)
+    pub stand-record : (r : LineRecord) (t : LineWalk) (o′ : List ℕ) → item r t ≡ turnOf crateRule s v w → n < length o₀ / 12 → o′ ≡ store o (12 * n) (recordWords r)
         → Standing (n + 1) t true o′
     stand-record r t o′ e l q =
-        record { going = record { last = t; fills = turns-record ruled s v w₀ o₀ (h .going .fills) r t o′ e l q; full = λ f. refl }; exactly = λ x. refl }
+        record { going = record { last = t; fills = turns-record crateRule s v w₀ o₀ (h .going .fills) r t o′ e l q; full = λ f. refl }; exactly = λ x. refl }
 
     -- many turns, or one that passes on
     pub stand-goes : (room m : ℕ) (t : LineWalk) (o′ : List ℕ) → length o₀ / 12 ≡ room → Goes s v room n w o m t o′ → Standing m t false o′
     stand-goes room m t o′ er k = record { going = k .going w₀ o₀ er (h .going); exactly = λ z. let y : _≡_ {A = ℕ} 0 1 = cc in absurd (omega arith) }
 
     module _ (room : 12 ≤ length o₀) where
-      pub stand-full : length o₀ / 12 ≤ n → Filled ruled s v w₀ o₀ (gives n w) o
-      stand-full l = subst (λ x. Filled ruled s v w₀ o₀ (gives n x) o) (h .going .full l) (turns-full ruled s v w₀ o₀ (h .going .fills) room l)
+      pub stand-full : length o₀ / 12 ≤ n → Filled crateRule s v w₀ o₀ (gives n w) o
+      stand-full l = subst (λ x. Filled crateRule s v w₀ o₀ (gives n x) o) (h .going .full l) (turns-full crateRule s v w₀ o₀ (h .going .fills) room l)
 
       -- u is a turn that gives no record and does not pass on
-      module _ (u : LineMove) (e : u ≡ turnOf ruled s v w) (f : NoRecord (onFirst (nextOf ruled s v) u)) where
-        stop-told : (n ≡ 0 → ⊥) → Filled ruled s v w₀ o₀ (gives n (cond exact w (many (nextOf ruled s v) n w₀ .next))) o
+      module _ (u : LineMove) (e : u ≡ turnOf crateRule s v w) (f : NoRecord (onFirst (nextOf crateRule s v) u)) where
+        stop-told : (n ≡ 0 → ⊥) → Filled crateRule s v w₀ o₀ (gives n (cond exact w (many (nextOf crateRule s v) n w₀ .next))) o
         stop-told z =
-            let q = turns-stop ruled s v w₀ o₀ (h .going .fills) room u e f z in
-            let b = turns-behind ruled s v w₀ o₀ (h .going .fills) u e f in
-            subst (λ x. Filled ruled s v w₀ o₀ x o) (ap (gives n) (which exact (h .exactly) b)) q
+            let q = turns-stop crateRule s v w₀ o₀ (h .going .fills) room u e f z in
+            let b = turns-behind crateRule s v w₀ o₀ (h .going .fills) u e f in
+            subst (λ x. Filled crateRule s v w₀ o₀ x o) (ap (gives n) (which exact (h .exactly) b)) q
           where
-            which : (x : Bool) → (x ≡ true → h .going .last ≡ w) → h .going .last ≡ many (nextOf ruled s v) n w₀ .next
-                → h .going .last ≡ cond x w (many (nextOf ruled s v) n w₀ .next)
+            which : (x : Bool) → (x ≡ true → h .going .last ≡ w) → h .going .last ≡ many (nextOf crateRule s v) n w₀ .next
+                → h .going .last ≡ cond x w (many (nextOf crateRule s v) n w₀ .next)
             which true f g = f refl
             which false f g = g
 
         pub stand-stop : (a : Answer LineWalk ℕ Told)
-            → a ≡ cond (eqb n 0) (counted (noRoom (onFirst (nextOf ruled s v) u))) (gives n (cond exact w (many (nextOf ruled s v) n w₀ .next)))
-            → Filled ruled s v w₀ o₀ a o
+            → a ≡ cond (eqb n 0) (counted (noRoom (onFirst (nextOf crateRule s v) u))) (gives n (cond exact w (many (nextOf crateRule s v) n w₀ .next)))
+            → Filled crateRule s v w₀ o₀ a o
         stand-stop a ea =
-            subst (λ x. Filled ruled s v w₀ o₀ x o) (sym ea)
-            (by-cases (λ x. Filled ruled s v w₀ o₀ x o) (eqb n 0) (λ z. turns-none ruled s v w₀ o₀ (h .going .fills) room u e f (eqb-true n 0 z))
+            subst (λ x. Filled crateRule s v w₀ o₀ x o) (sym ea)
+            (by-cases (λ x. Filled crateRule s v w₀ o₀ x o) (eqb n 0) (λ z. turns-none crateRule s v w₀ o₀ (h .going .fills) room u e f (eqb-true n 0 z))
             (λ z. stop-told (eqb-false n 0 z)))

@@ -12,7 +12,7 @@ ghost use lib.Dec.{eqb};
 ghost use Rattle.walk.specs.Listing.{gives};
 ghost use Rattle.walk.specs.Many.{many};
 ghost use Rattle.refusal.specs.Told.{longest};
-ghost use Rattle.area.specs.Kind.{ruled};
+ghost use Rattle.area.specs.Kind.{crateRule};
 ghost use Rattle.lines.specs.Lines.{countLines};
 ghost use Rattle.lines.specs.Slots.{slotAt};
 ghost use Rattle.lines.specs.Told.{toldCounted, toldNamed};
@@ -24,7 +24,7 @@ ghost use Rattle.line_step.specs.Told.{toldTurn};
 ghost use Rattle.many_lines.specs.Led.{scanOf, fewLeft, testedFor, ledRest};
 ghost use Rattle.many_lines.specs.LedLaws.{Led};
 ghost use Rattle.answer_words.specs.Fill.{noRoom};
-ghost use Rattle.many_lines.specs.Lines.{linesOf, counted, filled};
+ghost use Rattle.many_lines.specs.Lines.{linesOf, linesCounted, linesFilled};
 ghost use Rattle.many_lines.specs.Told.{toldLines};
 ghost use Rattle.many_lines.specs.Went.{nowhere, standsAt, LookedIs, EndedIs, EnteredIs, Went};
 use body_lines::Lined;
@@ -64,7 +64,7 @@ pub enum LinesStep {
 
 // What there is to answer where no record fits.
 fn no_room(step: LineStep) -> LinesStep
-    ensures { λ r. ⌜ toldLines r ≡ counted (noRoom (toldLine step)) ⌝ }
+    ensures { λ r. ⌜ toldLines r ≡ linesCounted (noRoom (toldLine step)) ⌝ }
 {
     match step {
         LineStep::Line(_, _) => LinesStep::Refused(Refusal::NoRoom),
@@ -100,7 +100,7 @@ fn few_left(walk: LineWalk) -> bool
 
 // How many slots are tested for a walk.
 fn tested_for(area: &[u8], slots: &[u32], walk: LineWalk) -> usize
-    ensures { λ r. ⌜ r ≡ testedFor ruled (now (area .entry)) (now (slots .entry)) walk ⌝ }
+    ensures { λ r. ⌜ r ≡ testedFor crateRule (now (area .entry)) (now (slots .entry)) walk ⌝ }
 {
     if few_left(walk) {
         return 0;
@@ -127,8 +127,8 @@ fn led_rest(slots: &[u32], whole: usize, t: Rest) -> Rest
 
 // A turn from between two bodies, over a list of which the first `whole` slots are tested: the same as any other turn, found sooner.
 fn led_between(area: &[u8], slots: &[u32], whole: usize, t: Rest) -> Turn
-    requires { ⌜ Led ruled (now area) (now slots) whole (Between t) ⌝ }
-    ensures { λ r. ⌜ toldTurn r ≡ turnOf ruled (now (area .entry)) (now (slots .entry)) (Between t) ⌝ }
+    requires { ⌜ Led crateRule (now area) (now slots) whole (Between t) ⌝ }
+    ensures { λ r. ⌜ toldTurn r ≡ turnOf crateRule (now (area .entry)) (now (slots .entry)) (Between t) ⌝ }
 {
     if LONGEST < area.len() {
         return Turn::Refused(Refusal::TooLong);
@@ -141,8 +141,8 @@ fn led_between(area: &[u8], slots: &[u32], whole: usize, t: Rest) -> Turn
 
 // A turn from anywhere, over such a list.
 fn led_turn(area: &[u8], slots: &[u32], whole: usize, walk: LineWalk) -> Turn
-    requires { ⌜ Led ruled (now area) (now slots) whole walk ⌝ }
-    ensures { λ r. ⌜ toldTurn r ≡ turnOf ruled (now (area .entry)) (now (slots .entry)) walk ⌝ }
+    requires { ⌜ Led crateRule (now area) (now slots) whole walk ⌝ }
+    ensures { λ r. ⌜ toldTurn r ≡ turnOf crateRule (now (area .entry)) (now (slots .entry)) walk ⌝ }
 {
     match walk {
         LineWalk::New => take_turn(area, slots, LineWalk::New),
@@ -153,8 +153,8 @@ fn led_turn(area: &[u8], slots: &[u32], whole: usize, walk: LineWalk) -> Turn
 
 // The walk behind the first n records.
 fn behind(area: &[u8], slots: &[u32], whole: usize, walk: LineWalk, n: usize) -> LineWalk
-    requires { ⌜ Led ruled (now area) (now slots) whole walk ⌝ }
-    ensures { λ r. ⌜ r ≡ many (nextOf ruled (now (area .entry)) (now (slots .entry))) n walk .next ⌝ }
+    requires { ⌜ Led crateRule (now area) (now slots) whole walk ⌝ }
+    ensures { λ r. ⌜ r ≡ many (nextOf crateRule (now (area .entry)) (now (slots .entry))) n walk .next ⌝ }
 {
     let mut left = n;
     let mut last = walk;
@@ -297,7 +297,7 @@ fn first_look(area: &[u8], begin: usize, body: usize) -> Looked
 
 // The line body that a slot names, as `slot_body` finds it.
 fn named_body(area: &[u8], slots: &[u32], slot: usize, begin: usize) -> Named
-    ensures { λ r. ⌜ toldNamed r ≡ slotAt ruled (now (area .entry)) (now (slots .entry)) slot begin ⌝ }
+    ensures { λ r. ⌜ toldNamed r ≡ slotAt crateRule (now (area .entry)) (now (slots .entry)) slot begin ⌝ }
 {
     if slots.len() <= slot {
         return Named::Refused(Refusal::WrongSlot);
@@ -311,8 +311,8 @@ fn named_body(area: &[u8], slots: &[u32], slot: usize, begin: usize) -> Named
 
 // Into the body that the next slot names.
 fn next_body(area: &[u8], slots: &[u32], whole: usize, t: Rest) -> Entered
-    requires { ⌜ Led ruled (now area) (now slots) whole (Between t) ⌝ }
-    ensures { λ r. ⌜ EnteredIs (betweenTurn ruled (now (area .entry)) (now (slots .entry)) t) t r ⌝ }
+    requires { ⌜ Led crateRule (now area) (now slots) whole (Between t) ⌝ }
+    ensures { λ r. ⌜ EnteredIs (betweenTurn crateRule (now (area .entry)) (now (slots .entry)) t) t r ⌝ }
 {
     if t.left == 0 {
         return Entered::Stuck;
@@ -335,7 +335,7 @@ fn bodies(
     rest: Rest,
     out: &mut [u64],
 ) -> Stood
-    requires { ⌜ Led ruled (now area) (now slots) whole (standsAt within place rest) ⌝ }
+    requires { ⌜ Led crateRule (now area) (now slots) whole (standsAt within place rest) ⌝ }
     requires { ⌜ (n0 < room) × (length (now area) ≤ longest) ⌝ }
     ensures { λ r. ⌜ Went (now (area .entry)) (now (slots .entry)) whole room n0 (standsAt within place rest) (now (out .entry)) r (now (out .exit)) ⌝ }
 {
@@ -398,8 +398,8 @@ fn nowhere() -> Place
 
 // How many line subsections there are: as many as the slots of a list that was tested.
 fn count_of(area: &[u8], slots: &[u32], whole: usize) -> Counted
-    requires { ⌜ Led ruled (now area) (now slots) whole New ⌝ }
-    ensures { λ r. ⌜ toldCounted r ≡ countLines ruled (now (area .entry)) ⌝ }
+    requires { ⌜ Led crateRule (now area) (now slots) whole New ⌝ }
+    ensures { λ r. ⌜ toldCounted r ≡ countLines crateRule (now (area .entry)) ⌝ }
 {
     if 0 < whole {
         return Counted::Lines(whole);
@@ -409,7 +409,7 @@ fn count_of(area: &[u8], slots: &[u32], whole: usize) -> Counted
 
 // Body after body, from a walk's beginning.
 fn opened(area: &[u8], slots: &[u32], whole: usize, n: usize, room: usize, out: &mut [u64]) -> Stood
-    requires { ⌜ Led ruled (now area) (now slots) whole New ⌝ }
+    requires { ⌜ Led crateRule (now area) (now slots) whole New ⌝ }
     requires { ⌜ (n < room) × (length (now area) ≤ longest) ⌝ }
     ensures { λ r. ⌜ Went (now (area .entry)) (now (slots .entry)) whole room n New (now (out .entry)) r (now (out .exit)) ⌝ }
 {
@@ -440,7 +440,7 @@ fn faster(
     w: LineWalk,
     out: &mut [u64],
 ) -> Stood
-    requires { ⌜ Led ruled (now area) (now slots) whole w ⌝ }
+    requires { ⌜ Led crateRule (now area) (now slots) whole w ⌝ }
     requires { ⌜ n < room ⌝ }
     ensures { λ r. ⌜ Went (now (area .entry)) (now (slots .entry)) whole room n w (now (out .entry)) r (now (out .exit)) ⌝ }
 {
@@ -471,8 +471,8 @@ fn stopped(
     exact: bool,
     told: LinesStep,
 ) -> LinesStep
-    requires { ⌜ Led ruled (now area) (now slots) whole walk ⌝ }
-    ensures { λ r. ⌜ toldLines r ≡ cond (eqb n 0) (toldLines told) (gives n (cond exact w (many (nextOf ruled (now (area .entry)) (now (slots .entry))) n walk .next))) ⌝ }
+    requires { ⌜ Led crateRule (now area) (now slots) whole walk ⌝ }
+    ensures { λ r. ⌜ toldLines r ≡ cond (eqb n 0) (toldLines told) (gives n (cond exact w (many (nextOf crateRule (now (area .entry)) (now (slots .entry))) n walk .next))) ⌝ }
 {
     if n == 0 {
         return told;
@@ -487,8 +487,8 @@ fn stopped(
 // As many turns at once as can be, and turn by turn what they leave.
 fn fill(area: &[u8], slots: &[u32], walk: LineWalk, out: &mut [u64]) -> LinesStep
     requires { ⌜ 12 ≤ length (now out) ⌝ }
-    ensures { λ r. ⌜ toldLines r ≡ counted (linesOf ruled (now (area .entry)) (now (slots .entry)) (length (now (out .entry))) walk) ⌝ }
-    ensures { λ _. ⌜ now (out .exit) ≡ filled (now (out .entry)) (linesOf ruled (now (area .entry)) (now (slots .entry)) (length (now (out .entry))) walk) ⌝ }
+    ensures { λ r. ⌜ toldLines r ≡ linesCounted (linesOf crateRule (now (area .entry)) (now (slots .entry)) (length (now (out .entry))) walk) ⌝ }
+    ensures { λ _. ⌜ now (out .exit) ≡ linesFilled (now (out .entry)) (linesOf crateRule (now (area .entry)) (now (slots .entry)) (length (now (out .entry))) walk) ⌝ }
 {
     let whole = tested_for(area, slots, walk);
     let room = out.len() / RECORD;
@@ -532,8 +532,8 @@ fn fill(area: &[u8], slots: &[u32], walk: LineWalk, out: &mut [u64]) -> LinesSte
 
 // The records from a walk on, as many as `out` has room for, 12 words each.
 pub fn next_lines(area: &[u8], slots: &[u32], walk: LineWalk, out: &mut [u64]) -> LinesStep
-    ensures { λ r. ⌜ toldLines r ≡ counted (linesOf ruled (now (area .entry)) (now (slots .entry)) (length (now (out .entry))) walk) ⌝ }
-    ensures { λ _. ⌜ now (out .exit) ≡ filled (now (out .entry)) (linesOf ruled (now (area .entry)) (now (slots .entry)) (length (now (out .entry))) walk) ⌝ }
+    ensures { λ r. ⌜ toldLines r ≡ linesCounted (linesOf crateRule (now (area .entry)) (now (slots .entry)) (length (now (out .entry))) walk) ⌝ }
+    ensures { λ _. ⌜ now (out .exit) ≡ linesFilled (now (out .entry)) (linesOf crateRule (now (area .entry)) (now (slots .entry)) (length (now (out .entry))) walk) ⌝ }
 {
     if out.len() < RECORD {
         return no_room(next_line(area, slots, walk));

@@ -48,7 +48,7 @@ abbrev pub linesArea : ModuleSizes → List ℕ → Reply (List ℕ) Told
 linesArea z s = mapReply (bytesAt s) same (linesSpan z s)
 
 -- a step of a walk over a table of such an area
-abbrev pub stepIn : {S B : Type 0} → (List ℕ → Answer S B Told) → Reply (List ℕ) Told → Answer S B Told
-stepIn f (gave a) = f a
-stepIn f nothing = none
-stepIn f (refused t) = refuses t
+abbrev pub stepInPart : {S B : Type 0} → (List ℕ → Answer S B Told) → Reply (List ℕ) Told → Answer S B Told
+stepInPart f (gave a) = f a
+stepInPart f nothing = none
+stepInPart f (refused t) = refuses t

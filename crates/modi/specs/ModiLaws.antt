@@ -22,7 +22,7 @@ use Rattle.modi.specs.declared.ModuleSizes.{ModuleSizes}
 use Rattle.modi.specs.declared.Part.{Part}
 use Rattle.modi.specs.declared.Part.the-variants as part
 use Rattle.modi.specs.Told.{toldPart}
-use Rattle.modi.specs.Modi.{moduleSymbols, moduleSpan, tablesSpan, linesSpan, tablesArea, linesArea, stepIn}
+use Rattle.modi.specs.Modi.{moduleSymbols, moduleSpan, tablesSpan, linesSpan, tablesArea, linesArea, stepInPart}
 
 module _ (z : ModuleSizes) (s : List ℕ) where
   -- ---- the tests of `module_symbols`
@@ -144,7 +144,7 @@ module _ {A : Type 0} (g : Reply (List ℕ) Told → A) (s : List ℕ) (x : Repl
 
 module _ {S B : Type 0} (f : List ℕ → S → Answer S B Told) (l : List ℕ → Listing B Told) (w : S) (n : ℕ)
     (right : (a : List ℕ) → calls (f a) n w ≡ replies n (l a)) where
-  pub walk-in : (x : Reply (List ℕ) Told) → calls (λ (v : S). stepIn (λ (a : List ℕ). f a v) x) n w ≡ replies n (ofBody l x)
+  pub walk-in : (x : Reply (List ℕ) Told) → calls (λ (v : S). stepInPart (λ (a : List ℕ). f a v) x) n w ≡ replies n (ofBody l x)
   walk-in (gave a) = right a
   walk-in nothing = calls-are (λ (v : S). none) (λ (v : S). ends) (λ v. refl) n w
   walk-in (refused t) = calls-are (λ (v : S). refuses t) (λ (v : S). fails t) (λ v. refl) n w

@@ -20,14 +20,14 @@ use Rattle.line_walk.specs.Meaning.{recordsOf}
 use Rattle.line_walk.specs.Next.{nextOf}
 use Rattle.symbol_lines.specs.Symbol.{symbolRecords, symbolWalk}
 use Rattle.modi.specs.declared.ModuleSizes.{ModuleSizes}
-use Rattle.modi.specs.Modi.{linesArea, stepIn}
+use Rattle.modi.specs.Modi.{linesArea, stepInPart}
 
 -- files
 abbrev pub moduleFiles : (ℕ → Sort) → ModuleSizes → List ℕ → Listing File Told
 moduleFiles rule z s = ofBody (filesIn rule) (linesArea z s)
 
 abbrev pub moduleFileStep : (ℕ → Sort) → ModuleSizes → List ℕ → TableWalk → Answer TableWalk File Told
-moduleFileStep rule z s w = stepIn (λ (a : List ℕ). fileStep rule a w) (linesArea z s)
+moduleFileStep rule z s w = stepInPart (λ (a : List ℕ). fileStep rule a w) (linesArea z s)
 
 abbrev pub moduleFileAt : (ℕ → Sort) → ModuleSizes → List ℕ → ℕ → Reply Info Told
 moduleFileAt rule z s i = onGave (λ (a : List ℕ). fileAt rule a i) (linesArea z s)
@@ -56,7 +56,7 @@ abbrev pub moduleLines : (ℕ → Sort) → ModuleSizes → List ℕ → List �
 moduleLines rule z s v = ofBody (λ (a : List ℕ). recordsOf rule a v) (linesArea z s)
 
 abbrev pub moduleLineStep : (ℕ → Sort) → ModuleSizes → List ℕ → List ℕ → LineWalk → Answer LineWalk LineRecord Told
-moduleLineStep rule z s v w = stepIn (λ (a : List ℕ). nextOf rule a v w) (linesArea z s)
+moduleLineStep rule z s v w = stepInPart (λ (a : List ℕ). nextOf rule a v w) (linesArea z s)
 
 -- the lines of a symbol
 abbrev pub moduleSymbolLines : (ℕ → Sort) → ModuleSizes → List ℕ → List ℕ → ℕ → ℕ → Listing LineRecord Told

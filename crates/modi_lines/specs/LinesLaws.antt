@@ -21,7 +21,7 @@ use Rattle.line_walk.specs.WalkLaws.{walk-is}
 use Rattle.symbol_lines.specs.Symbol.{symbolRecords, symbolWalk}
 use Rattle.symbol_lines.specs.RecordsLaws.{symbol-walk}
 use Rattle.modi.specs.declared.ModuleSizes.{ModuleSizes}
-use Rattle.modi.specs.Modi.{linesArea, stepIn}
+use Rattle.modi.specs.Modi.{linesArea, stepInPart}
 use Rattle.modi.specs.ModiLaws.{walk-in}
 use Rattle.modi_lines.specs.Lines.{moduleFiles, moduleFileStep, moduleLines, moduleLineStep, moduleSymbolLines, moduleSymbolWalk}
 
@@ -35,7 +35,7 @@ module _ (rule : ℕ → Sort) (z : ModuleSizes) (s : List ℕ) (n : ℕ) where
 -- the walk that `module_lines_for_symbol` hands out: x is the module's area
 symbol-in : (rule : ℕ → Sort) (v : List ℕ) (section offset n : ℕ) (w : LineWalk) (x : Reply (List ℕ) Told)
     → gave w ≡ onGave (λ (a : List ℕ). symbolWalk rule a v section offset) x
-    → calls (λ (u : LineWalk). stepIn (λ (a : List ℕ). nextOf rule a v u) x) n w ≡ replies n (ofBody (λ (a : List ℕ). symbolRecords rule a v section offset) x)
+    → calls (λ (u : LineWalk). stepInPart (λ (a : List ℕ). nextOf rule a v u) x) n w ≡ replies n (ofBody (λ (a : List ℕ). symbolRecords rule a v section offset) x)
 symbol-in rule v section offset n w (gave a) e = symbol-walk rule a v section offset w e n
 symbol-in rule v section offset n w nothing e = let q : _≡_ {A = ℕ} 0 1 = cc in absurd (omega arith)
 symbol-in rule v section offset n w (refused t) e = let q : _≡_ {A = ℕ} 0 1 = cc in absurd (omega arith)

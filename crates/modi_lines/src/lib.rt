@@ -4,7 +4,7 @@
 // them, count from the area's start. C11 lines are refused.
 ghost use mathlib.Core.Path.{_≡_};
 ghost use lib.ListN.{length};
-ghost use Rattle.area.specs.Kind.{ruled};
+ghost use Rattle.area.specs.Kind.{crateRule};
 ghost use Rattle.files.specs.Told.{toldFile, toldInfo};
 ghost use Rattle.order.specs.Told.{toldOrdered};
 ghost use Rattle.line_walk.specs.Told.{toldLine};
@@ -31,7 +31,7 @@ use symbol_lines::lines_for_symbol;
 use table::TableWalk;
 
 pub fn module_next_file(stream: &[u8], sizes: ModuleSizes, walk: TableWalk) -> FileStep
-    ensures { λ r. ⌜ toldFile r ≡ moduleFileStep ruled sizes (now (stream .entry)) walk ⌝ }
+    ensures { λ r. ⌜ toldFile r ≡ moduleFileStep crateRule sizes (now (stream .entry)) walk ⌝ }
 {
     match lines_part(stream, sizes) {
         Part::At { start, len } => next_file(&stream[start..start + len], walk),
@@ -40,7 +40,7 @@ pub fn module_next_file(stream: &[u8], sizes: ModuleSizes, walk: TableWalk) -> F
 }
 
 pub fn module_file_at(stream: &[u8], sizes: ModuleSizes, index: u32) -> FileAnswer
-    ensures { λ r. ⌜ toldInfo r ≡ moduleFileAt ruled sizes (now (stream .entry)) index ⌝ }
+    ensures { λ r. ⌜ toldInfo r ≡ moduleFileAt crateRule sizes (now (stream .entry)) index ⌝ }
 {
     match lines_part(stream, sizes) {
         Part::At { start, len } => file_at(&stream[start..start + len], index),
@@ -59,8 +59,8 @@ pub fn module_checksum_bytes(stream: &[u8], sizes: ModuleSizes, start: usize, le
 
 // The order list of the area, in the lent slots. A call that is refused writes nothing.
 pub fn module_order_list(stream: &[u8], sizes: ModuleSizes, slots: &mut [u32]) -> Ordered
-    ensures { λ r. ⌜ toldOrdered r ≡ moduleOrdered ruled sizes (now (stream .entry)) (length (now (slots .entry))) ⌝ }
-    ensures { λ _. ⌜ now (slots .exit) ≡ moduleSlots ruled sizes (now (stream .entry)) (now (slots .entry)) ⌝ }
+    ensures { λ r. ⌜ toldOrdered r ≡ moduleOrdered crateRule sizes (now (stream .entry)) (length (now (slots .entry))) ⌝ }
+    ensures { λ _. ⌜ now (slots .exit) ≡ moduleSlots crateRule sizes (now (stream .entry)) (now (slots .entry)) ⌝ }
 {
     match lines_part(stream, sizes) {
         Part::At { start, len } => order_list(&stream[start..start + len], slots),
@@ -74,7 +74,7 @@ pub fn module_next_line(
     slots: &[u32],
     walk: LineWalk,
 ) -> LineStep
-    ensures { λ r. ⌜ toldLine r ≡ moduleLineStep ruled sizes (now (stream .entry)) (now (slots .entry)) walk ⌝ }
+    ensures { λ r. ⌜ toldLine r ≡ moduleLineStep crateRule sizes (now (stream .entry)) (now (slots .entry)) walk ⌝ }
 {
     match lines_part(stream, sizes) {
         Part::At { start, len } => next_line(&stream[start..start + len], slots, walk),
@@ -90,7 +90,7 @@ pub fn module_lines_for_symbol(
     section: u16,
     offset: u32,
 ) -> SymbolLines
-    ensures { λ r. ⌜ toldSymbol r ≡ moduleSymbolWalk ruled sizes (now (stream .entry)) (now (slots .entry)) section offset ⌝ }
+    ensures { λ r. ⌜ toldSymbol r ≡ moduleSymbolWalk crateRule sizes (now (stream .entry)) (now (slots .entry)) section offset ⌝ }
 {
     match lines_part(stream, sizes) {
         Part::At { start, len } => {

@@ -14,7 +14,7 @@ use Rattle.imports.specs.Imports.{ModuleAt, Ref, importsOf, importStep, resolve
 use Rattle.exports.specs.Exports.{Export, exportsOf, exportStep, exportCount, resolveExport}
 use Rattle.inlinees.specs.Inlinees.{SourceLine, inlineesIn, inlineeStep}
 use Rattle.modi.specs.declared.ModuleSizes.{ModuleSizes}
-use Rattle.modi.specs.Modi.{tablesArea, stepIn}
+use Rattle.modi.specs.Modi.{tablesArea, stepInPart}
 
 -- a word of a record of the area
 abbrev pub moduleWord : ModuleSizes → List ℕ → ℕ → ℕ → ℕ → Reply ℕ Told
@@ -25,7 +25,7 @@ abbrev pub moduleImports : (ℕ → Sort) → ModuleSizes → List ℕ → Listi
 moduleImports rule z s = ofBody (importsOf rule) (tablesArea z s)
 
 abbrev pub moduleImportStep : (ℕ → Sort) → ModuleSizes → List ℕ → TableWalk → Answer TableWalk ModuleAt Told
-moduleImportStep rule z s w = stepIn (λ (a : List ℕ). importStep rule a w) (tablesArea z s)
+moduleImportStep rule z s w = stepInPart (λ (a : List ℕ). importStep rule a w) (tablesArea z s)
 
 abbrev pub moduleResolveImport : (ℕ → Sort) → ModuleSizes → List ℕ → ℕ → Reply Ref Told
 moduleResolveImport rule z s index = onGave (λ (a : List ℕ). resolveImport rule a index) (tablesArea z s)
@@ -35,7 +35,7 @@ abbrev pub moduleExports : (ℕ → Sort) → ModuleSizes → List ℕ → Listi
 moduleExports rule z s = ofBody (exportsOf rule) (tablesArea z s)
 
 abbrev pub moduleExportStep : (ℕ → Sort) → ModuleSizes → List ℕ → TableWalk → Answer TableWalk Export Told
-moduleExportStep rule z s w = stepIn (λ (a : List ℕ). exportStep rule a w) (tablesArea z s)
+moduleExportStep rule z s w = stepInPart (λ (a : List ℕ). exportStep rule a w) (tablesArea z s)
 
 abbrev pub moduleExportCount : (ℕ → Sort) → ModuleSizes → List ℕ → Reply ℕ Told
 moduleExportCount rule z s = onGave (exportCount rule) (tablesArea z s)
@@ -48,4 +48,4 @@ abbrev pub moduleInlinees : (ℕ → Sort) → ModuleSizes → List ℕ → List
 moduleInlinees rule z s = ofBody (inlineesIn rule) (tablesArea z s)
 
 abbrev pub moduleInlineeStep : (ℕ → Sort) → ModuleSizes → List ℕ → TableWalk → Answer TableWalk SourceLine Told
-moduleInlineeStep rule z s w = stepIn (λ (a : List ℕ). inlineeStep rule a w) (tablesArea z s)
+moduleInlineeStep rule z s w = stepInPart (λ (a : List ℕ). inlineeStep rule a w) (tablesArea z s)

@@ -3,7 +3,7 @@
 // Each call answers as the area's own call does on the part of the stream that `modi::area_of` hands back: places count from the area's start.
 // With C11 lines that part is empty, and so are the tables.
 ghost use mathlib.Core.Path.{_≡_};
-ghost use Rattle.area.specs.Kind.{ruled};
+ghost use Rattle.area.specs.Kind.{crateRule};
 ghost use Rattle.rows.specs.Told.{toldWord};
 ghost use Rattle.imports.specs.Told as imports;
 ghost use Rattle.exports.specs.Told as exports;
@@ -45,7 +45,7 @@ pub fn module_word(
 }
 
 pub fn module_next_import(stream: &[u8], sizes: ModuleSizes, walk: TableWalk) -> ImportStep
-    ensures { λ r. ⌜ imports.toldStep r ≡ moduleImportStep ruled sizes (now (stream .entry)) walk ⌝ }
+    ensures { λ r. ⌜ imports.toldImportStep r ≡ moduleImportStep crateRule sizes (now (stream .entry)) walk ⌝ }
 {
     match tables_part(stream, sizes) {
         Part::At { start, len } => next_import(&stream[start..start + len], walk),
@@ -54,7 +54,7 @@ pub fn module_next_import(stream: &[u8], sizes: ModuleSizes, walk: TableWalk) ->
 }
 
 pub fn module_resolve_import(stream: &[u8], sizes: ModuleSizes, index: u32) -> Resolved
-    ensures { λ r. ⌜ imports.toldResolved r ≡ moduleResolveImport ruled sizes (now (stream .entry)) index ⌝ }
+    ensures { λ r. ⌜ imports.toldResolved r ≡ moduleResolveImport crateRule sizes (now (stream .entry)) index ⌝ }
 {
     match tables_part(stream, sizes) {
         Part::At { start, len } => resolve_import(&stream[start..start + len], index),
@@ -63,7 +63,7 @@ pub fn module_resolve_import(stream: &[u8], sizes: ModuleSizes, index: u32) -> R
 }
 
 pub fn module_next_export(stream: &[u8], sizes: ModuleSizes, walk: TableWalk) -> ExportStep
-    ensures { λ r. ⌜ exports.toldStep r ≡ moduleExportStep ruled sizes (now (stream .entry)) walk ⌝ }
+    ensures { λ r. ⌜ exports.toldExportStep r ≡ moduleExportStep crateRule sizes (now (stream .entry)) walk ⌝ }
 {
     match tables_part(stream, sizes) {
         Part::At { start, len } => next_export(&stream[start..start + len], walk),
@@ -72,7 +72,7 @@ pub fn module_next_export(stream: &[u8], sizes: ModuleSizes, walk: TableWalk) ->
 }
 
 pub fn module_export_count(stream: &[u8], sizes: ModuleSizes) -> Count
-    ensures { λ r. ⌜ exports.toldCount r ≡ moduleExportCount ruled sizes (now (stream .entry)) ⌝ }
+    ensures { λ r. ⌜ exports.toldCount r ≡ moduleExportCount crateRule sizes (now (stream .entry)) ⌝ }
 {
     match tables_part(stream, sizes) {
         Part::At { start, len } => export_count(&stream[start..start + len]),
@@ -81,7 +81,7 @@ pub fn module_export_count(stream: &[u8], sizes: ModuleSizes) -> Count
 }
 
 pub fn module_resolve_export(stream: &[u8], sizes: ModuleSizes, local: u32) -> Lookup
-    ensures { λ r. ⌜ exports.toldLookup r ≡ moduleResolveExport ruled sizes (now (stream .entry)) local ⌝ }
+    ensures { λ r. ⌜ exports.toldLookup r ≡ moduleResolveExport crateRule sizes (now (stream .entry)) local ⌝ }
 {
     match tables_part(stream, sizes) {
         Part::At { start, len } => resolve_export(&stream[start..start + len], local),
@@ -90,7 +90,7 @@ pub fn module_resolve_export(stream: &[u8], sizes: ModuleSizes, local: u32) -> L
 }
 
 pub fn module_next_inlinee(stream: &[u8], sizes: ModuleSizes, walk: TableWalk) -> InlineeStep
-    ensures { λ r. ⌜ toldInlinee r ≡ moduleInlineeStep ruled sizes (now (stream .entry)) walk ⌝ }
+    ensures { λ r. ⌜ toldInlinee r ≡ moduleInlineeStep crateRule sizes (now (stream .entry)) walk ⌝ }
 {
     match tables_part(stream, sizes) {
         Part::At { start, len } => next_inlinee(&stream[start..start + len], walk),

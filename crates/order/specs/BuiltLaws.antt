@@ -27,7 +27,7 @@ use Rattle.slot_key.specs.Sort.{sortBy}
 use Rattle.slot_key.specs.SortLaws.{Each, each-map, each-sort, map-sort, length-sort}
 use Rattle.slot_key.specs.Rank.{keyAt}
 use Rattle.slot_key.specs.RankLaws.{After, Ascends, stable}
-use Rattle.order.specs.Order.{listed, startOf, startsFrom, orderOf, inRoom, ordered, slotsBy, slotsAfter, isLines, bodyOf, lineBodies, keyOf, inOrder}
+use Rattle.order.specs.Order.{listed, subStart, startsFrom, orderOf, inRoom, ordered, slotsBy, slotsAfter, isLines, bodyOf, lineBodies, keyOf, inOrder}
 use Rattle.order.specs.OrderLaws.{plus-one, counted-starts}
 
 abbrev lines : Listing Sub Told → List Sub
@@ -57,17 +57,17 @@ module _ (rule : ℕ → Sort) (s : List ℕ) where
 
 -- ---- the starts ascend
 
-each-after : (x m p : ℕ) (l : Listing Sub Told) (bs : List Sub) → x < p + 8 → m ≤ longest → Each (Found l m p) bs → After x (map startOf bs)
+each-after : (x m p : ℕ) (l : Listing Sub Told) (bs : List Sub) → x < p + 8 → m ≤ longest → Each (Found l m p) bs → After x (map subStart bs)
 each-after x m p l [] h k e = tt
 each-after x m p l (b ∷ bs) h k e = (omega arith, omega (arith, e .0 .1), each-after x m p l bs h k (e .1))
 
 module _ (rule : ℕ → Sort) (s : List ℕ) (short : length s ≤ longest) where
-  pub ascends : (l : Listing Sub Told) (p : ℕ) → Chained rule s p l → Ascends (map startOf (lines l))
+  pub ascends : (l : Listing Sub Told) (p : ℕ) → Chained rule s p l → Ascends (map subStart (lines l))
   unfolding only listed
   ascends (more b l) p w =
       let x = b .start + b .len in
       let c = subst⁻¹ (Chained rule s x) (w .0) (subs-chained rule s x) in
-      by-cases (λ (k : Listing Sub Told). Ascends (map startOf (listed k))) (eqb (b .kind) 0xf2)
+      by-cases (λ (k : Listing Sub Told). Ascends (map subStart (listed k))) (eqb (b .kind) 0xf2)
       (λ e. (omega arith, each-after (b .start) (length s) x l (lines l) (omega arith) short (found rule s l x c), ascends l x c))
       (λ e. ascends l x c)
   ascends ends p w = tt
@@ -138,12 +138,12 @@ line-bodies rule s =
 
 name-all : (rule : ℕ → Sort) (s : List ℕ) (bs : List Sub) (vs : List ℕ) (n : ℕ) → length bs ≡ n
     → Each (λ b. bodyFrom rule s 0 (b .start) ≡ gave (spanOf b)) bs
-    → named (bodyAt rule s) n (map startOf bs ++ vs) ≡ before (map (bytesOf s) bs) ends
+    → named (bodyAt rule s) n (map subStart bs ++ vs) ≡ before (map (bytesOf s) bs) ends
 unfolding named
 name-all rule s [] vs n h e = ap (λ k. named (bodyAt rule s) k vs) (sym h)
 name-all rule s (b ∷ bs) vs n h e =
-    ap (λ k. named (bodyAt rule s) k (b .start ∷ (map startOf bs ++ vs))) (sym h)
-    ∙ ap (λ x. nameThen (mapReply (bytesAt s) same x) (named (bodyAt rule s) (length bs) (map startOf bs ++ vs))) (e .0)
+    ap (λ k. named (bodyAt rule s) k (b .start ∷ (map subStart bs ++ vs))) (sym h)
+    ∙ ap (λ x. nameThen (mapReply (bytesAt s) same x) (named (bodyAt rule s) (length bs) (map subStart bs ++ vs))) (e .0)
     ∙ ap (more (bytesOf s b)) (name-all rule s bs vs (length bs) refl (e .1))
 
 -- the list takes n slots only after the tests, and if there are so many
@@ -160,9 +160,9 @@ module _ (rule : ℕ → Sort) (s : List ℕ) (n : ℕ) (e : gave n ≡ countLin
   sorted : List Sub
   sorted = sortBy (weightOf s) bs
 
-  order-is : map startOf sorted ≡ orderOf rule s
+  order-is : map subStart sorted ≡ orderOf rule s
   unfolding sorted bs
-  order-is = map-sort (weightOf s) (keyAt s) startOf bs (each-all bs) ∙ order-stable rule s (counted-short rule s n e)
+  order-is = map-sort (weightOf s) (keyAt s) subStart bs (each-all bs) ∙ order-stable rule s (counted-short rule s n e)
     where
       each-all : (ds : List Sub) → Each (λ d. weightOf s d ≡ weightOf s d) ds
       each-all [] = tt
@@ -185,7 +185,7 @@ module _ (rule : ℕ → Sort) (s : List ℕ) (n : ℕ) (e : gave n ≡ countLin
       ∙ ap (λ k. before k ends) bodies-are
     where
       number : length bs ≡ n
-      number = sym (length-map bs startOf) ∙ counted-starts rule s n e
+      number = sym (length-map bs subStart) ∙ counted-starts rule s n e
 
 -- as `order_list` leaves it
 pub built : (rule : ℕ → Sort) (s xs : List ℕ) (n : ℕ) → gave n ≡ ordered rule s (length xs) → listOf rule s (slotsAfter rule s xs) ≡ before (inOrder rule s) ends

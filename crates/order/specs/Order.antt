@@ -27,11 +27,11 @@ listed ends = []
 listed (fails r) = []
 
 -- where the line bodies from a place on start, in the order of the area
-abbrev pub startOf : Sub → ℕ
-startOf b = b .start
+abbrev pub subStart : Sub → ℕ
+subStart b = b .start
 
 abbrev pub startsFrom : (ℕ → Sort) → List ℕ → ℕ → List ℕ
-startsFrom rule s p = map startOf (listed (only (is 0xf2) (subsFrom rule s p)))
+startsFrom rule s p = map subStart (listed (only (is 0xf2) (subsFrom rule s p)))
 
 -- THE ORDER: by section, then by offset, then by position
 abbrev pub orderOf : (ℕ → Sort) → List ℕ → List ℕ

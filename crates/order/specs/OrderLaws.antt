@@ -20,7 +20,7 @@ use Rattle.lines.specs.Lines.{headed, plus, countOf, countLines}
 use Rattle.slot_key.specs.Sort.{sortBy}
 use Rattle.slot_key.specs.SortLaws.{filled}
 use Rattle.slot_key.specs.Rank.{rank}
-use Rattle.order.specs.Order.{listed, startOf, startsFrom, inRoom, ordered, slotsBy, slotsAfter}
+use Rattle.order.specs.Order.{listed, subStart, startsFrom, inRoom, ordered, slotsBy, slotsAfter}
 
 -- ---- as many bodies as are counted
 
@@ -29,10 +29,10 @@ plus-one (gave m) n e = (m, refl, let q : n ≡ 1 + m = cc in omega arith)
 plus-one nothing n e = let z : _≡_ {A = ℕ} 0 1 = cc in absurd (omega arith)
 plus-one (refused r) n e = let z : _≡_ {A = ℕ} 0 1 = cc in absurd (omega arith)
 
-counts : (l : Listing Sub Told) (n : ℕ) → gave n ≡ countOf (headed l) → length (map startOf (listed l)) ≡ n
+counts : (l : Listing Sub Told) (n : ℕ) → gave n ≡ countOf (headed l) → length (map subStart (listed l)) ≡ n
 unfolding headed countOf listed
 counts (more b l) n =
-    by-cases (λ (k : Listing Sub Told). gave n ≡ countOf k → suc (length (map startOf (listed l))) ≡ n) (ltb (b .len) 12)
+    by-cases (λ (k : Listing Sub Told). gave n ≡ countOf k → suc (length (map subStart (listed l))) ≡ n) (ltb (b .len) 12)
     (λ e q. let z : _≡_ {A = ℕ} 0 1 = cc in absurd (omega arith))
     (λ e q. let m = plus-one (countOf (headed l)) n q in omega (arith, counts l (m .0) (m .1), m .2))
 counts ends n = λ q. let z : 0 ≡ n = cc in z

@@ -4,7 +4,7 @@ ghost use mathlib.Core.Path.{_≡_};
 ghost use Prim.Native.Nat.{_≤_};
 ghost use mathlib.Core.List.{_++_};
 ghost use lib.ListN.{length, drop};
-ghost use Rattle.area.specs.Kind.{ruled};
+ghost use Rattle.area.specs.Kind.{crateRule};
 ghost use Rattle.order.specs.Order.{startsFrom, ordered, slotsAfter};
 ghost use Rattle.order.specs.Told.{toldOrdered};
 use area::SubStep;
@@ -22,9 +22,9 @@ pub enum Ordered {
 
 // The positions of the line bodies, in the order of the area.
 fn fill(area: &[u8], slots: &mut [u32])
-    requires { ⌜ length (startsFrom ruled (now area) 0) ≤ length (now slots) ⌝ }
+    requires { ⌜ length (startsFrom crateRule (now area) 0) ≤ length (now slots) ⌝ }
     ensures { λ _. ⌜ now (slots .exit)
-        ≡ startsFrom ruled (now (area .entry)) 0 ++ drop (length (startsFrom ruled (now (area .entry)) 0)) (now (slots .entry)) ⌝ }
+        ≡ startsFrom crateRule (now (area .entry)) 0 ++ drop (length (startsFrom crateRule (now (area .entry)) 0)) (now (slots .entry)) ⌝ }
 {
     let mut n: usize = 0;
     let mut p: usize = 0;
@@ -54,8 +54,8 @@ fn fill(area: &[u8], slots: &mut [u32])
 
 // The tests over the whole area come first, then that the slots suffice. A call that is refused writes nothing.
 pub fn order_list(area: &[u8], slots: &mut [u32]) -> Ordered
-    ensures { λ r. ⌜ toldOrdered r ≡ ordered ruled (now (area .entry)) (length (now (slots .entry))) ⌝ }
-    ensures { λ _. ⌜ now (slots .exit) ≡ slotsAfter ruled (now (area .entry)) (now (slots .entry)) ⌝ }
+    ensures { λ r. ⌜ toldOrdered r ≡ ordered crateRule (now (area .entry)) (length (now (slots .entry))) ⌝ }
+    ensures { λ _. ⌜ now (slots .exit) ≡ slotsAfter crateRule (now (area .entry)) (now (slots .entry)) ⌝ }
 {
     match count_lines(area) {
         Counted::Lines(n) => {

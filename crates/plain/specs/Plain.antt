@@ -1,6 +1,6 @@
 -- Which areas are plain, and what a writer has to know of the last subsection of one. Source: document 01, "Writer and plain areas": the full
 -- reading refuses nothing, and no kind is 0x80000000; opaque lengths are divisible by 4; checksum sizes are 0, 16, 20, 32 for the kinds 0 to 3,
--- their padding zero; the signature of inlinees is 0 or 1; blocks are exactly filled; each export body strictly ascends by local index.
+-- their padding zero; the signature of inlinees is 0 or 1; blocks are exactly blockFilled; each export body strictly ascendsFrom by local index.
 -- Definitions only; a reader must believe them.
 use Prim.Native.Nat.{ℕ, _+_, _%_}
 use mathlib.Core.Path.{_≡_}
@@ -30,11 +30,11 @@ strict t over = over
 strict t (fail r) = fail r
 
 -- a block's size counts its header, its lines and its columns, and nothing else
-abbrev pub filled : Bool → List ℕ → Bool
-filled c s = eqb (u32At s 8) (12 + lineBytes c (u32At s 4))
+abbrev pub blockFilled : Bool → List ℕ → Bool
+blockFilled c s = eqb (u32At s 8) (12 + lineBytes c (u32At s 4))
 
 abbrev pub plainBlock : Bool → List ℕ → Move (List ℕ) Block Told
-plainBlock c s = strict (filled c s) (blockBite c s)
+plainBlock c s = strict (blockFilled c s) (blockBite c s)
 
 -- the size of a checksum of a kind: none, MD5, SHA-1, SHA-256
 unfoldable pub sizeOf : ℕ → ℕ
@@ -59,10 +59,10 @@ unfoldable pub wholly : {B : Type 0} → (List ℕ → Move (List ℕ) B Told) �
 wholly step s = endsWhole (all step length s)
 
 -- pairs ascend from f on; the least local index that may follow
-unfoldable pub ascends : ℕ → Listing Pair Told → Option ℕ
-ascends f (more p l) = cond (leb f (p .local)) (ascends (p .local + 1) l) none
-ascends f ends = some f
-ascends f (fails r) = none
+unfoldable pub ascendsFrom : ℕ → Listing Pair Told → Option ℕ
+ascendsFrom f (more p l) = cond (leb f (p .local)) (ascendsFrom (p .local + 1) l) none
+ascendsFrom f ends = some f
+ascendsFrom f (fails r) = none
 
 -- What a plain body says to who appends to it, its mark: the column flag, the signature, the least local index that may follow, or 0.
 -- `none`: the body is not plain.
@@ -89,7 +89,7 @@ markOf k b =
     (cond (eqb k 0xf4) (marked (wholly plainChecksum b) 0)
     (cond (eqb k 0xf6) (inlineesMark b)
     (cond (eqb k 0xf7) (marked (wholly moduleBite b) 0)
-    (cond (eqb k 0xf8) (ascends 0 (pairs b))
+    (cond (eqb k 0xf8) (ascendsFrom 0 (pairs b))
     (marked (isOpaque k && eqb (length b % 4) 0) 0)))))
 
 -- ---- an area

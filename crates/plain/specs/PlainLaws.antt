@@ -27,13 +27,13 @@ use Rattle.body.specs.RunLaws.{Sound, sound-falls}
 use Rattle.body.specs.LinesLaws.{block-sound}
 use Rattle.body.specs.ChecksumsLaws.{checksum-sound}
 use Rattle.body.specs.ExportsLaws.{pair-sound, pair-ended}
-use Rattle.plain.specs.Plain.{filled, plainBlock, tidy, plainChecksum, wholly, ascends, marked, linesMark, inlineesMark, isOpaque, markOf, Last, nothing-yet, onMark, plainFrom, plainOf}
+use Rattle.plain.specs.Plain.{blockFilled, plainBlock, tidy, plainChecksum, wholly, ascendsFrom, marked, linesMark, inlineesMark, isOpaque, markOf, Last, nothing-yet, onMark, plainFrom, plainOf}
 use Rattle.plain.specs.WalkLaws.{strict-sound}
 
 -- ---- where the steps lead
 
 pub plain-block-sound : (c : Bool) (s : List ℕ) → Sound s (plainBlock c s)
-plain-block-sound c s = strict-sound s (filled c s) (blockBite c s) (block-sound c s)
+plain-block-sound c s = strict-sound s (blockFilled c s) (blockBite c s) (block-sound c s)
 
 pub plain-checksum-sound : (s : List ℕ) → Sound s (plainChecksum s)
 plain-checksum-sound s = strict-sound s (tidy s) (checksumBite s) (checksum-sound s)
@@ -55,19 +55,19 @@ pairs-turn : (s : List ℕ) → all pairBite length s ≡ onMove (all pairBite l
 pairs-turn = all-step pairBite length (λ x. sound-falls x (pairBite x) (pair-sound x))
 
 module _ (s : List ℕ) where
-  pub floor-odd : (length s % 8 ≡ 0 → ⊥) → none ≡ ascends 0 (pairs s)
-  unfolding pairs ascends
+  pub floor-odd : (length s % 8 ≡ 0 → ⊥) → none ≡ ascendsFrom 0 (pairs s)
+  unfolding pairs ascendsFrom
   floor-odd h = rw (ne-eqb (length s % 8) 0 h)
 
-  pub floor-first : length s % 8 ≡ 0 → ascends 0 (pairsFrom s 0) ≡ ascends 0 (pairs s)
+  pub floor-first : length s % 8 ≡ 0 → ascendsFrom 0 (pairsFrom s 0) ≡ ascendsFrom 0 (pairs s)
   unfolding pairs
   floor-first h = rw (eq-eqb (length s % 8) 0 h)
 
   module _ (i f : ℕ) where
-    pub floor-end : length s ≤ i → some f ≡ ascends f (pairsFrom s i)
-    unfolding ascends
+    pub floor-end : length s ≤ i → some f ≡ ascendsFrom f (pairsFrom s i)
+    unfolding ascendsFrom
     floor-end h =
-        sym (ap (λ (x : List ℕ). ascends f (all pairBite length x)) (drop-of-length-le s {i = i} h) ∙ ap (ascends f) (pairs-turn []) ∙ ap (λ u. ascends f (onMove (all pairBite length) u)) pair-ended)
+        sym (ap (λ (x : List ℕ). ascendsFrom f (all pairBite length x)) (drop-of-length-le s {i = i} h) ∙ ap (ascendsFrom f) (pairs-turn []) ∙ ap (λ u. ascendsFrom f (onMove (all pairBite length) u)) pair-ended)
 
     module _ (h : 8 ≤ length s - i) (l : ℕ) (el : l ≡ u32At s i) where
       pair-here : pairsFrom s i ≡ more (record { local = u32At (drop i s) 0; global = u32At (drop i s) 4 }) (pairsFrom s (i + 8))
@@ -80,13 +80,13 @@ module _ (s : List ℕ) where
       local-here : u32At (drop i s) 0 ≡ l
       local-here = u32-drop s i 0 ∙ ap (u32At s) (add-zero i) ∙ sym el
 
-      pub floor-bad : l < f → none ≡ ascends f (pairsFrom s i)
-      unfolding ascends
-      floor-bad g = sym (ap (ascends f) pair-here ∙ (rw (local-here, lt-leb f l g)))
+      pub floor-bad : l < f → none ≡ ascendsFrom f (pairsFrom s i)
+      unfolding ascendsFrom
+      floor-bad g = sym (ap (ascendsFrom f) pair-here ∙ (rw (local-here, lt-leb f l g)))
 
-      pub floor-next : f ≤ l → ascends (l + 1) (pairsFrom s (i + 8)) ≡ ascends f (pairsFrom s i)
-      unfolding ascends
-      floor-next g = sym (ap (ascends f) pair-here ∙ (rw (local-here, le-leb f l g)))
+      pub floor-next : f ≤ l → ascendsFrom (l + 1) (pairsFrom s (i + 8)) ≡ ascendsFrom f (pairsFrom s i)
+      unfolding ascendsFrom
+      floor-next g = sym (ap (ascendsFrom f) pair-here ∙ (rw (local-here, le-leb f l g)))
 
 -- ---- marks
 
@@ -134,7 +134,7 @@ module _ (b : List ℕ) where
     unfolding markOf
     mark-modules e t et h = rw (e, ← et) h
 
-    pub mark-pairs : k ≡ 0xf8 → o ≡ ascends 0 (pairs b) → o ≡ markOf k b
+    pub mark-pairs : k ≡ 0xf8 → o ≡ ascendsFrom 0 (pairs b) → o ≡ markOf k b
     unfolding markOf
     mark-pairs e h = rw e h
 

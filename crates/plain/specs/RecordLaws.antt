@@ -18,7 +18,7 @@ use Rattle.body.specs.Lines.{lineBytes, blockBite}
 use Rattle.body.specs.Checksums.{Checksum, up4, checksumBite}
 use Rattle.body.specs.Inlinees.{extraBite, inlineeBite}
 use Rattle.body.specs.Imports.{moduleBite}
-use Rattle.plain.specs.Plain.{strict, filled, plainBlock, sizeOf, tidy, plainChecksum, isOpaque}
+use Rattle.plain.specs.Plain.{strict, blockFilled, plainBlock, sizeOf, tidy, plainChecksum, isOpaque}
 use Rattle.plain.specs.WalkLaws.{stride, stride-drop, strict-none}
 
 -- a refusal gives no record, whatever the test
@@ -43,7 +43,7 @@ module _ (c : Bool) (s : List ℕ) (i : ℕ) (h₀ : i < length s) where
   block-short h =
       let D = drop i s in
       let z : (length D ≡ 0 → ⊥) = λ e. omega (arith, length-drop i s) in
-      none-at D (filled c D) (blockBite c D) (told why.Cut) (rw (ne-eqb (length D) 0 z, lt-ltb (length D) 12 (omega (arith, length-drop i s))))
+      none-at D (blockFilled c D) (blockBite c D) (told why.Cut) (rw (ne-eqb (length D) 0 z, lt-ltb (length D) 12 (omega (arith, length-drop i s))))
 
   module _ (h₁ : 12 ≤ length s - i) (n size w : ℕ) (en : n ≡ u32At s (i + 4)) (es : size ≡ u32At s (i + 8)) (ew : w ≡ lineBytes c n) where
     dw : lineBytes c (u32At (drop i s) 4) ≡ w
@@ -61,7 +61,7 @@ module _ (c : Bool) (s : List ℕ) (i : ℕ) (h₀ : i < length s) where
       block-cut h =
           let D = drop i s in
           let z : (length D ≡ 0 → ⊥) = λ e. omega (arith, length-drop i s) in
-          none-at D (filled c D) (blockBite c D) (told why.Cut)
+          none-at D (blockFilled c D) (blockBite c D) (told why.Cut)
           (rw (
             ne-eqb (length D) 0 z,
             le-ltb (length D) 12 (omega (arith, length-drop i s)),

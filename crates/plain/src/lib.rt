@@ -10,7 +10,7 @@ ghost use Rattle.body.specs.Lines.{lineBytes};
 ghost use Rattle.body.specs.Inlinees.{inlineeBite};
 ghost use Rattle.body.specs.Imports.{moduleBite};
 ghost use Rattle.body.specs.Exports.{pairs};
-ghost use Rattle.plain.specs.Plain.{sizeOf, plainBlock, plainChecksum, ascends, marked, linesMark, inlineesMark, isOpaque, markOf, plainOf};
+ghost use Rattle.plain.specs.Plain.{sizeOf, plainBlock, plainChecksum, ascendsFrom, marked, linesMark, inlineesMark, isOpaque, markOf, plainOf};
 ghost use Rattle.plain.specs.WalkLaws.{stride};
 ghost use Rattle.plain.specs.ScanLaws.{strideOf, whollyOf};
 ghost use Rattle.plain.specs.Told.{toldMark, toldPlain};
@@ -175,7 +175,7 @@ fn whole(body: &[u8], records: Records) -> bool
 
 // The least local index that may follow the pairs.
 fn floor_of(body: &[u8]) -> Mark
-    ensures { λ r. ⌜ toldMark r ≡ ascends 0 (pairs (now (body .entry))) ⌝ }
+    ensures { λ r. ⌜ toldMark r ≡ ascendsFrom 0 (pairs (now (body .entry))) ⌝ }
 {
     if body.len() % 8 != 0 {
         return Mark::Bad;

@@ -6,7 +6,7 @@ use mathlib.Core.Path.{_≡_}
 use mathlib.Core.List.{List}
 use Rattle.walk.specs.Listing.{Reply, gave, nothing, refused}
 use Rattle.walk.specs.Pick.{failure}
-use Rattle.area.specs.Kind.{ruled}
+use Rattle.area.specs.Kind.{crateRule}
 use Rattle.lines.specs.Lines.{countLines}
 use Rattle.files.specs.Files.{filesIn}
 use Rattle.inlinees.specs.Inlinees.{inlineesIn}
@@ -21,10 +21,10 @@ NotRefused (refused r) = ⊥
 
 -- the full reading refuses nothing, nor do the tests before the lines, nor any table; and a lookup in its exports never finds them unordered
 pub record Answered (s : List ℕ) : Type 0 where
-  pub items : failure (reading ruled s) ≡ nothing
-  pub lines : NotRefused (countLines ruled s)
-  pub files : failure (filesIn ruled s) ≡ nothing
-  pub inlinees : failure (inlineesIn ruled s) ≡ nothing
-  pub imports : failure (importsOf ruled s) ≡ nothing
-  pub exports : failure (pairsOf ruled s) ≡ nothing
-  pub lookup : (n : ℕ) → NotRefused (resolveExport ruled s n)
+  pub items : failure (reading crateRule s) ≡ nothing
+  pub lines : NotRefused (countLines crateRule s)
+  pub files : failure (filesIn crateRule s) ≡ nothing
+  pub inlinees : failure (inlineesIn crateRule s) ≡ nothing
+  pub imports : failure (importsOf crateRule s) ≡ nothing
+  pub exports : failure (pairsOf crateRule s) ≡ nothing
+  pub lookup : (n : ℕ) → NotRefused (resolveExport crateRule s n)

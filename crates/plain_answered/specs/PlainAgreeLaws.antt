@@ -17,7 +17,7 @@ use Rattle.walk.specs.PickLaws.{Gives, first-holds}
 use Rattle.refusal.specs.Told.{Told, told, longest, numberOf}
 use Rattle.refusal.specs.declared.Refusal.the-variants as why
 use Rattle.area.specs.Parts.{Raw, Parts}
-use Rattle.area.specs.Kind.{Sort, onSort, ruled, known, skipped, unknown}
+use Rattle.area.specs.Kind.{Sort, onSort, crateRule, known, skipped, unknown}
 use Rattle.area.specs.Subs.{Sub, subsFrom, bodiesIn, bodies}
 use Rattle.area.specs.SubsLaws.{bodied, area-bodies}
 use Rattle.find.specs.Find.{same, is, spanOf}
@@ -29,7 +29,7 @@ use Rattle.rows.specs.CollectLaws.{mapped-same}
 use Rattle.lines.specs.Lines.{countOf, plus, linesFrom, countLines}
 use Rattle.files.specs.Files as file
 use Rattle.files.specs.Files.{filesIn}
-use Rattle.inlinees.specs.Inlinees.{spelt, inlineesIn}
+use Rattle.inlinees.specs.Inlinees.{inlineeSpelt, inlineesIn}
 use Rattle.imports.specs.Imports.{moduleOf, importsOf}
 use Rattle.exports.specs.Exports.{unplaced, pairsOf, above, ascends, globalOf, lookup, resolveExport}
 use Rattle.reading.specs.Reading.{checksum, inlinee, imports, exports, Items, each, reading, opens}
@@ -121,35 +121,35 @@ picked-whole (refused t) h = absurd h
 
 -- ---- so the tables are whole
 
-module _ (s : List ℕ) (h : Whole (reading ruled s)) where
-  first-whole : (w : ℕ) → Whole (recordsIn (firstBy (begins w) (chapters (reading ruled s))))
+module _ (s : List ℕ) (h : Whole (reading crateRule s)) where
+  first-whole : (w : ℕ) → Whole (recordsIn (firstBy (begins w) (chapters (reading crateRule s))))
   first-whole w =
-      let l = reading ruled s in
+      let l = reading crateRule s in
       picked-whole (firstBy (begins w) (chapters l)) (first-picked (begins w) (chapters l) (chapters-end l h) (chapters-whole l h))
 
-  last-whole : (w : ℕ) → Whole (recordsIn (lastBy (begins w) (chapters (reading ruled s))))
+  last-whole : (w : ℕ) → Whole (recordsIn (lastBy (begins w) (chapters (reading crateRule s))))
   last-whole w =
-      let l = reading ruled s in
+      let l = reading crateRule s in
       picked-whole (lastBy (begins w) (chapters l)) (last-picked (begins w) (chapters l) (chapters-end l h) (chapters-whole l h))
 
-  exports-whole : failure (pairsOf ruled s) ≡ nothing
-  exports-whole = mapped-whole exports (pairsOf ruled s) (ap failure (sym (exports-agree ruled s h)) ∙ first-whole 0xf8)
+  exports-whole : failure (pairsOf crateRule s) ≡ nothing
+  exports-whole = mapped-whole exports (pairsOf crateRule s) (ap failure (sym (exports-agree crateRule s h)) ∙ first-whole 0xf8)
 
-  imports-whole : failure (importsOf ruled s) ≡ nothing
+  imports-whole : failure (importsOf crateRule s) ≡ nothing
   imports-whole =
-      mapped-whole (moduleOf s) (importsOf ruled s)
-      (mapped-whole imports (mapped (moduleOf s) same (importsOf ruled s)) (ap failure (sym (imports-agree ruled s h)) ∙ first-whole 0xf7))
+      mapped-whole (moduleOf s) (importsOf crateRule s)
+      (mapped-whole imports (mapped (moduleOf s) same (importsOf crateRule s)) (ap failure (sym (imports-agree crateRule s h)) ∙ first-whole 0xf7))
 
-  inlinees-whole : failure (inlineesIn ruled s) ≡ nothing
+  inlinees-whole : failure (inlineesIn crateRule s) ≡ nothing
   inlinees-whole =
-      mapped-whole (spelt s) (inlineesIn ruled s)
-      (mapped-whole inlinee (mapped (spelt s) same (inlineesIn ruled s)) (ap failure (sym (inlinees-agree ruled s h)) ∙ first-whole 0xf6))
+      mapped-whole (inlineeSpelt s) (inlineesIn crateRule s)
+      (mapped-whole inlinee (mapped (inlineeSpelt s) same (inlineesIn crateRule s)) (ap failure (sym (inlinees-agree crateRule s h)) ∙ first-whole 0xf6))
 
-  files-whole : failure (filesIn ruled s) ≡ nothing
+  files-whole : failure (filesIn crateRule s) ≡ nothing
   files-whole =
-      mapped-whole (file.spelt s) (filesIn ruled s)
-      (mapped-whole checksum (mapped (file.spelt s) same (filesIn ruled s))
-      (ap failure (sym (files-agree ruled s h)) ∙ whole-mapped dropped (recordsIn (lastBy (begins 0xf4) (chapters (reading ruled s)))) (last-whole 0xf4)))
+      mapped-whole (file.fileSpelt s) (filesIn crateRule s)
+      (mapped-whole checksum (mapped (file.fileSpelt s) same (filesIn crateRule s))
+      (ap failure (sym (files-agree crateRule s h)) ∙ whole-mapped dropped (recordsIn (lastBy (begins 0xf4) (chapters (reading crateRule s)))) (last-whole 0xf4)))
 
   counted : {B : Type 0} (l : Listing B Told) → failure l ≡ nothing → NotRefused (countOf l)
   unfolding failure countOf
@@ -162,18 +162,18 @@ module _ (s : List ℕ) (h : Whole (reading ruled s)) where
   counted ends q = tt
   counted (fails t) q = let z : _≡_ {A = ℕ} 0 1 = cc in absurd (omega arith)
 
-  lines-counted : NotRefused (countLines ruled s)
-  lines-counted = counted (linesFrom ruled s 0) (lines-pass ruled s h)
+  lines-counted : NotRefused (countLines crateRule s)
+  lines-counted = counted (linesFrom crateRule s 0) (lines-pass crateRule s h)
 
 -- ---- each export body of a plain area ascends
 
-bodies-marked : (rs : List Raw) → Each Marked rs → Every Marked (bodiesIn ruled (before rs ends))
+bodies-marked : (rs : List Raw) → Each Marked rs → Every Marked (bodiesIn crateRule (before rs ends))
 unfolding bodiesIn
 bodies-marked [] m = tt
-bodies-marked (r ∷ rs) m = by (ruled (r .kind)) (bodies-marked rs (m .1))
+bodies-marked (r ∷ rs) m = by (crateRule (r .kind)) (bodies-marked rs (m .1))
   where
-    by : (k : Sort) → Every Marked (bodiesIn ruled (before rs ends))
-        → Every Marked (onSort k (more r (bodiesIn ruled (before rs ends))) (bodiesIn ruled (before rs ends)) (fails 2))
+    by : (k : Sort) → Every Marked (bodiesIn crateRule (before rs ends))
+        → Every Marked (onSort k (more r (bodiesIn crateRule (before rs ends))) (bodiesIn crateRule (before rs ends)) (fails 2))
     by known q = (m .0, q)
     by skipped q = q
     by unknown q = tt
@@ -202,7 +202,7 @@ unfolding globalOf
 global-found n [] = tt
 global-found n (p ∷ ps) = by-cases NotRefused (eqb (p .local) n) (λ e. tt) (λ e. global-found n ps)
 
-looked-up : (n : ℕ) (l : Listing Pair Told) (m : ℕ) → plain.ascends 0 l ≡ some m → NotRefused (onGave (lookup n) (collected l))
+looked-up : (n : ℕ) (l : Listing Pair Told) (m : ℕ) → plain.ascendsFrom 0 l ≡ some m → NotRefused (onGave (lookup n) (collected l))
 unfolding lookup
 looked-up n l m e =
     let A = ascends-list l 0 m e in
@@ -218,25 +218,25 @@ not-whole : {A : Type 0} (t : Told) → _≡_ {A = Reply Pair Told} (failure (fa
 unfolding failure
 not-whole t e = let z : _≡_ {A = ℕ} 0 1 = cc in absurd (omega arith)
 
-pairs-marked : (b : List ℕ) (m : ℕ) → markOf 0xf8 b ≡ some m → plain.ascends 0 (pairs b) ≡ some m
+pairs-marked : (b : List ℕ) (m : ℕ) → markOf 0xf8 b ≡ some m → plain.ascendsFrom 0 (pairs b) ≡ some m
 unfolding markOf
 pairs-marked b m e = e
 
 module _ (s : List ℕ) (l : Last) (p : plainOf s ≡ some l) where
-  subs-marked : Every (λ (b : Sub). Marked (bodied s b)) (subsFrom ruled s 0)
+  subs-marked : Every (λ (b : Sub). Marked (bodied s b)) (subsFrom crateRule s 0)
   unfolding bodies
   subs-marked =
       let M = plain-marked s l p in
-      of-mapped s numberOf (subsFrom ruled s 0)
-      (subst⁻¹ (Every Marked) (area-bodies ruled s)
+      of-mapped s numberOf (subsFrom crateRule s 0)
+      (subst⁻¹ (Every Marked) (area-bodies crateRule s)
       (by-cases (Every Marked) (ltb longest (length s)) (λ e. tt)
-      (λ e. subst⁻¹ (λ (x : Parts). Every Marked (bodiesIn ruled x)) (M .1) (bodies-marked (M .0) (M .2)))))
+      (λ e. subst⁻¹ (λ (x : Parts). Every Marked (bodiesIn crateRule x)) (M .1) (bodies-marked (M .0) (M .2)))))
 
-  exports-looked : failure (pairsOf ruled s) ≡ nothing → (n : ℕ) → NotRefused (resolveExport ruled s n)
+  exports-looked : failure (pairsOf crateRule s) ≡ nothing → (n : ℕ) → NotRefused (resolveExport crateRule s n)
   exports-looked w n =
-      found (firstBy (is 0xf8) (subsFrom ruled s 0))
-      (first-holds (λ (b : Sub). Marked (bodied s b)) (is 0xf8) (subsFrom ruled s 0) subs-marked)
-      (first-passes (is 0xf8) (subsFrom ruled s 0)) w
+      found (firstBy (is 0xf8) (subsFrom crateRule s 0))
+      (first-holds (λ (b : Sub). Marked (bodied s b)) (is 0xf8) (subsFrom crateRule s 0) subs-marked)
+      (first-passes (is 0xf8) (subsFrom crateRule s 0)) w
     where
       table : Reply Sub Told → Listing Pair Told
       table x = tableOf pairs unplaced s (mapReply spanOf same x)
@@ -257,7 +257,7 @@ module _ (s : List ℕ) (l : Last) (p : plainOf s ≡ some l) where
 pub plain-answered : (s : List ℕ) → Bytes s → Plain s → Answered s
 plain-answered s b p =
     let A = again s s b p (omega arith) in
-    let h : Whole (reading ruled s) = ap failure (A .1) ∙ before-whole (A .0) in
+    let h : Whole (reading crateRule s) = ap failure (A .1) ∙ before-whole (A .0) in
     record {
       items = h;
       lines = lines-counted s h;

@@ -24,8 +24,8 @@ abbrev pub subLine : ℕ → ℕ → Pieces
 subLine kind len = ascii "sub " ∷ hex kind ∷ ascii " " ∷ decimal len ∷ ascii "\n" ∷ []
 
 -- the word of a checksum's kind, by its number
-abbrev pub wordOf : ℕ → List ℕ
-wordOf kind = getD (ascii "none" ∷ ascii "md5" ∷ ascii "sha1" ∷ ascii "sha256" ∷ []) kind []
+abbrev pub checksumWord : ℕ → List ℕ
+checksumWord kind = getD (ascii "none" ∷ ascii "md5" ∷ ascii "sha1" ∷ ascii "sha256" ∷ []) kind []
 
 unfoldable pub bytesText : List ℕ → List ℕ
 bytesText bytes = cond (eqb (length bytes) 0) (ascii "-") (hexBytes bytes)
@@ -33,10 +33,10 @@ bytesText bytes = cond (eqb (length bytes) 0) (ascii "-") (hexBytes bytes)
 -- file 0 name 1 md5 000102030405060708090a0b0c0d0e0f
 abbrev pub fileLine : ℕ → ℕ → ℕ → List ℕ → Pieces
 fileLine at name kind bytes =
-    ascii "file " ∷ decimal at ∷ ascii " name " ∷ decimal name ∷ ascii " " ∷ wordOf kind ∷ ascii " " ∷ bytesText bytes ∷ ascii "\n" ∷ []
+    ascii "file " ∷ decimal at ∷ ascii " name " ∷ decimal name ∷ ascii " " ∷ checksumWord kind ∷ ascii " " ∷ bytesText bytes ∷ ascii "\n" ∷ []
 
-abbrev pub endLine : Pieces
-endLine = ascii "end\n" ∷ []
+abbrev pub endOfText : Pieces
+endOfText = ascii "end\n" ∷ []
 
 -- refused 11
 abbrev pub refusedLine : ℕ → Pieces

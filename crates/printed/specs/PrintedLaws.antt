@@ -11,7 +11,7 @@ use Rattle.text.specs.TextLaws.{length-below, hex-length}
 use Rattle.refusal.specs.Told.{told, numberOf}
 use Rattle.refusal.specs.declared.Refusal.{Refusal}
 use Rattle.refusal.specs.declared.Refusal.the-variants as why
-use Rattle.printed.specs.Printed.{longestLine, headLine, subLine, wordOf, bytesText, fileLine, endLine, refusedLine}
+use Rattle.printed.specs.Printed.{longestLine, headLine, subLine, checksumWord, bytesText, fileLine, endOfText, refusedLine}
 
 pub bytes-none : (bytes : List ℕ) → length bytes ≡ 0 → ascii "-" ≡ bytesText bytes
 unfolding bytesText
@@ -44,7 +44,7 @@ pub sub-fits : (kind len : ℕ) → Short kind → Short len → length (joined 
 unfolding ascii
 sub-fits kind len h g = simp length-append (omega (arith, hex-short kind h, decimal-short len g))
 
-word-short : (k : ℕ) → length (wordOf k) ≤ 6
+word-short : (k : ℕ) → length (checksumWord k) ≤ 6
 unfolding ascii
 word-short zero = omega arith
 word-short (suc zero) = omega arith
@@ -62,7 +62,7 @@ unfolding ascii
 file-fits at name kind bytes h g l =
     simp length-append (omega (arith, decimal-short at h, decimal-short name g, word-short kind, bytes-short bytes l))
 
-pub end-fits : length (joined endLine) ≤ longestLine
+pub end-fits : length (joined endOfText) ≤ longestLine
 unfolding ascii
 end-fits = omega arith
 
@@ -98,7 +98,7 @@ pub example : (joined (headLine 80) ≡ ascii "c13 80 bytes\n")
     × (joined (fileLine 0 1 1 (0 ∷ 1 ∷ 2 ∷ 3 ∷ 4 ∷ 5 ∷ 6 ∷ 7 ∷ 8 ∷ 9 ∷ 10 ∷ 11 ∷ 12 ∷ 13 ∷ 14 ∷ 15 ∷ []))
     ≡ ascii "file 0 name 1 md5 000102030405060708090a0b0c0d0e0f\n")
     × (joined (fileLine 24 1 0 []) ≡ ascii "file 24 name 1 none -\n")
-    × (joined endLine ≡ ascii "end\n")
+    × (joined endOfText ≡ ascii "end\n")
     × (joined (refusedLine 11) ≡ ascii "refused 11\n")
 unfolding ascii numeral numeralIn glyph hexBytes bytesText
 example = (refl, refl, refl, refl, refl, refl)

@@ -2,11 +2,11 @@
 // piece, with its newline. The line of a line record has a crate of its own, `line_text`.
 ghost use mathlib.Core.Path.{_≡_};
 ghost use mathlib.Core.List.{_∷_, []};
-ghost use Rattle.text.specs.Text.{decimal, page, written, writtenAll};
+ghost use Rattle.text.specs.Text.{decimal, page, pieceWritten, writtenAll};
 ghost use Rattle.text.specs.Told.{toldPlace};
 ghost use Rattle.refusal.specs.Told.{told, numberOf};
 ghost use Rattle.checksums.specs.Told.{toldKind};
-ghost use Rattle.printed.specs.Printed.{headLine, subLine, wordOf, bytesText, fileLine, endLine, refusedLine};
+ghost use Rattle.printed.specs.Printed.{headLine, subLine, checksumWord, bytesText, fileLine, endOfText, refusedLine};
 use checksums::ChecksumKind;
 use refusal::Refusal;
 use refusal::number;
@@ -41,7 +41,7 @@ pub fn put_sub(buf: &mut [u8], place: Place, kind: u32, len: usize) -> Place
 }
 
 fn put_word(buf: &mut [u8], place: Place, kind: ChecksumKind) -> Place
-    ensures { λ r. ⌜ page (now (buf .exit)) (toldPlace r) ≡ written (wordOf (toldKind kind)) (page (now (buf .entry)) (toldPlace place)) ⌝ }
+    ensures { λ r. ⌜ page (now (buf .exit)) (toldPlace r) ≡ pieceWritten (checksumWord (toldKind kind)) (page (now (buf .entry)) (toldPlace place)) ⌝ }
 {
     match kind {
         ChecksumKind::None => put_bytes(buf, place, b"none"),
@@ -52,7 +52,7 @@ fn put_word(buf: &mut [u8], place: Place, kind: ChecksumKind) -> Place
 }
 
 fn put_sum(buf: &mut [u8], place: Place, bytes: &[u8]) -> Place
-    ensures { λ r. ⌜ page (now (buf .exit)) (toldPlace r) ≡ written (bytesText (now (bytes .entry))) (page (now (buf .entry)) (toldPlace place)) ⌝ }
+    ensures { λ r. ⌜ page (now (buf .exit)) (toldPlace r) ≡ pieceWritten (bytesText (now (bytes .entry))) (page (now (buf .entry)) (toldPlace place)) ⌝ }
 {
     if bytes.len() == 0 {
         return put_bytes(buf, place, b"-");
@@ -80,7 +80,7 @@ pub fn put_file(
 }
 
 pub fn put_end(buf: &mut [u8], place: Place) -> Place
-    ensures { λ r. ⌜ page (now (buf .exit)) (toldPlace r) ≡ writtenAll endLine (page (now (buf .entry)) (toldPlace place)) ⌝ }
+    ensures { λ r. ⌜ page (now (buf .exit)) (toldPlace r) ≡ writtenAll endOfText (page (now (buf .entry)) (toldPlace place)) ⌝ }
 {
     put_bytes(buf, place, b"end\n")
 }

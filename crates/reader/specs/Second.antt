@@ -6,7 +6,7 @@ use mathlib.Core.List.{List}
 use Rattle.walk.specs.Listing.{Answer}
 use Rattle.refusal.specs.Told.{Told}
 use Rattle.area.specs.Kind.{Sort}
-use Rattle.area.specs.Subs.{Sub, stepAt, after}
+use Rattle.area.specs.Subs.{Sub, stepAt, placeBehind}
 
 abbrev pub second : (ℕ → Sort) → List ℕ → Answer ℕ Sub Told
-second rule s = stepAt rule s (after (stepAt rule s 0) 0)
+second rule s = stepAt rule s (placeBehind (stepAt rule s 0) 0)

@@ -6,9 +6,9 @@
 ghost use mathlib.Core.Path.{_≡_};
 ghost use Prim.Native.Nat.{_-_};
 ghost use lib.ListN.{length};
-ghost use Rattle.area.specs.Kind.{ruled};
+ghost use Rattle.area.specs.Kind.{crateRule};
 ghost use Rattle.area.specs.Told.{toldStep};
-ghost use Rattle.area.specs.Subs.{stepAt, after};
+ghost use Rattle.area.specs.Subs.{stepAt, placeBehind};
 ghost use Rattle.reader.specs.Second.{second};
 use area::SubStep;
 use area::sub_at;
@@ -27,7 +27,7 @@ pub struct Stepped<'a> {
 
 // The work: the place behind an answer. Where there is none, the place stays.
 fn place_after(at: usize, step: SubStep) -> usize
-    ensures { λ r. ⌜ r ≡ after (toldStep step) at ⌝ }
+    ensures { λ r. ⌜ r ≡ placeBehind (toldStep step) at ⌝ }
 {
     match step {
         SubStep::Sub {
@@ -64,8 +64,8 @@ pub fn left<'a>(r: Reader<'a>) -> usize
 // The step: what stands here, and the reader moved on.
 pub fn step<'a>(r: Reader<'a>) -> Stepped<'a>
     ensures { λ q. ⌜ (q .area ≡ r .entry .area)
-        × (toldStep (q .step) ≡ stepAt ruled (now (r .entry .area)) (r .entry .at))
-        × (q .at ≡ after (toldStep (q .step)) (r .entry .at)) ⌝ }
+        × (toldStep (q .step) ≡ stepAt crateRule (now (r .entry .area)) (r .entry .at))
+        × (q .at ≡ placeBehind (toldStep (q .step)) (r .entry .at)) ⌝ }
 {
     let step = sub_at(r.area, r.at);
     let at = place_after(r.at, step);
@@ -95,7 +95,7 @@ pub fn answer<'a>(q: Stepped<'a>) -> SubStep
 
 // From a slice to a reader and back: who calls it needs no walk by hand.
 pub fn second_sub(area: &[u8]) -> SubStep
-    ensures { λ t. ⌜ toldStep t ≡ second ruled (now (area .entry)) ⌝ }
+    ensures { λ t. ⌜ toldStep t ≡ second crateRule (now (area .entry)) ⌝ }
 {
     answer(step(rest(step(new(area)))))
 }

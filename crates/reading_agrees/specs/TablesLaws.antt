@@ -30,7 +30,7 @@ use Rattle.body.specs.Exports.{pairs}
 use Rattle.exports.specs.Exports.{pairsOf}
 use Rattle.imports.specs.Imports.{moduleOf, importsOf}
 use Rattle.imports.specs.ImportsLaws.{imports-words}
-use Rattle.inlinees.specs.Inlinees.{spelt, inlineesIn, inlineesOf}
+use Rattle.inlinees.specs.Inlinees.{inlineeSpelt, inlineesIn, inlineesOf}
 use Rattle.inlinees.specs.InlineesLaws.{inlinees-mean}
 use Rattle.checksums.specs.Entry.{shown}
 use Rattle.files.specs.Files.{ifPassed, filesSub, filesIn}
@@ -135,7 +135,7 @@ module _ (rule : ℕ → Sort) (s : List ℕ) (h : Whole (reading rule s)) where
       ∙ ap (each imports) (sym (imports-words rule s))
 
   -- the inlinees, with their extra files, are those of the first inlinee subsection
-  pub inlinees-agree : recordsIn (firstBy (begins 0xf6) (chapters (reading rule s))) ≡ each inlinee (mapped (spelt s) same (inlineesIn rule s))
+  pub inlinees-agree : recordsIn (firstBy (begins 0xf6) (chapters (reading rule s))) ≡ each inlinee (mapped (inlineeSpelt s) same (inlineesIn rule s))
   inlinees-agree =
       first-records rule s 0xf6 (λ (b : List ℕ). each inlinee (inlineesOf b)) inlinees-right h
       ∙ of-body inlinee inlineesOf (firstBytes rule 0xf6 s)
@@ -260,7 +260,7 @@ module _ (rule : ℕ → Sort) (s : List ℕ) (h : Whole (reading rule s)) where
       passes (linesFrom rule s 0) (lastSub rule 0xf4 s) lines-pass
 
   -- the files, with their checksums, are the records of the last checksum subsection, but for the bytes of kind 0
-  pub files-agree : mapped dropped same (recordsIn (lastBy (begins 0xf4) (chapters (reading rule s)))) ≡ each checksum (mapped (file.spelt s) same (filesIn rule s))
+  pub files-agree : mapped dropped same (recordsIn (lastBy (begins 0xf4) (chapters (reading rule s)))) ≡ each checksum (mapped (file.fileSpelt s) same (filesIn rule s))
   files-agree =
       let x = lastBytes rule 0xf4 s in
       ap (mapped dropped same) (last-records rule s 0xf4 (λ (b : List ℕ). each checksum (checksums b)) checksums-right h ∙ of-body checksum checksums x)

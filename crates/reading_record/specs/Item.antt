@@ -35,14 +35,14 @@ wordsAt s p n = wordsIn n (drop p s)
 abbrev pub spanAt : List ℕ → ℕ → ℕ → List ℕ
 spanAt s p n = take n (drop p s)
 
-abbrev pub columnWords : List ℕ → ℕ → ToldColumns → List ℕ
-columnWords s n (columnsAt p) = wordsAt s p n
-columnWords s n noColumns = []
+abbrev pub columnsIn : List ℕ → ℕ → ToldColumns → List ℕ
+columnsIn s n (columnsAt p) = wordsAt s p n
+columnsIn s n noColumns = []
 
 -- the item that is told
 abbrev pub itemOf : List ℕ → ToldItem → Item
 itemOf s (openLines h) = reading.openLines h
-itemOf s (block file n lines c) = reading.block (record { file = file; lines = wordsAt s lines (2 * n); columns = columnWords s n c })
+itemOf s (block file n lines c) = reading.block (record { file = file; lines = wordsAt s lines (2 * n); columns = columnsIn s n c })
 itemOf s openChecksums = reading.openChecksums
 itemOf s (checksum name kind start len) = reading.checksum (record { name = name; kind = kind; bytes = spanAt s start len })
 itemOf s (openInlinees x) = reading.openInlinees x

@@ -66,7 +66,7 @@ inWalk k start len none = none
 inWalk k start len (refuses t) = refuses t
 
 -- in a body of the area s that is held against it
-abbrev pub recordIn : List ℕ → TypedBody → Reply Place Told → ItemAnswer
-recordIn s k (gave q) = inWalk k (q .start) (q .len) (recordAt k (take (q .len) (drop (q .start) s)) (q .start) (q .at))
-recordIn s k nothing = none
-recordIn s k (refused t) = refuses t
+abbrev pub recordInBody : List ℕ → TypedBody → Reply Place Told → ItemAnswer
+recordInBody s k (gave q) = inWalk k (q .start) (q .len) (recordAt k (take (q .len) (drop (q .start) s)) (q .start) (q .at))
+recordInBody s k nothing = none
+recordInBody s k (refused t) = refuses t

@@ -13,7 +13,7 @@ use Rattle.table.specs.TableLaws.{Inside, in-inside}
 use Rattle.lines.specs.Blocks.{LineBlock, blockAt}
 use Rattle.checksums.specs.Entry.{Entry, entryAt}
 use Rattle.reading_record.specs.Item.{ToldColumns, ToldItem, block, checksum}
-use Rattle.reading_record.specs.Record.{ItemAnswer, asItem, withColumns, columnsFrom, blockItem, checksumItem, recordAt, inWalk, recordIn}
+use Rattle.reading_record.specs.Record.{ItemAnswer, asItem, withColumns, columnsFrom, blockItem, checksumItem, recordAt, inWalk, recordInBody}
 use Rattle.reading_record.specs.declared.ItemWalk.the-variants as walk
 use Rattle.reading_record.specs.declared.TypedBody.{TypedBody}
 use Rattle.reading_record.specs.declared.TypedBody.the-variants as typed
@@ -68,13 +68,13 @@ module _ (s : List ℕ) (start len at : ℕ) where
   lent-fits q n e en = omega (arith, length-take n (drop (q .start) s), spot-lies q e)
 
   pub lent-is : (k : TypedBody) (q : Place) (n : ℕ) (a : ItemAnswer) → gave q ≡ spotIn s start len at → n ≡ q .len
-      → a ≡ recordOf k (take n (drop (q .start) s)) (q .start) (q .at) → a ≡ recordIn s k (spotIn s start len at)
+      → a ≡ recordOf k (take n (drop (q .start) s)) (q .start) (q .at) → a ≡ recordInBody s k (spotIn s start len at)
   lent-is k q n a e en h =
       let m : length (take (q .len) (drop (q .start) s)) ≡ q .len = length-take-le (q .len) (drop (q .start) s) (omega (arith, length-drop (q .start) s, spot-lies q e)) in
       h
       ∙ ap (λ (j : ℕ). recordOf k (take j (drop (q .start) s)) (q .start) (q .at)) en
       ∙ ap (λ (j : ℕ). inWalk k (q .start) j (recordAt k (take (q .len) (drop (q .start) s)) (q .start) (q .at))) m
-      ∙ ap (recordIn s k) e
+      ∙ ap (recordInBody s k) e
 
-  pub other-is : (k : TypedBody) (x : Reply Place Told) → x ≡ spotIn s start len at → recordIn s k x ≡ recordIn s k (spotIn s start len at)
-  other-is k x e = ap (recordIn s k) e
+  pub other-is : (k : TypedBody) (x : Reply Place Told) → x ≡ spotIn s start len at → recordInBody s k x ≡ recordInBody s k (spotIn s start len at)
+  other-is k x e = ap (recordInBody s k) e

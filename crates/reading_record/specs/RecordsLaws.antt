@@ -26,7 +26,7 @@ use Rattle.lines.specs.Blocks.{LineBlock, blockAt, blocksFrom, worded}
 use Rattle.lines.specs.BlocksLaws.{from-step, blocks-inside, blocks-are}
 use Rattle.checksums.specs.Entry.{Entry, entryAt, entriesFrom}
 use Rattle.checksums.specs.EntryLaws.{checksumOf, entryOf, entries-as, entries-step}
-use Rattle.inlinees.specs.Inlinees.{SourceLine, entryPlace, sourceLineAt, sourceLinesFrom, spelt, inlineesOf}
+use Rattle.inlinees.specs.Inlinees.{SourceLine, entryPlace, sourceLineAt, sourceLinesFrom, inlineeSpelt, inlineesOf}
 use Rattle.inlinees.specs.SourceLineLaws.{In, lines-in, lines-step, lines-mean}
 use Rattle.imports.specs.Imports.{ModuleAt, moduleOf, inArea, moduleAt, modulesFrom}
 use Rattle.imports.specs.ImportsLaws.{modules-placed, modules-right}
@@ -34,7 +34,7 @@ use Rattle.exports.specs.Exports.{pairAt, pairsFrom}
 use Rattle.exports.specs.ExportsLaws.{pairs-from, pairs-right}
 use Rattle.reading.specs.Reading.{Items, each}
 use Rattle.reading.specs.Reading as reading
-use Rattle.reading_record.specs.Item.{ToldItem, columnWords, itemOf, exports}
+use Rattle.reading_record.specs.Item.{ToldItem, columnsIn, itemOf, exports}
 use Rattle.reading_record.specs.Record.{asItem, withColumns, columnsFrom, blockItem, checksumItem, inlineeItem, moduleItem, recordAt}
 use Rattle.reading_record.specs.declared.TypedBody.{TypedBody}
 use Rattle.reading_record.specs.declared.TypedBody.the-variants as typed
@@ -92,7 +92,7 @@ module _ (s : List ℕ) (start : ℕ) (b : List ℕ) (here : b ≡ take (length 
   words : (p n : ℕ) → p + 4 * n ≤ length b → wordsIn n (drop (start + p) s) ≡ wordsIn n (drop p b)
   words p n h = words-part s start (length b) p n h ∙ ap (λ (x : List ℕ). wordsIn n (drop p x)) (sym here)
 
-  column-words : (c : Bool) (p n : ℕ) → p + 4 * columnsOf c n ≤ length b → columnWords s n (columnsFrom c (start + p)) ≡ wordsIn (columnsOf c n) (drop p b)
+  column-words : (c : Bool) (p n : ℕ) → p + 4 * columnsOf c n ≤ length b → columnsIn s n (columnsFrom c (start + p)) ≡ wordsIn (columnsOf c n) (drop p b)
   unfolding wordsIn
   column-words true p n h = words p n h
   column-words false p n h = refl
@@ -104,7 +104,7 @@ module _ (s : List ℕ) (start : ℕ) (b : List ℕ) (here : b ≡ take (length 
       let n = k .count in
       let q : columnsFrom c (start + k .start + 8 * n) ≡ columnsFrom c (start + (k .start + 8 * n)) = ap (columnsFrom c) (add-assoc start (k .start) (8 * n)) in
       let ls = words (k .start) (2 * n) (omega arith) in
-      let cs = ap (columnWords s n) q ∙ column-words c (k .start + 8 * n) n (omega arith) in
+      let cs = ap (columnsIn s n) q ∙ column-words c (k .start + 8 * n) n (omega arith) in
       λ i. reading.block (record { file = k .file; lines = ls i; columns = cs i })
 
   checksum-means : (p : ℕ) → p + 6 + getD b (p + 4) 0 ≤ length b → itemOf s (checksumItem b start (entryOf b p)) ≡ reading.checksum (checksumOf b p)
@@ -116,15 +116,15 @@ module _ (s : List ℕ) (start : ℕ) (b : List ℕ) (here : b ≡ take (length 
         bytes = (ap (λ (k : ℕ). take (getD b k 0) (drop (start + (p + 6)) s)) n ∙ bytes (p + 6) (getD b (p + 4) 0) h) i;
       })
 
-  inlinee-means : (e : SourceLine) → In (length b) e → itemOf s (inlineeItem start e) ≡ reading.inlinee (spelt b e)
+  inlinee-means : (e : SourceLine) → In (length b) e → itemOf s (inlineeItem start e) ≡ reading.inlinee (inlineeSpelt b e)
   inlinee-means e h =
       λ i. reading.inlinee (record { inlinee = e .inlinee; file = e .file; line = e .line; extra = words (e .extra) (e .count) h i })
 
   -- the place behind the signature, at 4, is where the first entry is looked for
-  inlinees-here : 4 ≤ length b → mapped (spelt b) same (sourceLinesFrom b 4) ≡ inlinees (extended (u32At b 0)) (drop 4 b)
+  inlinees-here : 4 ≤ length b → mapped (inlineeSpelt b) same (sourceLinesFrom b 4) ≡ inlinees (extended (u32At b 0)) (drop 4 b)
   unfolding sourceLineAt entryPlace inlineesOf
   inlinees-here h =
-      ap (mapped (spelt b) same) (lines-step b 4 ∙ sym (lines-step b 0)) ∙ lines-mean b ∙ simp tests
+      ap (mapped (inlineeSpelt b) same) (lines-step b 4 ∙ sym (lines-step b 0)) ∙ lines-mean b ∙ simp tests
 
   modules-here : mapped (λ (m : ModuleAt). moduleOf s (inArea start m)) same (modulesFrom b 0) ≡ modules b
   modules-here =
@@ -141,8 +141,8 @@ module _ (s : List ℕ) (start : ℕ) (b : List ℕ) (here : b ≡ take (length 
       mapped-mapped (itemOf s) (checksumItem b start) (entriesFrom b 0) ∙ entries-as b (λ (e : Entry). itemOf s (checksumItem b start e)) reading.checksum checksum-means
   records-mean typed.Inlinees h =
       let l = sourceLinesFrom b 4 in
-      mapped-is (In (length b)) (inlineeItem start) (itemOf s) (λ (e : SourceLine). reading.inlinee (spelt b e)) inlinee-means l (lines-in b 4)
-      ∙ sym (mapped-mapped reading.inlinee (spelt b) l)
+      mapped-is (In (length b)) (inlineeItem start) (itemOf s) (λ (e : SourceLine). reading.inlinee (inlineeSpelt b e)) inlinee-means l (lines-in b 4)
+      ∙ sym (mapped-mapped reading.inlinee (inlineeSpelt b) l)
       ∙ ap (each reading.inlinee) (inlinees-here h)
   records-mean typed.Imports h =
       mapped-mapped (itemOf s) (moduleItem start) (modulesFrom b 0)

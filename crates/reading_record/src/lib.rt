@@ -7,7 +7,7 @@ ghost use Prim.Native.Nat.{_+_, _≤_};
 ghost use lib.ListN.{length};
 ghost use Rattle.refusal.specs.Told.{longest};
 ghost use Rattle.table.specs.Table.{spotIn};
-ghost use Rattle.reading_record.specs.Record.{columnsFrom, recordIn};
+ghost use Rattle.reading_record.specs.Record.{columnsFrom, recordInBody};
 ghost use Rattle.reading_record.specs.RecordLaws.{recordOf};
 ghost use Rattle.reading_record.specs.Told.{toldColumns, toldItem};
 ghost use Rattle.reading_record.specs.declared.ItemWalk.the-variants as walk;
@@ -293,7 +293,7 @@ fn record_of(body: &[u8], kind: TypedBody, start: usize, at: usize) -> ItemStep
 // The record at a place of the body of `len` bytes that starts at `start`; behind the last one `None`. Refused are 11, 1 for a body that does not
 // lie in the area, and what the body's records are refused for: 1, 3, 4 and 7.
 pub fn record_at(area: &[u8], kind: TypedBody, start: usize, len: usize, at: usize) -> ItemStep
-    ensures { λ r. ⌜ toldItem r ≡ recordIn (now (area .entry)) kind (spotIn (now (area .entry)) start len at) ⌝ }
+    ensures { λ r. ⌜ toldItem r ≡ recordInBody (now (area .entry)) kind (spotIn (now (area .entry)) start len at) ⌝ }
 {
     match spot_in(area, start, len, at) {
         Spot::At { start, len, at } => record_of(&area[start..start + len], kind, start, at),

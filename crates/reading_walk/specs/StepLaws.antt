@@ -17,7 +17,7 @@ use Rattle.area.specs.SubsLaws.{sub-next}
 use Rattle.table.specs.Table.{Place, spotIn}
 use Rattle.body.specs.Lines.{LineHead, lineHead}
 use Rattle.reading_record.specs.Item.{ToldItem, openLines, openChecksums, openInlinees, openImports, openExports, opaque}
-use Rattle.reading_record.specs.Record.{ItemAnswer, recordAt, inWalk, recordIn}
+use Rattle.reading_record.specs.Record.{ItemAnswer, recordAt, inWalk, recordInBody}
 use Rattle.reading_record.specs.declared.ItemWalk.{ItemWalk}
 use Rattle.reading_record.specs.declared.ItemWalk.the-variants as walk
 use Rattle.reading_record.specs.declared.TypedBody.{TypedBody}
@@ -105,9 +105,9 @@ spot-by s start len at P refuses-it lies =
     (λ d. by-cases P (ltb (length s) (start + len)) (λ e. refuses-it (told why.Cut)) (λ e. lies (ltb-false (length s) (start + len) e)))
 
 -- so the body of a record that is none lies in the area
-pub end-lies : (s : List ℕ) (k : TypedBody) (start len at : ℕ) → none ≡ recordIn s k (spotIn s start len at) → start + len ≤ length s
+pub end-lies : (s : List ℕ) (k : TypedBody) (start len at : ℕ) → none ≡ recordInBody s k (spotIn s start len at) → start + len ≤ length s
 end-lies s k start len at =
-    spot-by s start len at (λ (x : Reply Place Told). none ≡ recordIn s k x → start + len ≤ length s)
+    spot-by s start len at (λ (x : Reply Place Told). none ≡ recordInBody s k x → start + len ≤ length s)
     (λ t r. let z : _≡_ {A = ℕ} 0 1 = cc in absurd (omega arith)) (λ m r. m)
 
 module _ (rule : ℕ → Sort) (s : List ℕ) (k : TypedBody) (start len : ℕ) where
@@ -123,19 +123,19 @@ module _ (rule : ℕ → Sort) (s : List ℕ) (k : TypedBody) (start len : ℕ) 
 
   module _ (at : ℕ) where
     -- it is passed on, unless it is none
-    pub record-passes : (w : ItemWalk) (u : ItemAnswer) → w ≡ walk.In k start len at → (u ≡ none → ⊥) → u ≡ recordIn s k (spotIn s start len at)
+    pub record-passes : (w : ItemWalk) (u : ItemAnswer) → w ≡ walk.In k start len at → (u ≡ none → ⊥) → u ≡ recordInBody s k (spotIn s start len at)
         → u ≡ itemStep rule s w
     unfolding recordStep
     record-passes w u e h q =
-        spot-by s start len at (λ (x : Reply Place Told). u ≡ recordIn s k x → u ≡ inBody rule s k x) (λ t r. r)
+        spot-by s start len at (λ (x : Reply Place Told). u ≡ recordInBody s k x → u ≡ inBody rule s k x) (λ t r. r)
         (λ m. passes u (recordAt k (take len (drop start s)) start at) h) q
         ∙ ap (itemStep rule s) (sym e)
 
     -- behind the last record the next subsection is opened
-    pub record-ends : (w : ItemWalk) → w ≡ walk.In k start len at → none ≡ recordIn s k (spotIn s start len at)
+    pub record-ends : (w : ItemWalk) → w ≡ walk.In k start len at → none ≡ recordInBody s k (spotIn s start len at)
         → openStep rule s (start + len) ≡ itemStep rule s w
     unfolding recordStep
     record-ends w e q =
-        spot-by s start len at (λ (x : Reply Place Told). none ≡ recordIn s k x → openStep rule s (start + len) ≡ inBody rule s k x)
+        spot-by s start len at (λ (x : Reply Place Told). none ≡ recordInBody s k x → openStep rule s (start + len) ≡ inBody rule s k x)
         (λ t r. let z : _≡_ {A = ℕ} 0 1 = cc in absurd (omega arith)) (λ m. ends (recordAt k (take len (drop start s)) start at)) q
         ∙ ap (itemStep rule s) (sym e)

@@ -2,7 +2,7 @@
 //
 // A body is read before the next header is: its records, as crate `reading_record` has them, and behind the last one what opens the next subsection.
 ghost use mathlib.Core.Path.{_≡_};
-ghost use Rattle.area.specs.Kind.{ruled};
+ghost use Rattle.area.specs.Kind.{crateRule};
 ghost use Rattle.reading_record.specs.Told.{toldItem};
 ghost use Rattle.reading_walk.specs.Step.{linesOpened, inlineesOpened, exportsOpened, opened, openStep, itemStep};
 use area::SubStep;
@@ -102,7 +102,7 @@ fn open_body(body: &[u8], kind: u32, start: usize, end: usize) -> ItemStep
 
 // What opens the next subsection from a place on.
 fn open_at(area: &[u8], at: usize) -> ItemStep
-    ensures { λ r. ⌜ toldItem r ≡ openStep ruled (now (area .entry)) at ⌝ }
+    ensures { λ r. ⌜ toldItem r ≡ openStep crateRule (now (area .entry)) at ⌝ }
 {
     match sub_at(area, at) {
         SubStep::Sub {
@@ -119,7 +119,7 @@ fn open_at(area: &[u8], at: usize) -> ItemStep
 // The item that comes next. Refused are, in the order of the bytes, 11, 1, 2 and what a body's records are refused for: 1, 3, 4 and 7. No state
 // is trusted: its place is held against the area.
 pub fn next_item(area: &[u8], walk: ItemWalk) -> ItemStep
-    ensures { λ r. ⌜ toldItem r ≡ itemStep ruled (now (area .entry)) walk ⌝ }
+    ensures { λ r. ⌜ toldItem r ≡ itemStep crateRule (now (area .entry)) walk ⌝ }
 {
     match walk {
         ItemWalk::Between { at } => open_at(area, at),

@@ -1,4 +1,4 @@
--- The calls of subsections of good form, run where there is room, are all accepted and make the bytes of these subsections.
+-- The calls of subsections of good form, runCalls where there is room, are all accepted and make the bytes of these subsections.
 use Prim.Native.Nat.{ℕ, _+_, _-_, _/_, _%_, _≤_}
 use mathlib.Core.Path.{_≡_, refl, sym, ap, _∙_}
 use mathlib.Core.List.{List, [], _∷_, _++_, map, append-assoc, append-nil}
@@ -13,7 +13,7 @@ use Rattle.word.specs.WordLaws.{header-length, le32-length, put-length}
 use Rattle.walk.specs.Listing.{ends, before}
 use Rattle.refusal.specs.Told.{told, longest}
 use Rattle.refusal.specs.declared.Refusal.the-variants as why
-use Rattle.area.specs.Kind.{ruled}
+use Rattle.area.specs.Kind.{crateRule}
 use Rattle.area.specs.Join.{join}
 use Rattle.area.specs.JoinLaws.{join-append}
 use Rattle.body.specs.Lines.{columned, columnsOf, Block, lineHeadBytes, blockBytes}
@@ -26,34 +26,34 @@ use Rattle.body.specs.LinesLaws.{Filled}
 use Rattle.body.specs.InlineesLaws.{Fits}
 use Rattle.reading.specs.Reading.{Item, openLines, block, openChecksums, checksum, openInlinees, inlinee, openImports, imports, openExports, exports, opaque, reading, opens}
 use Rattle.plain.specs.Plain.{sizeOf, Last, nothing-yet, plainOf}
-use Rattle.writer_decides.specs.Calls.{kindOf, bytesFor, blockRule, checksumRule, obeys, goes, stops, limit, place, ofKind, room, ruled as obeyed-room, needs, onLast, act, patch}
+use Rattle.writer_decides.specs.Calls.{itemKind, bytesFor, blockRule, checksumRule, obeys, goes, stops, limit, place, ofKind, room, elseNotPlain, needs, onLast, act, patch}
 use Rattle.writer_decides.specs.CallLaws.{room-there, kind-same, needs-is, patch-is, act-is}
 use Rattle.round_trip.specs.Secs.{Sec, linesOf, checksumsOf, inlineesOf, importsOf, exportsOf, opaqueOf, kindSec, bodySec, rawSec, callsSec, Sized, Ascend, floorAfter, GoodSec, markSec, rawsOf, callsOf, lastOf}
 use Rattle.round_trip.specs.SecLaws.{reads-join}
-use Rattle.round_trip.specs.Run.{State, called, run, empty, written, accepted}
+use Rattle.round_trip.specs.Run.{State, called, runCalls, empty, written, accepted}
 use Rattle.round_trip.specs.HoldLaws.{join-length, last-snoc, bigger-block, bigger-checksum, bigger-inlinee, bigger-module, bigger-pair, bigger, fresh}
 use Rattle.round_trip.specs.RoundLaws.{Holds, called-goes, at-is, place-here, holds-fresh, holds-bigger, empty-holds}
 use Rattle.round_trip.specs.BackLaws.{plain-back}
 
 -- ---- a call is accepted
 
-ruled-goes : (t : Bool) (n w h m need : ℕ) → t ≡ true → w + need ≤ limit n → obeyed-room t (room n w h m need) ≡ goes h m (w + need)
-ruled-goes t n w h m need e l = ap (λ (x : Bool). obeyed-room x (room n w h m need)) e ∙ sym (room-there n w h m need l)
+plain-goes : (t : Bool) (n w h m need : ℕ) → t ≡ true → w + need ≤ limit n → elseNotPlain t (room n w h m need) ≡ goes h m (w + need)
+plain-goes t n w h m need e l = ap (λ (x : Bool). elseNotPlain x (room n w h m need)) e ∙ sym (room-there n w h m need l)
 
-act-on : (it : Item) (b : List ℕ) (w : ℕ) (l : Last) {t : Bool} → opens it ≡ t → cond t (place b w) (ofKind (kindOf it) (place b w)) ≡ some l
+act-on : (it : Item) (b : List ℕ) (w : ℕ) (l : Last) {t : Bool} → opens it ≡ t → cond t (place b w) (ofKind (itemKind it) (place b w)) ≡ some l
     → obeys (l .mark) it ≡ true → w + needs (l .mark) it ≤ limit (length b) → act it b w ≡ goes (l .header) (l .mark) (w + needs (l .mark) it)
 act-on it b w l e p o r =
     act-is it e b w
-    ∙ ap (λ (z : Option Last). onLast z (stops (told why.WrongPlace)) (λ x. obeyed-room (obeys (x .mark) it) (room (length b) w (x .header) (x .mark) (needs (x .mark) it)))) p
-    ∙ ruled-goes (obeys (l .mark) it) (length b) w (l .header) (l .mark) (needs (l .mark) it) o r
+    ∙ ap (λ (z : Option Last). onLast z (stops (told why.WrongPlace)) (λ x. elseNotPlain (obeys (x .mark) it) (room (length b) w (x .header) (x .mark) (needs (x .mark) it)))) p
+    ∙ plain-goes (obeys (l .mark) it) (length b) w (l .header) (l .mark) (needs (l .mark) it) o r
 
 -- ---- it leaves the buffer as long as it was
 
 length-fresh : (it : Item) (b : List ℕ) (w h m : ℕ) → opens it ≡ true → w + needs m it ≤ length b → length (patch it b w h m) ≡ length b
 length-fresh it b w h m e l =
     let B : List ℕ = bytesFor m it in
-    let bs : List ℕ = header (kindOf it) (length B) ++ B in
-    let lb : length bs ≡ 8 + length B = length-append (header (kindOf it) (length B)) B ∙ omega (arith, header-length (kindOf it) (length B)) in
+    let bs : List ℕ = header (itemKind it) (length B) ++ B in
+    let lb : length bs ≡ 8 + length B = length-append (header (itemKind it) (length B)) B ∙ omega (arith, header-length (itemKind it) (length B)) in
     let n : needs m it ≡ 8 + length B = needs-is it e m in
     ap length (patch-is it e b w h m) ∙ put-length b w bs (omega arith)
 
@@ -96,7 +96,7 @@ new-sec st ss H it b o s es r =
       len = ap (λ (t : State). length (t .buf)) c ∙ length-fresh it (st .buf) (st .at) (l .header) m b (omega arith);
     }
 
-more-sec : (st : State) (ss : List Sec) (s : Sec) → Holds st (ss ++ (s ∷ [])) → (it : Item) (b : opens it ≡ false) (g : GoodSec s) (k : kindSec s ≡ kindOf it)
+more-sec : (st : State) (ss : List Sec) (s : Sec) → Holds st (ss ++ (s ∷ [])) → (it : Item) (b : opens it ≡ false) (g : GoodSec s) (k : kindSec s ≡ itemKind it)
     (o : obeys (markSec s) it ≡ true) (t : Sec) → bigger it s b g k o .sec ≡ t → Roomy st (ss ++ (t ∷ [])) → Keeps st (called it st) (ss ++ (t ∷ []))
 more-sec st ss s H it b g k o t et r =
     let J = length (join (rawsOf ss)) in
@@ -110,7 +110,7 @@ more-sec st ss s H it b g k o t et r =
     let js = join-length ss s in
     let f : st .at + needs m it ≤ limit (length (st .buf)) = omega (arith, join-length ss t) in
     let p : place (st .buf) (st .at) ≡ some l = place-here st (ss ++ (s ∷ [])) H ∙ ap some (last-snoc ss s 0 nothing-yet) in
-    let q = act-on it (st .buf) (st .at) l b (sym (kind-same (kindOf it) (place (st .buf) (st .at)) l (sym p) k)) o f in
+    let q = act-on it (st .buf) (st .at) l b (sym (kind-same (itemKind it) (place (st .buf) (st .at)) l (sym p) k)) o f in
     let c = called-goes it st (0 + J) m (st .at + needs m it) q in
     let K = holds-bigger st ss s H it (0 + J) m (st .at + needs m it) b g k o (omega arith) refl refl f in
     record {
@@ -120,15 +120,15 @@ more-sec st ss s H it b g k o t et r =
 
 -- ---- records one after the other, of any kind: fam xs is the subsection of the records xs
 
-module _ {B : Type 0} (fam : List B → Sec) (f : B → Item) (beg : (b : B) → opens (f b) ≡ false) (kind : (xs : List B) (b : B) → kindSec (fam xs) ≡ kindOf (f b))
+module _ {B : Type 0} (fam : List B → Sec) (f : B → Item) (beg : (b : B) → opens (f b) ≡ false) (kind : (xs : List B) (b : B) → kindSec (fam xs) ≡ itemKind (f b))
     (front : (xs ys : List B) → GoodSec (fam (xs ++ ys)) → GoodSec (fam xs))
     (obey : (xs : List B) (b : B) → GoodSec (fam (xs ++ (b ∷ []))) → obeys (markSec (fam xs)) (f b) ≡ true)
-    (grow : (xs : List B) (b : B) (g : GoodSec (fam xs)) (k : kindSec (fam xs) ≡ kindOf (f b)) (o : obeys (markSec (fam xs)) (f b) ≡ true)
+    (grow : (xs : List B) (b : B) (g : GoodSec (fam xs)) (k : kindSec (fam xs) ≡ itemKind (f b)) (o : obeys (markSec (fam xs)) (f b) ≡ true)
     → bigger (f b) (fam xs) (beg b) g k o .sec ≡ fam (xs ++ (b ∷ [])))
     (mono : (xs ys : List B) → length (bodySec (fam xs)) ≤ length (bodySec (fam (xs ++ ys)))) where
   records : (bs xs : List B) (st : State) (ss : List Sec) → Holds st (ss ++ (fam xs ∷ [])) → GoodSec (fam (xs ++ bs)) → Roomy st (ss ++ (fam (xs ++ bs) ∷ []))
-      → Keeps st (run (map f bs) st) (ss ++ (fam (xs ++ bs) ∷ []))
-  unfolding run
+      → Keeps st (runCalls (map f bs) st) (ss ++ (fam (xs ++ bs) ∷ []))
+  unfolding runCalls
   records [] xs st ss H g r = record { holds = rw (append-nil xs) H; len = refl }
   records (b ∷ bs) xs st ss H g r =
       let e : xs ++ (b ∷ bs) ≡ (xs ++ (b ∷ [])) ++ bs = sym (append-assoc xs (b ∷ []) bs) in
@@ -141,7 +141,7 @@ module _ {B : Type 0} (fam : List B → Sec) (f : B → Item) (beg : (b : B) →
       let r₁ : Roomy st (ss ++ (fam (xs ++ (b ∷ [])) ∷ [])) = omega (arith, join-length ss (fam (xs ++ (b ∷ []))), mono (xs ++ (b ∷ [])) bs) in
       let K = more-sec st ss (fam xs) H (f b) (beg b) g₀ (kind xs b) o (fam (xs ++ (b ∷ []))) (grow xs b g₀ (kind xs b) o) r₁ in
       let L = records bs (xs ++ (b ∷ [])) (called (f b) st) ss (K .holds) g₂ (rw (K .len) r₂) in
-      rw e (keeps-on st (called (f b) st) (run (map f bs) (called (f b) st)) (ss ++ (fam (xs ++ (b ∷ [])) ∷ [])) (ss ++ (fam ((xs ++ (b ∷ [])) ++ bs) ∷ [])) K L)
+      rw e (keeps-on st (called (f b) st) (runCalls (map f bs) (called (f b) st)) (ss ++ (fam (xs ++ (b ∷ [])) ∷ [])) (ss ++ (fam ((xs ++ (b ∷ [])) ++ bs) ∷ [])) K L)
 
 -- ---- the kinds
 
@@ -181,8 +181,8 @@ extra-obeys true e g = refl
 extra-obeys false e g = eq-eqb (length (e .extra)) 0 (ap length g)
 
 -- one subsection, whatever it is
-sec-run : (s : Sec) → GoodSec s → (st : State) (ss : List Sec) → Holds st ss → Roomy st (ss ++ (s ∷ [])) → Keeps st (run (callsSec s) st) (ss ++ (s ∷ []))
-unfolding run bytesAll fresh bigger bigger-block bigger-checksum bigger-inlinee bigger-module bigger-pair
+sec-run : (s : Sec) → GoodSec s → (st : State) (ss : List Sec) → Holds st ss → Roomy st (ss ++ (s ∷ [])) → Keeps st (runCalls (callsSec s) st) (ss ++ (s ∷ []))
+unfolding runCalls bytesAll fresh bigger bigger-block bigger-checksum bigger-inlinee bigger-module bigger-pair
 sec-run (linesOf h bs) g st ss H r =
     let K = new-sec st ss H (openLines h) refl (λ m. refl) (linesOf h []) (λ m. refl)
     (omega (arith, join-length ss (linesOf h bs), join-length ss (linesOf h []), length-append (lineHeadBytes h) [], length-append (lineHeadBytes h) (bytesAll blockBytes bs))) in
@@ -190,12 +190,12 @@ sec-run (linesOf h bs) g st ss H r =
     (λ xs b q. block-obeys (h .flags) b (each-last (Filled (columned (h .flags))) xs b q)) (λ xs b q k o. refl)
     (λ xs ys. omega (arith, length-append (lineHeadBytes h) (bytesAll blockBytes xs), length-append (lineHeadBytes h) (bytesAll blockBytes (xs ++ ys)), all-append blockBytes xs ys))
     bs [] (called (openLines h) st) ss (K .holds) g (rw (K .len) r) in
-    keeps-on st (called (openLines h) st) (run (map block bs) (called (openLines h) st)) (ss ++ (linesOf h [] ∷ [])) (ss ++ (linesOf h bs ∷ [])) K L
+    keeps-on st (called (openLines h) st) (runCalls (map block bs) (called (openLines h) st)) (ss ++ (linesOf h [] ∷ [])) (ss ++ (linesOf h bs ∷ [])) K L
 sec-run (checksumsOf cs) g st ss H r =
     let K = new-sec st ss H openChecksums refl (λ m. refl) (checksumsOf []) (λ m. refl) (omega (arith, join-length ss (checksumsOf cs), join-length ss (checksumsOf []))) in
     let L = records checksumsOf checksum (λ b. refl) (λ xs b. refl) (each-front Sized) (λ xs b q. checksum-obeys b (each-last Sized xs b q)) (λ xs b q k o. refl)
     (all-append checksumBytes) cs [] (called openChecksums st) ss (K .holds) g (rw (K .len) r) in
-    keeps-on st (called openChecksums st) (run (map checksum cs) (called openChecksums st)) (ss ++ (checksumsOf [] ∷ [])) (ss ++ (checksumsOf cs ∷ [])) K L
+    keeps-on st (called openChecksums st) (runCalls (map checksum cs) (called openChecksums st)) (ss ++ (checksumsOf [] ∷ [])) (ss ++ (checksumsOf cs ∷ [])) K L
 sec-run (inlineesOf n es) g st ss H r =
     let K = new-sec st ss H (openInlinees n) refl (λ m. le-leb n 1 (g .0)) (inlineesOf n []) (λ m. refl)
     (omega (arith, join-length ss (inlineesOf n es), join-length ss (inlineesOf n []), length-append (le32 n) [], length-append (le32 n) (bytesAll (inlineeBytes (extended n)) es))) in
@@ -203,24 +203,24 @@ sec-run (inlineesOf n es) g st ss H r =
     (λ xs b q. extra-obeys (extended n) b (each-last (Fits (extended n)) xs b (q .1))) (λ xs b q k o. refl)
     (λ xs ys. omega (arith, length-append (le32 n) (bytesAll (inlineeBytes (extended n)) xs), length-append (le32 n) (bytesAll (inlineeBytes (extended n)) (xs ++ ys)), all-append (inlineeBytes (extended n)) xs ys))
     es [] (called (openInlinees n) st) ss (K .holds) g (rw (K .len) r) in
-    keeps-on st (called (openInlinees n) st) (run (map inlinee es) (called (openInlinees n) st)) (ss ++ (inlineesOf n [] ∷ [])) (ss ++ (inlineesOf n es ∷ [])) K L
+    keeps-on st (called (openInlinees n) st) (runCalls (map inlinee es) (called (openInlinees n) st)) (ss ++ (inlineesOf n [] ∷ [])) (ss ++ (inlineesOf n es ∷ [])) K L
 sec-run (importsOf ms) g st ss H r =
     let K = new-sec st ss H openImports refl (λ m. refl) (importsOf []) (λ m. refl) (omega (arith, join-length ss (importsOf ms), join-length ss (importsOf []))) in
     let L = records importsOf imports (λ b. refl) (λ xs b. refl) (each-front (λ x. Unit {0})) (λ xs b q. refl) (λ xs b q k o. refl)
     (all-append moduleBytes) ms [] (called openImports st) ss (K .holds) g (rw (K .len) r) in
-    keeps-on st (called openImports st) (run (map imports ms) (called openImports st)) (ss ++ (importsOf [] ∷ [])) (ss ++ (importsOf ms ∷ [])) K L
+    keeps-on st (called openImports st) (runCalls (map imports ms) (called openImports st)) (ss ++ (importsOf [] ∷ [])) (ss ++ (importsOf ms ∷ [])) K L
 sec-run (exportsOf ps) g st ss H r =
     let K = new-sec st ss H openExports refl (λ m. refl) (exportsOf []) (λ m. refl) (omega (arith, join-length ss (exportsOf ps), join-length ss (exportsOf []))) in
     let L = records exportsOf exports (λ b. refl) (λ xs b. refl) (ascend-front 0) (λ xs b q. le-leb (floorAfter 0 xs) (b .local) (ascend-last 0 xs b q)) (λ xs b q k o. refl)
     (all-append pairBytes) ps [] (called openExports st) ss (K .holds) g (rw (K .len) r) in
-    keeps-on st (called openExports st) (run (map exports ps) (called openExports st)) (ss ++ (exportsOf [] ∷ [])) (ss ++ (exportsOf ps ∷ [])) K L
+    keeps-on st (called openExports st) (runCalls (map exports ps) (called openExports st)) (ss ++ (exportsOf [] ∷ [])) (ss ++ (exportsOf ps ∷ [])) K L
 sec-run (opaqueOf k b) g st ss H r =
     new-sec st ss H (opaque k b) refl (λ m. (rw (g .0, eq-eqb (length b % 4) 0 (g .1)))) (opaqueOf k b) (λ m. refl) r
 
 -- ---- all of them
 
-run-append : (xs ys : List Item) (st : State) → run (xs ++ ys) st ≡ run ys (run xs st)
-unfolding run
+run-append : (xs ys : List Item) (st : State) → runCalls (xs ++ ys) st ≡ runCalls ys (runCalls xs st)
+unfolding runCalls
 run-append [] ys st = refl
 run-append (x ∷ xs) ys st = run-append xs ys (called x st)
 
@@ -228,8 +228,8 @@ raws-append : (ss ts : List Sec) → rawsOf (ss ++ ts) ≡ rawsOf ss ++ rawsOf t
 raws-append [] ts = refl
 raws-append (s ∷ ss) ts = ap (λ l. rawSec s ∷ l) (raws-append ss ts)
 
-secs-run : (ts : List Sec) → Each GoodSec ts → (st : State) (ss : List Sec) → Holds st ss → Roomy st (ss ++ ts) → Keeps st (run (callsOf ts) st) (ss ++ ts)
-unfolding run
+secs-run : (ts : List Sec) → Each GoodSec ts → (st : State) (ss : List Sec) → Holds st ss → Roomy st (ss ++ ts) → Keeps st (runCalls (callsOf ts) st) (ss ++ ts)
+unfolding runCalls
 secs-run [] g st ss H r = record { holds = rw (append-nil ss) H; len = refl }
 secs-run (t ∷ ts) g st ss H r =
     let e : ss ++ (t ∷ ts) ≡ (ss ++ (t ∷ [])) ++ ts = sym (append-assoc ss (t ∷ []) ts) in
@@ -237,14 +237,14 @@ secs-run (t ∷ ts) g st ss H r =
     let j : length (join (rawsOf ((ss ++ (t ∷ [])) ++ ts))) ≡ length (join (rawsOf (ss ++ (t ∷ [])))) + length (join (rawsOf ts)) =
     ap length (ap join (raws-append (ss ++ (t ∷ [])) ts) ∙ join-append (rawsOf (ss ++ (t ∷ []))) (rawsOf ts)) ∙ length-append (join (rawsOf (ss ++ (t ∷ [])))) (join (rawsOf ts)) in
     let K = sec-run t (g .0) st ss H (omega arith) in
-    let L = secs-run ts (g .1) (run (callsSec t) st) (ss ++ (t ∷ [])) (K .holds) (rw (K .len) r₂) in
-    rw (run-append (callsSec t) (callsOf ts) st, e) (keeps-on st (run (callsSec t) st) (run (callsOf ts) (run (callsSec t) st)) (ss ++ (t ∷ [])) ((ss ++ (t ∷ [])) ++ ts) K L)
+    let L = secs-run ts (g .1) (runCalls (callsSec t) st) (ss ++ (t ∷ [])) (K .holds) (rw (K .len) r₂) in
+    rw (run-append (callsSec t) (callsOf ts) st, e) (keeps-on st (runCalls (callsSec t) st) (runCalls (callsOf ts) (runCalls (callsSec t) st)) (ss ++ (t ∷ [])) ((ss ++ (t ∷ [])) ++ ts) K L)
 
--- what a run makes of the reading of s
+-- what a runCalls makes of the reading of s
 pub record Again (s : List ℕ) (b : List ℕ) (its : List Item) : Type 0 where
-  pub read : reading ruled s ≡ before its ends
+  pub read : reading crateRule s ≡ before its ends
   pub all : accepted its b ≡ its
-  pub at : run its (empty b) .at ≡ length s
+  pub at : runCalls its (empty b) .at ≡ length s
   pub bytes : written its b ≡ s
 
 pub made-again : (s b : List ℕ) (l : Last) → Bytes s → plainOf s ≡ some l → length s ≤ longest → length s ≤ length b → (its : List Item) × Again s b its
@@ -256,9 +256,9 @@ made-again s b l h q n r =
     let H = K .holds in (
       callsOf ss,
       record {
-        read = ap (reading ruled) (sym j) ∙ reads-join ss (S .2) (rw j n);
+        read = ap (reading crateRule) (sym j) ∙ reads-join ss (S .2) (rw j n);
         all = H .done;
-        at = at-is (run (callsOf ss) (empty b)) ss H ∙ ap length j;
+        at = at-is (runCalls (callsOf ss) (empty b)) ss H ∙ ap length j;
         bytes = H .is ∙ j;
       },
     )

@@ -29,7 +29,7 @@ use Rattle.body.specs.ChecksumsLaws.{padding, Facts, checksum-sound, checksum-f
 use Rattle.body.specs.InlineesLaws.{Fits, inlinee-sound, inlinee-front}
 use Rattle.body.specs.ImportsLaws.{Any, module-sound, module-front}
 use Rattle.body.specs.ExportsLaws.{Any as AnyPair, pair-sound, pair-front}
-use Rattle.plain.specs.Plain.{strict, filled, plainBlock, sizeOf, tidy, plainChecksum, endsWhole, wholly, ascends, marked, linesMark, inlineesMark, isOpaque, markOf, Last, nothing-yet, onMark, plainFrom, plainOf}
+use Rattle.plain.specs.Plain.{strict, blockFilled, plainBlock, sizeOf, tidy, plainChecksum, endsWhole, wholly, ascendsFrom, marked, linesMark, inlineesMark, isOpaque, markOf, Last, nothing-yet, onMark, plainFrom, plainOf}
 use Rattle.plain.specs.RecordLaws.{padding-two}
 use Rattle.plain.specs.PlainLaws.{plain-block-sound, plain-checksum-sound}
 use Rattle.plain.specs.LastLaws.{not-long}
@@ -62,7 +62,7 @@ fronts-map enc P Q s (fail r) f w = tt
 
 block-back : (c : Bool) (s : List ℕ) → Bytes s → Fronts blockBytes (Filled c) s (plainBlock c s)
 block-back c s h =
-    fronts-strict blockBytes (Filled c) s (filled c s) (blockBite c s) (block-sound c s)
+    fronts-strict blockBytes (Filled c) s (blockFilled c s) (blockBite c s) (block-sound c s)
     (λ e. block-front c s h (eqb-true (u32At s 8) (12 + lineBytes c (u32At s 4)) e))
 
 two-zeros : zeros 2 ≡ le16 0
@@ -99,11 +99,11 @@ whole-list : {B : Type 0} (step : List ℕ → Move (List ℕ) B Told) (s : List
 unfolding wholly
 whole-list step s e = ends-list (all step length s) e
 
-pub ascends-list : (l : Listing Pair Told) (f m : ℕ) → ascends f l ≡ some m → (ps : List Pair) × (l ≡ before ps ends) × Ascend f ps
-unfolding ascends
+pub ascends-list : (l : Listing Pair Told) (f m : ℕ) → ascendsFrom f l ≡ some m → (ps : List Pair) × (l ≡ before ps ends) × Ascend f ps
+unfolding ascendsFrom
 ascends-list (more p l) f m q = go (leb f (p .local)) refl q (ascends-list l (p .local + 1) m)
   where
-    go : (t : Bool) → leb f (p .local) ≡ t → cond t (ascends (p .local + 1) l) none ≡ some m → (ascends (p .local + 1) l ≡ some m → (ps : List Pair) × (l ≡ before ps ends) × Ascend (p .local + 1) ps)
+    go : (t : Bool) → leb f (p .local) ≡ t → cond t (ascendsFrom (p .local + 1) l) none ≡ some m → (ascendsFrom (p .local + 1) l ≡ some m → (ps : List Pair) × (l ≡ before ps ends) × Ascend (p .local + 1) ps)
         → (ps : List Pair) × (more p l ≡ before ps ends) × Ascend f ps
     go true e q ih = let r = ih q in (p ∷ r .0, ap (more p) (r .1), (leb-true f (p .local) e, r .2))
     go false e q ih = no-some q
@@ -176,7 +176,7 @@ pairs-list b ps = go (eqb (length b % 8) 0) ps
     go false [] e = let z : _≡_ {A = ℕ} 0 1 = cc in absurd (omega arith)
     go false (x ∷ xs) e = let z : _≡_ {A = ℕ} 0 1 = cc in absurd (omega arith)
 
-pairs-back : (b : List ℕ) (m : ℕ) → Bytes b → ascends 0 (pairs b) ≡ some m → Back 0xf8 b
+pairs-back : (b : List ℕ) (m : ℕ) → Bytes b → ascendsFrom 0 (pairs b) ≡ some m → Back 0xf8 b
 pairs-back b m h q =
     let L = ascends-list (pairs b) 0 m q in
     let M = run-back pairBite pairBytes AnyPair pair-sound pair-front b h (L .0) (pairs-list b (L .0) (L .1)) in
@@ -191,7 +191,7 @@ mark-back k b m h = go (eqb k 0xf2) refl (eqb k 0xf4) refl (eqb k 0xf6) refl (eq
   where
     go : (t₂ : Bool) → eqb k 0xf2 ≡ t₂ → (t₄ : Bool) → eqb k 0xf4 ≡ t₄ → (t₆ : Bool) → eqb k 0xf6 ≡ t₆ → (t₇ : Bool) → eqb k 0xf7 ≡ t₇ → (t₈ : Bool) → eqb k 0xf8 ≡ t₈
         → cond t₂ (linesMark b) (cond t₄ (marked (wholly plainChecksum b) 0) (cond t₆ (inlineesMark b) (cond t₇ (marked (wholly moduleBite b) 0)
-        (cond t₈ (ascends 0 (pairs b)) (marked (isOpaque k && eqb (length b % 4) 0) 0))))) ≡ some m → Back k b
+        (cond t₈ (ascendsFrom 0 (pairs b)) (marked (isOpaque k && eqb (length b % 4) 0) 0))))) ≡ some m → Back k b
     go true e₂ t₄ e₄ t₆ e₆ t₇ e₇ t₈ e₈ q = at-kind k 0xf2 b (eqb-true k 0xf2 e₂) (lines-back b m h q)
     go false e₂ true e₄ t₆ e₆ t₇ e₇ t₈ e₈ q = at-kind k 0xf4 b (eqb-true k 0xf4 e₄) (checksums-back b m h q)
     go false e₂ false e₄ true e₆ t₇ e₇ t₈ e₈ q = at-kind k 0xf6 b (eqb-true k 0xf6 e₆) (inlinees-back b m h q)

@@ -1,7 +1,7 @@
 -- DEMAND 3 on the writer. After any sequence of writer calls from an empty buffer, refused ones among them, the full reading of the bytes
 -- written is exactly the list of accepted calls, in order. Each plain area, given room, is what the writer makes from its full reading.
 --
--- To check what is said here a reader needs Run.antt of this crate (a run of calls), Calls.antt of `writer` (what a call answers and leaves: the
+-- To check what is said here a reader needs Run.antt of this crate (a runCalls of calls), Calls.antt of `writer` (what a call answers and leaves: the
 -- contracts of its functions cite it), Reading.antt of `reading` (the full reading) and Plain.antt of `plain` (which areas are plain), and no
 -- proof. The statements are the four definitions; the names below them prove them.
 use Prim.Native.Nat.{ℕ, _≤_}
@@ -17,34 +17,34 @@ use Rattle.word.specs.Word.{Bytes}
 use Rattle.walk.specs.Listing.{gave, refused, ends, before}
 use Rattle.refusal.specs.Told.{Told, longest}
 use Rattle.area.specs.Parts.{parts}
-use Rattle.area.specs.Kind.{ruled}
+use Rattle.area.specs.Kind.{crateRule}
 use Rattle.reading.specs.Reading.{Item, reading}
 use Rattle.plain.specs.Plain.{Last, nothing-yet, plainFrom, plainOf, Plain}
-use Rattle.writer_decides.specs.Calls.{answered, after}
-use Rattle.round_trip.specs.Run.{run, empty, written, accepted}
+use Rattle.writer_decides.specs.Calls.{answered, bufferAfter}
+use Rattle.round_trip.specs.Run.{runCalls, empty, written, accepted}
 use Rattle.round_trip.specs.RoundLaws.{round-trip, before-one}
 use Rattle.round_trip.specs.AgainLaws.{made-again}
 use Rattle.round_trip.specs.EachLaws.{refused-same, behind-same, never-long}
 
 -- any calls, over any buffer: what was written is read as the calls that were accepted, and refuses nothing
 abbrev pub RoundTrip : Type 0
-RoundTrip = (its : List Item) (b : List ℕ) → reading ruled (written its b) ≡ before (accepted its b) ends
+RoundTrip = (its : List Item) (b : List ℕ) → reading crateRule (written its b) ≡ before (accepted its b) ends
 
 -- so the bytes determine the history: no two lists of accepted calls leave the same bytes
 abbrev pub OneHistory : Type 0
 OneHistory = (its its′ : List Item) (b b′ : List ℕ) → written its b ≡ written its′ b′ → accepted its b ≡ accepted its′ b′
 
--- a plain area s, and a buffer with room for it: its full reading is a list of calls, and their run accepts each, ends behind s, and wrote s
+-- a plain area s, and a buffer with room for it: its full reading is a list of calls, and their runCalls accepts each, ends behind s, and wrote s
 abbrev pub MadeAgain : Type 0
 MadeAgain =
     (s b : List ℕ) → Bytes s → Plain s → length s ≤ length b
-    → (its : List Item) × (reading ruled s ≡ before its ends) × (accepted its b ≡ its) × (run its (empty b) .at ≡ length s) × (written its b ≡ s)
+    → (its : List Item) × (reading crateRule s ≡ before its ends) × (accepted its b ≡ its) × (runCalls its (empty b) .at ≡ length s) × (written its b ≡ s)
 
 -- each call alone: one that is refused changes nothing, one that is accepted changes nothing behind the place that it answers, and none gives 11
 abbrev pub Careful : Type 0
 Careful =
     (it : Item) (b : List ℕ) (w : ℕ)
-    → ((t : Told) → answered it b w ≡ refused t → after it b w ≡ b) × ((n : ℕ) → answered it b w ≡ gave n → drop n (after it b w) ≡ drop n b)
+    → ((t : Told) → answered it b w ≡ refused t → bufferAfter it b w ≡ b) × ((n : ℕ) → answered it b w ≡ gave n → drop n (bufferAfter it b w) ≡ drop n b)
     × ((t : Told) → answered it b w ≡ refused t → t .number ≡ 11 → ⊥)
 
 -- ---- they hold
@@ -53,7 +53,7 @@ pub round : RoundTrip
 round = round-trip
 
 pub one-history : OneHistory
-one-history its its′ b b′ e = before-one (accepted its b) (accepted its′ b′) (sym (round its b) ∙ ap (reading ruled) e ∙ round its′ b′)
+one-history its its′ b b′ e = before-one (accepted its b) (accepted its′ b′) (sym (round its b) ∙ ap (reading crateRule) e ∙ round its′ b′)
 
 plain-short : (s : List ℕ) (l : Last) → plainOf s ≡ some l → length s ≤ longest
 unfolding plainOf

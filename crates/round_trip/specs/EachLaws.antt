@@ -15,13 +15,13 @@ use Rattle.refusal.specs.Told.{Told, told}
 use Rattle.refusal.specs.declared.Refusal.the-variants as why
 use Rattle.reading.specs.Reading.{Item, opens}
 use Rattle.plain.specs.Plain.{Last}
-use Rattle.writer_decides.specs.Calls.{kindOf, bytesFor, obeys, Act, goes, stops, needs, act, patch, wrote, kept, answered, after, lastFor, room, ruled, onLast, limit}
+use Rattle.writer_decides.specs.Calls.{itemKind, bytesFor, obeys, Act, goes, stops, needs, act, patch, wrote, kept, answered, bufferAfter, lastFor, room, elseNotPlain, onLast, limit}
 use Rattle.writer_decides.specs.CallLaws.{needs-is, patch-is, act-is, kind-some, act-goes, grow-goes}
 
 never : {A : Type 0} {n : ℕ} {t : Told} → _≡_ {A = Reply ℕ Told} (gave n) (refused t) → A
 never e = let z : _≡_ {A = ℕ} 0 1 = cc in absurd (omega arith)
 
-pub refused-same : (it : Item) (b : List ℕ) (w : ℕ) (t : Told) → answered it b w ≡ refused t → after it b w ≡ b
+pub refused-same : (it : Item) (b : List ℕ) (w : ℕ) (t : Told) → answered it b w ≡ refused t → bufferAfter it b w ≡ b
 refused-same it b w t = go (act it b w)
   where
     go : (a : Act) → wrote a ≡ refused t → kept a (patch it b w) b ≡ b
@@ -43,14 +43,14 @@ module _ (it : Item) (b : List ℕ) (w h m n : ℕ) (q : act it b w ≡ goes h m
   behind-fresh e =
       let g = act-goes it b w h m n q in
       let B : List ℕ = bytesFor m it in
-      let bs : List ℕ = header (kindOf it) (length B) ++ B in
-      let lb : length bs ≡ 8 + length B = length-append (header (kindOf it) (length B)) B ∙ omega (arith, header-length (kindOf it) (length B)) in
+      let bs : List ℕ = header (itemKind it) (length B) ++ B in
+      let lb : length bs ≡ 8 + length B = length-append (header (itemKind it) (length B)) B ∙ omega (arith, header-length (itemKind it) (length B)) in
       let k : needs m it ≡ 8 + length B = needs-is it e m in
       ap (drop n) (patch-is it e b w h m) ∙ drop-put b bs w n (omega (arith, g .fits)) (omega (arith, g .next))
 
   behind-bigger : opens it ≡ false → drop n (patch it b w h m) ≡ drop n b
   behind-bigger e =
-      let g = grow-goes (kindOf it) (λ k. obeys k it) (λ k. needs k it) b w h m n (kind-some it e) (sym (act-is it e b w) ∙ q) in
+      let g = grow-goes (itemKind it) (λ k. obeys k it) (λ k. needs k it) b w h m n (kind-some it e) (sym (act-is it e b w) ∙ q) in
       let B : List ℕ = bytesFor m it in
       let k : needs m it ≡ length B = needs-is it e m in
       let v = w + length B - h - 8 in
@@ -59,7 +59,7 @@ module _ (it : Item) (b : List ℕ) (w h m n : ℕ) (q : act it b w ≡ goes h m
       ∙ drop-put (put b w B) (le32 v) (h + 4) n (omega (arith, g .head, g .fits)) (omega (arith, g .head, g .next, le32-length v))
       ∙ drop-put b B w n (omega (arith, g .fits)) (omega (arith, g .next))
 
-pub behind-same : (it : Item) (b : List ℕ) (w n : ℕ) → answered it b w ≡ gave n → drop n (after it b w) ≡ drop n b
+pub behind-same : (it : Item) (b : List ℕ) (w n : ℕ) → answered it b w ≡ gave n → drop n (bufferAfter it b w) ≡ drop n b
 behind-same it b w n = go (act it b w) refl
   where
     on : (t : Bool) → opens it ≡ t → (h m x : ℕ) → act it b w ≡ goes h m x → drop x (patch it b w h m) ≡ drop x b
@@ -82,10 +82,10 @@ never-long it b w t q e = on (lastFor it b w) q
     roomy true h m x q = never q
     roomy false h m x q = stop-not (told why.NoRoom) (λ z. omega arith) t e q
 
-    rule : (c : Bool) (l : Last) → wrote (ruled c (room (length b) w (l .header) (l .mark) (needs (l .mark) it))) ≡ refused t → ⊥
+    rule : (c : Bool) (l : Last) → wrote (elseNotPlain c (room (length b) w (l .header) (l .mark) (needs (l .mark) it))) ≡ refused t → ⊥
     rule true l q = roomy (leb (w + needs (l .mark) it) (limit (length b))) (l .header) (l .mark) (w + needs (l .mark) it) q
     rule false l q = stop-not (told why.NotPlain) (λ z. omega arith) t e q
 
-    on : (o : Option Last) → wrote (onLast o (stops (told why.WrongPlace)) (λ l. ruled (obeys (l .mark) it) (room (length b) w (l .header) (l .mark) (needs (l .mark) it)))) ≡ refused t → ⊥
+    on : (o : Option Last) → wrote (onLast o (stops (told why.WrongPlace)) (λ l. elseNotPlain (obeys (l .mark) it) (room (length b) w (l .header) (l .mark) (needs (l .mark) it)))) ≡ refused t → ⊥
     on none q = stop-not (told why.WrongPlace) (λ z. omega arith) t e q
     on (some l) q = rule (obeys (l .mark) it) l q

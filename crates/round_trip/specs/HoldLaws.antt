@@ -24,7 +24,7 @@ use Rattle.body.specs.LinesLaws.{Filled}
 use Rattle.body.specs.InlineesLaws.{Fits}
 use Rattle.reading.specs.Reading.{Item, openLines, block, openChecksums, checksum, openInlinees, inlinee, openImports, imports, openExports, exports, opaque, opens}
 use Rattle.plain.specs.Plain.{isOpaque, Last}
-use Rattle.writer_decides.specs.Calls.{kindOf, bytesFor, blockRule, obeys, grown}
+use Rattle.writer_decides.specs.Calls.{itemKind, bytesFor, blockRule, obeys, grown}
 use Rattle.writer_decides.specs.CallLaws.{fits-size, fits-block, fits-opaque}
 use Rattle.writer.specs.LentLaws.{put-at}
 use Rattle.round_trip.specs.Secs.{Sec, linesOf, checksumsOf, inlineesOf, importsOf, exportsOf, opaqueOf, kindSec, bodySec, rawSec, callsSec, Sized, Ascend, floorAfter, GoodSec, markSec, rawsOf, callsOf, lastOf}
@@ -195,7 +195,7 @@ bigger-pair (exportsOf ps) p g e o = record {
 }
 bigger-pair (opaqueOf k d) p g e o = not-opaque k 0xf8 e (opaque-none .4) (g .0)
 
-unfoldable pub bigger : (it : Item) (s : Sec) → opens it ≡ false → GoodSec s → kindSec s ≡ kindOf it → obeys (markSec s) it ≡ true → Bigger s it
+unfoldable pub bigger : (it : Item) (s : Sec) → opens it ≡ false → GoodSec s → kindSec s ≡ itemKind it → obeys (markSec s) it ≡ true → Bigger s it
 bigger (openLines h) s b g e o = never (sym b)
 bigger (block x) s b g e o = bigger-block s x g e o
 bigger openChecksums s b g e o = never (sym b)
@@ -211,7 +211,7 @@ bigger (opaque k d) s b g e o = never (sym b)
 -- a new one
 pub record Fresh (it : Item) (m : ℕ) : Type 0 where
   pub sec : Sec
-  pub kind : kindSec sec ≡ kindOf it
+  pub kind : kindSec sec ≡ itemKind it
   pub body : bodySec sec ≡ bytesFor m it
   pub calls : callsSec sec ≡ it ∷ []
   pub good : GoodSec sec

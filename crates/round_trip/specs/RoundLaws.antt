@@ -1,4 +1,4 @@
--- A run of calls holds subsections of good form, whose calls are those that were accepted. So the reading of what was written is these calls.
+-- A runCalls of calls holds subsections of good form, whose calls are those that were accepted. So the reading of what was written is these calls.
 use Prim.Native.Nat.{ℕ, _+_, _-_, _≤_}
 use mathlib.Core.Path.{_≡_, refl, sym, ap, _∙_}
 use mathlib.Core.Logic.{_⊎_, ⊎-elim}
@@ -12,16 +12,16 @@ use Rattle.word.specs.Word.{le32, put, header}
 use Rattle.word.specs.WordLaws.{header-length, le32-length, put-length}
 use Rattle.walk.specs.Listing.{Listing, ends, before}
 use Rattle.refusal.specs.Told.{Told}
-use Rattle.area.specs.Kind.{ruled}
+use Rattle.area.specs.Kind.{crateRule}
 use Rattle.area.specs.Join.{join}
 use Rattle.body.specs.RunLaws.{Each, each-snoc}
 use Rattle.reading.specs.Reading.{Item, reading, opens}
 use Rattle.plain.specs.Plain.{Last, nothing-yet, plainOf}
-use Rattle.writer_decides.specs.Calls.{kindOf, bytesFor, obeys, Act, goes, stops, limit, place, needs, act, grown, patch, wrote, kept}
+use Rattle.writer_decides.specs.Calls.{itemKind, bytesFor, obeys, Act, goes, stops, limit, place, needs, act, grown, patch, wrote, kept}
 use Rattle.writer_decides.specs.CallLaws.{place-in, needs-is, patch-is, act-is, kind-some, act-goes, Grows, grow-goes}
 use Rattle.round_trip.specs.Secs.{Sec, kindSec, bodySec, callsSec, GoodSec, markSec, rawsOf, callsOf, lastOf}
 use Rattle.round_trip.specs.SecLaws.{plain-join, reads-join}
-use Rattle.round_trip.specs.Run.{State, placeAfter, doneAfter, called, run, empty, written, accepted}
+use Rattle.round_trip.specs.Run.{State, placeAfter, doneAfter, called, runCalls, empty, written, accepted}
 use Rattle.round_trip.specs.HoldLaws.{calls-snoc, join-length, last-snoc, Snoc, snoc-view, each-init, bigger, fresh, after-fresh, after-bigger}
 
 -- what is known of a state: its buffer holds ss up to its place
@@ -61,11 +61,11 @@ holds-fresh st ss H it h m n b o en l =
     let F = fresh it m b o in
     let s = F .sec in
     let B : List ℕ = bytesFor m it in
-    let bs : List ℕ = header (kindOf it) (length B) ++ B in
+    let bs : List ℕ = header (itemKind it) (length B) ++ B in
     let e : patch it (st .buf) (st .at) h m ≡ put (st .buf) (st .at) bs = patch-is it b (st .buf) (st .at) h m in
     let eb : put (st .buf) (st .at) bs ≡ put (st .buf) (st .at) (header (kindSec s) (length (bodySec s)) ++ bodySec s) =
-    ap (λ (x : List ℕ). put (st .buf) (st .at) (header (kindOf it) (length x) ++ x)) (sym (F .body)) ∙ ap (λ (k : ℕ). put (st .buf) (st .at) (header k (length (bodySec s)) ++ bodySec s)) (sym (F .kind)) in
-    let lb : length bs ≡ 8 + length B = length-append (header (kindOf it) (length B)) B ∙ omega (arith, header-length (kindOf it) (length B)) in
+    ap (λ (x : List ℕ). put (st .buf) (st .at) (header (itemKind it) (length x) ++ x)) (sym (F .body)) ∙ ap (λ (k : ℕ). put (st .buf) (st .at) (header k (length (bodySec s)) ++ bodySec s)) (sym (F .kind)) in
+    let lb : length bs ≡ 8 + length B = length-append (header (itemKind it) (length B)) B ∙ omega (arith, header-length (itemKind it) (length B)) in
     let ls : length (bodySec s) ≡ length B = ap length (F .body) in
     let nn = needs-is it b m in
     let nx : n ≡ st .at + (8 + length (bodySec s)) = omega arith in
@@ -80,7 +80,7 @@ holds-fresh st ss H it h m n b o en l =
 
 -- ---- a record more
 
-pub holds-bigger : (st : State) (ss : List Sec) (s : Sec) → Holds st (ss ++ (s ∷ [])) → (it : Item) (h m n : ℕ) (b : opens it ≡ false) (g : GoodSec s) (k : kindSec s ≡ kindOf it)
+pub holds-bigger : (st : State) (ss : List Sec) (s : Sec) → Holds st (ss ++ (s ∷ [])) → (it : Item) (h m n : ℕ) (b : opens it ≡ false) (g : GoodSec s) (k : kindSec s ≡ itemKind it)
     (o : obeys (markSec s) it ≡ true) → h ≡ length (join (rawsOf ss)) → m ≡ markSec s → n ≡ st .at + needs m it → st .at + needs m it ≤ limit (length (st .buf))
     → Holds (gone it st h m n) (ss ++ (bigger it s b g k o .sec ∷ []))
 holds-bigger st ss s H it h m n b g k o eh em en l =
@@ -121,13 +121,13 @@ module _ (st : State) (ss : List Sec) (H : Holds st ss) (it : Item) (h m n : ℕ
   goes-bigger : opens it ≡ false → Held (gone it st h m n)
   goes-bigger b = ⊎-elim at-none at-last (snoc-view ss)
     where
-      G : Grows (kindOf it) (λ k. obeys k it) (λ k. needs k it) (st .buf) (st .at) h m n
-      G = grow-goes (kindOf it) (λ k. obeys k it) (λ k. needs k it) (st .buf) (st .at) h m n (kind-some it b) (sym (act-is it b (st .buf) (st .at)) ∙ q)
+      G : Grows (itemKind it) (λ k. obeys k it) (λ k. needs k it) (st .buf) (st .at) h m n
+      G = grow-goes (itemKind it) (λ k. obeys k it) (λ k. needs k it) (st .buf) (st .at) h m n (kind-some it b) (sym (act-is it b (st .buf) (st .at)) ∙ q)
 
-      same : some (lastOf 0 nothing-yet ss) ≡ some (record { header = h; kind = kindOf it; mark = m })
+      same : some (lastOf 0 nothing-yet ss) ≡ some (record { header = h; kind = itemKind it; mark = m })
       same = sym (plain-here st ss H) ∙ G .plain
 
-      here : lastOf 0 nothing-yet ss ≡ record { header = h; kind = kindOf it; mark = m }
+      here : lastOf 0 nothing-yet ss ≡ record { header = h; kind = itemKind it; mark = m }
       here = let s = same in cc
 
       at-none : ss ≡ [] → Held (gone it st h m n)
@@ -137,7 +137,7 @@ module _ (st : State) (ss : List Sec) (H : Holds st ss) (it : Item) (h m n : ℕ
       at-last v =
           let t = sym (last-snoc (v .init) (v .last) 0 nothing-yet) ∙ ap (lastOf 0 nothing-yet) (sym (v .is)) ∙ here in
           let eh : length (join (rawsOf (v .init))) ≡ h = let x : 0 + length (join (rawsOf (v .init))) ≡ h = ap (λ (l : Last). l .header) t in omega arith in
-          let ek : kindSec (v .last) ≡ kindOf it = ap (λ (l : Last). l .kind) t in
+          let ek : kindSec (v .last) ≡ itemKind it = ap (λ (l : Last). l .kind) t in
           let em : markSec (v .last) ≡ m = ap (λ (l : Last). l .mark) t in
           let H′ : Holds st (v .init ++ (v .last ∷ [])) = rw (v .is) at H in
           let gl = each-init GoodSec (v .init) (v .last) (H′ .good) in
@@ -160,8 +160,8 @@ call-held it st (ss, H) = go (act it (st .buf) (st .at)) refl
     go (goes h m n) q = rw (called-goes it st h m n q) (goes-held st ss H it h m n q)
     go (stops t) q = rw (called-stops it st t q) (ss, H)
 
-run-held : (its : List Item) (st : State) → Held st → Held (run its st)
-unfolding run
+run-held : (its : List Item) (st : State) → Held st → Held (runCalls its st)
+unfolding runCalls
 run-held [] st H = H
 run-held (it ∷ its) st H = run-held its (called it st) (call-held it st H)
 
@@ -169,12 +169,12 @@ pub empty-holds : (b : List ℕ) → Holds (empty b) []
 unfolding join
 empty-holds b = record { good = tt; low = omega arith; is = refl; done = refl }
 
-pub holds-reads : (st : State) (ss : List Sec) → Holds st ss → reading ruled (take (st .at) (st .buf)) ≡ before (st .done) ends
+pub holds-reads : (st : State) (ss : List Sec) → Holds st ss → reading crateRule (take (st .at) (st .buf)) ≡ before (st .done) ends
 holds-reads st ss H =
-    ap (reading ruled) (H .is) ∙ reads-join ss (H .good) (omega (arith, H .low, at-is st ss H)) ∙ ap (λ (x : List Item). before x ends) (sym (H .done))
+    ap (reading crateRule) (H .is) ∙ reads-join ss (H .good) (omega (arith, H .low, at-is st ss H)) ∙ ap (λ (x : List Item). before x ends) (sym (H .done))
 
-pub round-trip : (its : List Item) (b : List ℕ) → reading ruled (written its b) ≡ before (accepted its b) ends
-round-trip its b = let R = run-held its (empty b) ([], empty-holds b) in holds-reads (run its (empty b)) (R .0) (R .1)
+pub round-trip : (its : List Item) (b : List ℕ) → reading crateRule (written its b) ≡ before (accepted its b) ends
+round-trip its b = let R = run-held its (empty b) ([], empty-holds b) in holds-reads (runCalls its (empty b)) (R .0) (R .1)
 
 pub before-one : (xs ys : List Item) → _≡_ {A = Listing Item Told} (before xs ends) (before ys ends) → xs ≡ ys
 before-one [] [] e = refl

@@ -13,7 +13,7 @@ use Rattle.word.specs.Word.{u16At, u32At, le16, le32}
 use Rattle.word.specs.WordLaws.{le32-length, u32-first}
 use Rattle.walk.specs.Listing.{Move, item, over, Listing, more, ends, before, andThen, all}
 use Rattle.refusal.specs.Told.{Told, longest}
-use Rattle.area.specs.Kind.{known, ruled}
+use Rattle.area.specs.Kind.{known, crateRule}
 use Rattle.area.specs.Join.{join}
 use Rattle.area.specs.JoinLaws.{parts-whole}
 use Rattle.body.specs.Lines.{LineHead, lineHead, columned, lineBytes, Block, blockBite, blocks, lineHeadBytes, blockBytes}
@@ -29,7 +29,7 @@ use Rattle.body.specs.InlineesLaws.{Fits, inlinee-sound, inlinee-ended, inlinee
 use Rattle.body.specs.ImportsLaws.{Any, module-sound, module-ended, module-forth}
 use Rattle.body.specs.ExportsLaws.{pairs-length, pairs-forth}
 use Rattle.reading.specs.Reading.{Item, openLines, block, openChecksums, checksum, openInlinees, inlinee, openImports, imports, openExports, exports, each, linesItems, checksumsItems, inlineesItems, importsItems, exportsItems, itemsOf, itemsIn, reading}
-use Rattle.plain.specs.Plain.{strict, filled, plainBlock, sizeOf, tidy, plainChecksum, endsWhole, wholly, ascends, marked, linesMark, inlineesMark, isOpaque, markOf, Last, nothing-yet, plainFrom, plainOf}
+use Rattle.plain.specs.Plain.{strict, blockFilled, plainBlock, sizeOf, tidy, plainChecksum, endsWhole, wholly, ascendsFrom, marked, linesMark, inlineesMark, isOpaque, markOf, Last, nothing-yet, plainFrom, plainOf}
 use Rattle.plain.specs.RecordLaws.{padding-two}
 use Rattle.plain.specs.PlainLaws.{plain-block-sound, plain-block-ended, plain-checksum-sound, plain-checksum-ended}
 use Rattle.round_trip.specs.Secs.{Sec, linesOf, checksumsOf, inlineesOf, importsOf, exportsOf, opaqueOf, kindSec, bodySec, rawSec, callsSec, Sized, Ascend, floorAfter, GoodSec, markSec, rawsOf, callsOf, lastOf}
@@ -68,7 +68,7 @@ plain-block-forth c b t g =
     let w = block-words b t in
     let n = length (b .lines) / 2 in
     let e : lineBytes c (u32At (blockBytes b ++ t) 4) ≡ lineBytes c n = ap (lineBytes c) (w .0) in
-    strict-forth (filled c (blockBytes b ++ t)) (blockBite c (blockBytes b ++ t)) b t
+    strict-forth (blockFilled c (blockBytes b ++ t)) (blockBite c (blockBytes b ++ t)) b t
     (eq-eqb (u32At (blockBytes b ++ t) 8) (12 + lineBytes c (u32At (blockBytes b ++ t) 4)) (omega (arith, w .1, g .pairs, g .columns)))
     (block-forth c b t g)
 
@@ -101,8 +101,8 @@ plain-checksum-forth c t g =
     (rw (eq-eqb (getD s 4 0) (sizeOf (getD s 5 0)) (e₄ ∙ g .size ∙ ap sizeOf (sym e₅)), eq-eqb (u16At s (6 + getD s 4 0)) 0 z))
     (checksum-forth c t (g .low))
 
-ascends-forth : (f : ℕ) (ps : List Pair) → Ascend f ps → ascends f (before ps ends) ≡ some (floorAfter f ps)
-unfolding ascends
+ascends-forth : (f : ℕ) (ps : List Pair) → Ascend f ps → ascendsFrom f (before ps ends) ≡ some (floorAfter f ps)
+unfolding ascendsFrom
 ascends-forth f [] g = refl
 ascends-forth f (p ∷ ps) g = rw (le-leb f (p .local) (g .0)) (ascends-forth (p .local + 1) ps (g .1))
 
@@ -152,7 +152,7 @@ good-mark (linesOf h bs) g = lines-marked h bs g
 good-mark (checksumsOf cs) g = ap (λ (t : Bool). marked t 0) (whole-forth plainChecksum checksumBytes Sized plain-checksum-sound plain-checksum-ended plain-checksum-forth cs g)
 good-mark (inlineesOf n es) g = inlinees-marked n es (g .0) (g .1)
 good-mark (importsOf ms) g = ap (λ (t : Bool). marked t 0) (whole-forth moduleBite moduleBytes Any module-sound module-ended module-forth ms g)
-good-mark (exportsOf ps) g = ap (ascends 0) (pairs-forth ps) ∙ ascends-forth 0 ps g
+good-mark (exportsOf ps) g = ap (ascendsFrom 0) (pairs-forth ps) ∙ ascends-forth 0 ps g
 good-mark (opaqueOf k b) g =
     let n = opaque-kinds k (g .0) in
     rw (ne-eqb k 0xf2 (n .0), ne-eqb k 0xf4 (n .1), ne-eqb k 0xf6 (n .2), ne-eqb k 0xf7 (n .3), ne-eqb k 0xf8 (n .4), g .0, eq-eqb (length b % 4) 0 (g .1))
@@ -202,15 +202,15 @@ good-reads (opaqueOf k b) g =
     let n = opaque-kinds k (g .0) in
     rw (ne-eqb k 0xf2 (n .0), ne-eqb k 0xf4 (n .1), ne-eqb k 0xf6 (n .2), ne-eqb k 0xf7 (n .3), ne-eqb k 0xf8 (n .4))
 
-opaque-known : (k : ℕ) → isOpaque k ≡ true → ruled k ≡ known
-unfolding isOpaque ruled
+opaque-known : (k : ℕ) → isOpaque k ≡ true → crateRule k ≡ known
+unfolding isOpaque crateRule
 opaque-known k = go (eqb k 0xf1) refl (eqb k 0xf3) refl (eqb k 0xf5) refl (leb 0xf9 k) refl (leb k 0xfd) refl
   where
-    inside : 0xf1 ≤ k → k ≤ 0xfd → ruled k ≡ known
+    inside : 0xf1 ≤ k → k ≤ 0xfd → crateRule k ≡ known
     inside a b = rw (le-leb 0xf1 k a, le-leb k 0xfd b)
 
     go : (a : Bool) → eqb k 0xf1 ≡ a → (b : Bool) → eqb k 0xf3 ≡ b → (c : Bool) → eqb k 0xf5 ≡ c → (d : Bool) → leb 0xf9 k ≡ d → (e : Bool) → leb k 0xfd ≡ e
-        → cond a true (cond b true (cond c true (d && e))) ≡ true → ruled k ≡ known
+        → cond a true (cond b true (cond c true (d && e))) ≡ true → crateRule k ≡ known
     go true ea b eb c ec d ed e ee q = let z = eqb-true k 0xf1 ea in inside (omega arith) (omega arith)
     go false ea true eb c ec d ed e ee q = let z = eqb-true k 0xf3 eb in inside (omega arith) (omega arith)
     go false ea false eb true ec d ed e ee q = let z = eqb-true k 0xf5 ec in inside (omega arith) (omega arith)
@@ -218,8 +218,8 @@ opaque-known k = go (eqb k 0xf1) refl (eqb k 0xf3) refl (eqb k 0xf5) refl (leb 0
     go false ea false eb false ec true ed false ee q = let z : _≡_ {A = ℕ} 0 1 = cc in absurd (omega arith)
     go false ea false eb false ec false ed e ee q = let z : _≡_ {A = ℕ} 0 1 = cc in absurd (omega arith)
 
-good-known : (s : Sec) → GoodSec s → ruled (kindSec s) ≡ known
-unfolding ruled
+good-known : (s : Sec) → GoodSec s → crateRule (kindSec s) ≡ known
+unfolding crateRule
 good-known (linesOf h bs) g = refl
 good-known (checksumsOf cs) g = refl
 good-known (inlineesOf n es) g = refl
@@ -227,12 +227,12 @@ good-known (importsOf ms) g = refl
 good-known (exportsOf ps) g = refl
 good-known (opaqueOf k b) g = opaque-known k (g .0)
 
-pub reads-from : (ss : List Sec) → Each GoodSec ss → itemsIn ruled (before (rawsOf ss) ends) ≡ before (callsOf ss) ends
+pub reads-from : (ss : List Sec) → Each GoodSec ss → itemsIn crateRule (before (rawsOf ss) ends) ≡ before (callsOf ss) ends
 unfolding itemsIn
 reads-from [] g = refl
 reads-from (s ∷ ss) g =
     rw (good-known s (g .0), good-reads s (g .0), reads-from ss (g .1)) (then-before (callsSec s) (before (callsOf ss) ends) ∙ sym (before-append (callsSec s) (callsOf ss) ends))
 
-pub reads-join : (ss : List Sec) → Each GoodSec ss → length (join (rawsOf ss)) ≤ longest → reading ruled (join (rawsOf ss)) ≡ before (callsOf ss) ends
+pub reads-join : (ss : List Sec) → Each GoodSec ss → length (join (rawsOf ss)) ≤ longest → reading crateRule (join (rawsOf ss)) ≡ before (callsOf ss) ends
 unfolding reading
 reads-join ss g l = rw (le-ltb longest (length (join (rawsOf ss))) l, parts-whole (rawsOf ss)) (reads-from ss g)

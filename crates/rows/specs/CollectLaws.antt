@@ -11,7 +11,7 @@ use Rattle.walk.specs.Listing.{Listing, more, ends, fails, mapped, Reply, gave,
 use Rattle.refusal.specs.Told.{Told}
 use Rattle.find.specs.Find.{Span}
 use Rattle.table.specs.Table.{tableOf}
-use Rattle.rows.specs.Collect.{onGave, collected, counted, ofNth}
+use Rattle.rows.specs.Collect.{onGave, collected, listingCount, ofNth}
 
 pub mapped-same : {B R : Type 0} (l : Listing B R) → mapped (λ (b : B). b) (λ (r : R). r) l ≡ l
 mapped-same (more b l) = ap (more b) (mapped-same l)
@@ -40,7 +40,7 @@ module _ {B C R : Type 0} (g : B → C) where
   collected-map (fails r) = refl
 
   -- as many as before
-  pub collected-length : (l : Listing B R) → counted (mapped g (λ (r : R). r) l) ≡ counted l
+  pub collected-length : (l : Listing B R) → listingCount (mapped g (λ (r : R). r) l) ≡ listingCount l
   collected-length l = ap (onGave (λ (cs : List C). gave (length cs))) (collected-map l) ∙ by (collected l)
     where
       by : (x : Reply (List B) R)

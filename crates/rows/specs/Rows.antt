@@ -12,10 +12,10 @@ use Rattle.refusal.specs.declared.Refusal.the-variants as why
 
 -- records that stand one behind the other from place p on
 module _ {B C : Type 0} (size : B → ℕ) (show : ℕ → B → C) where
-  unfoldable pub placed : ℕ → Listing B Told → Listing C Told
-  placed p (more r l) = more (show p r) (placed (p + size r) l)
-  placed p ends = ends
-  placed p (fails t) = fails t
+  unfoldable pub rowsPlaced : ℕ → Listing B Told → Listing C Told
+  rowsPlaced p (more r l) = more (show p r) (rowsPlaced (p + size r) l)
+  rowsPlaced p ends = ends
+  rowsPlaced p (fails t) = fails t
 
   -- the front of the bytes at p, and the place behind it
   abbrev pub rowOf : ℕ → Move (List ℕ) B Told → Answer ℕ C Told
@@ -31,4 +31,4 @@ module _ {B C : Type 0} (bite : List ℕ → Move (List ℕ) B Told) (size : B �
 
   -- the records from there on
   unfoldable pub rowsFrom : List ℕ → ℕ → Listing C Told
-  rowsFrom b p = cond (ltb (length b) p) (fails (told why.Cut)) (placed size show p (all bite length (drop p b)))
+  rowsFrom b p = cond (ltb (length b) p) (fails (told why.Cut)) (rowsPlaced size show p (all bite length (drop p b)))

@@ -13,7 +13,7 @@ use Rattle.walk.specs.Listing.{Move, item, pass, over, fail, Listing, more, end
 use Rattle.walk.specs.ListingLaws.{To, all-step, all-ind}
 use Rattle.refusal.specs.Told.{Told, told}
 use Rattle.refusal.specs.declared.Refusal.the-variants as why
-use Rattle.rows.specs.Rows.{placed, rowOf, rowAt, rowsFrom}
+use Rattle.rows.specs.Rows.{rowsPlaced, rowOf, rowAt, rowsFrom}
 
 -- what a bite says of the bytes: a record is some bytes long, which are there, and the rest is behind them
 abbrev pub Bitten : {B : Type 0} → (B → ℕ) → List ℕ → Move (List ℕ) B Told → Type 0
@@ -41,18 +41,18 @@ module _ {B C : Type 0} (bite : List ℕ → Move (List ℕ) B Told) (size : B �
   unfolding rowsFrom
   rows-past b p h = simp tests
 
-  pub rows-in : (b : List ℕ) (p : ℕ) → p ≤ length b → rowsFrom bite size show b p ≡ placed size show p (all bite length (drop p b))
+  pub rows-in : (b : List ℕ) (p : ℕ) → p ≤ length b → rowsFrom bite size show b p ≡ rowsPlaced size show p (all bite length (drop p b))
   unfolding rowsFrom
   rows-in b p h = simp tests
 
   module _ (bitten : (s : List ℕ) → Bitten size s (bite s)) where
     turn : (b : List ℕ) (p : ℕ) → p ≤ length b → (u : Move (List ℕ) B Told) → Bitten size (drop p b) u
-        → placed size show p (onMove (all bite length) u) ≡ onMove (rowsFrom bite size show b) (moved (rowOf size show p u))
-    unfolding placed
+        → rowsPlaced size show p (onMove (all bite length) u) ≡ onMove (rowsFrom bite size show b) (moved (rowOf size show p u))
+    unfolding rowsPlaced
     turn b p h (item r t) w =
         let room : p + size r ≤ length b = omega (arith, length-drop p b) in
         ap (more (show p r))
-        (ap (λ (x : List ℕ). placed size show (p + size r) (all bite length x)) (w .2 ∙ drop-drop (size r) p b)
+        (ap (λ (x : List ℕ). rowsPlaced size show (p + size r) (all bite length x)) (w .2 ∙ drop-drop (size r) p b)
         ∙ sym (rows-in b (p + size r) room))
     turn b p h (pass t) w = absurd w
     turn b p h over w = refl
@@ -67,7 +67,7 @@ module _ {B C : Type 0} (bite : List ℕ → Move (List ℕ) B Told) (size : B �
         go true e = rows-past b p (ltb-true (length b) p e)
         go false e =
             let h = ltb-false (length b) p e in
-            rows-in b p h ∙ ap (placed size show p) (bites-step bite size bitten (drop p b)) ∙ turn b p h (bite (drop p b)) (bitten (drop p b))
+            rows-in b p h ∙ ap (rowsPlaced size show p) (bites-step bite size bitten (drop p b)) ∙ turn b p h (bite (drop p b)) (bitten (drop p b))
 
 -- what an answer at a place of the body says of the records from there on: for the loops over a body
 pub record Row {B C : Type 0} (bite : List ℕ → Move (List ℕ) B Told) (size : B → ℕ) (show : ℕ → B → C) (b : List ℕ) (p : ℕ) (c : C) (x : ℕ) : Type 0 where
@@ -142,10 +142,10 @@ module _ {B C : Type 0} (bite : List ℕ → Move (List ℕ) B Told) (size : B �
 module _ {B C : Type 0} (bite : List ℕ → Move (List ℕ) B Told) (size : B → ℕ) (show : ℕ → B → C) (bitten : (s : List ℕ) → Bitten size s (bite s))
     (b : List ℕ) (back : C → B) (undo : (p : ℕ) (r : B) (t : List ℕ) → p ≤ length b → bite (drop p b) ≡ item r t → back (show p r) ≡ r) where
   abbrev Same : List ℕ → Listing B Told → Type 0
-  Same t l = (p : ℕ) → p ≤ length b → t ≡ drop p b → mapped back (λ (x : Told). x) (placed size show p l) ≡ l
+  Same t l = (p : ℕ) → p ≤ length b → t ≡ drop p b → mapped back (λ (x : Told). x) (rowsPlaced size show p l) ≡ l
 
   same : (t : List ℕ) (u : Move (List ℕ) B Told) → bite t ≡ u → Bitten size t u → To u (λ v. Same v (all bite length v)) → Same t (onMove (all bite length) u)
-  unfolding placed
+  unfolding rowsPlaced
   same t (item r v) q w f p h e =
       let here : back (show p r) ≡ r = undo p r v h (ap bite (sym e) ∙ q) in
       let there = f (p + size r) (omega (arith, ap length e, length-drop p b)) (w .2 ∙ ap (drop (size r)) e ∙ drop-drop (size r) p b) in

@@ -10,7 +10,7 @@ use Rattle.walk.specs.Listing.{Listing, more, ends, fails, run, all, Reply, gav
 use Rattle.walk.specs.Pick.{firstBy}
 use Rattle.refusal.specs.Told.{Told}
 use Rattle.area.specs.Parts.{bite, parts}
-use Rattle.area.specs.Kind.{ruled}
+use Rattle.area.specs.Kind.{crateRule}
 use Rattle.area.specs.Subs.{Sub, placed, subsFrom}
 use Rattle.body.specs.Words.{wordsIn}
 use Rattle.body.specs.Lines.{Block, blockBite, blocks}
@@ -19,7 +19,7 @@ use Rattle.line_record.specs.declared.LineKind.{LineKind}
 use Rattle.line_record.specs.declared.LineKind.the-variants as kind
 use Rattle.line_record.specs.declared.LineRecord.{LineRecord}
 use Rattle.line_record.specs.declared.Column.the-variants as column
-use Rattle.line_record.specs.Flags.{kindOf, isMarker}
+use Rattle.line_record.specs.Flags.{lineKind, isMarker}
 use Rattle.line_record.specs.Record.{entryOf}
 use Rattle.rows.specs.Collect.{collected, ofNth}
 use Rattle.imports.specs.Imports.{Ref, ifRef, resolveImport}
@@ -64,10 +64,10 @@ name-word nothing = []
 name-word (refused t) = refusal t
 
 pub answer : Question → List ℕ
-answer (subsections s) = kinds (subsFrom ruled s 0)
+answer (subsections s) = kinds (subsFrom crateRule s 0)
 answer (flags w) = record-lines (entryOf 1 0 0 0 w column.None column.None)
 answer (lineBlocks c s) = block-words (blocks c s)
-answer (resolve s index) = name-word (resolveImport ruled s index)
+answer (resolve s index) = name-word (resolveImport crateRule s index)
 
 pub record Row : Type 0 where
   pub asked : Question
@@ -112,5 +112,5 @@ rows =
     ∷ []
 
 pub sheet : map (λ (r : Row). answer (r .asked)) rows ≡ map (λ (r : Row). r .told) rows
-unfolding kinds answer row rows statement record-lines block-words name-word imports block-of line subsFrom placed ruled parts all run bite u16At u32At entryOf isMarker kindOf blocks blockBite wordsIn firstBy modules moduleBite collected ofNth ifRef
+unfolding kinds answer row rows statement record-lines block-words name-word imports block-of line subsFrom placed crateRule parts all run bite u16At u32At entryOf isMarker lineKind blocks blockBite wordsIn firstBy modules moduleBite collected ofNth ifRef
 sheet = refl

@@ -1,5 +1,5 @@
--- The stream of a string table, and the names in it. Source: nmt.h, string table stream (signature, hash version, size of the names; the names; a
--- hash table), and document 01, "Strings and module sizes": 11, header whole 1, signature 13, room for 24 + names size 1, hash version 14.
+-- The stream of a string table, and the names in it. Source: nmt.h, string table stream (signature, hash version, namesSize of the names; the names; a
+-- hash table), and document 01, "Strings and module sizes": 11, header whole 1, signature 13, room for 24 + names namesSize 1, hash version 14.
 -- Definitions only; a reader must believe them.
 use Prim.Native.Nat.{ℕ, _+_}
 use mathlib.Core.List.{List, [], _∷_}
@@ -19,8 +19,8 @@ signature s = u32At s 0
 abbrev pub version : List ℕ → ℕ
 version s = u32At s 4
 
-abbrev pub size : List ℕ → ℕ
-size s = u32At s 8
+abbrev pub namesSize : List ℕ → ℕ
+namesSize s = u32At s 8
 
 -- an answer: a part of the stream by its start and length, or a refusal
 pub data Outcome : Type 0 where
@@ -33,8 +33,8 @@ namesOf s =
     cond (ltb longest (length s)) (refused (told why.TooLong))
     (cond (ltb (length s) 12) (refused (told why.Cut))
     (cond (eqb (signature s) 0xEFFE_EFFE)
-    (cond (ltb (length s) (24 + size s)) (refused (told why.Cut))
-    (cond (eqb (version s) 1 || eqb (version s) 2) (part 12 (size s)) (refused (told why.HashVersion))))
+    (cond (ltb (length s) (24 + namesSize s)) (refused (told why.Cut))
+    (cond (eqb (version s) 1 || eqb (version s) 2) (part 12 (namesSize s)) (refused (told why.HashVersion))))
     (refused (told why.NoStringTable))))
 
 -- the bytes before the first zero
@@ -44,15 +44,15 @@ untilZero (b ∷ bs) = cond (eqb b 0) [] (b ∷ untilZero bs)
 
 -- the names, and those from an offset on
 abbrev pub names : List ℕ → List ℕ
-names s = take (size s) (drop 12 s)
+names s = take (namesSize s) (drop 12 s)
 
 abbrev pub namesFrom : List ℕ → ℕ → List ℕ
 namesFrom s offset = drop offset (names s)
 
--- where the name at an offset stands, if the table passes: the offset is below the size, and a zero follows in the names
+-- where the name at an offset stands, if the table passes: the offset is below the namesSize, and a zero follows in the names
 unfoldable pub nameIn : List ℕ → ℕ → Outcome
 nameIn s offset =
-    cond (ltb offset (size s))
+    cond (ltb offset (namesSize s))
     (cond (ltb (length (untilZero (namesFrom s offset))) (length (namesFrom s offset)))
     (part (12 + offset) (length (untilZero (namesFrom s offset))))
     (refused (told why.Cut)))
@@ -67,13 +67,13 @@ abbrev pub nameAt : List ℕ → ℕ → Outcome
 nameAt s offset = ifTable (namesOf s) (nameIn s offset)
 
 -- what is handed back of a stream. A refusal hands back the empty part at the start
-abbrev pub startOf : Outcome → ℕ
-startOf (part start len) = start
-startOf (refused t) = 0
+abbrev pub outcomeStart : Outcome → ℕ
+outcomeStart (part start len) = start
+outcomeStart (refused t) = 0
 
 abbrev pub lenOf : Outcome → ℕ
 lenOf (part start len) = len
 lenOf (refused t) = 0
 
 abbrev pub HandsName : RefT (List ℕ) → Outcome → RefT (List ℕ) → Type 0
-HandsName s o r = HandsBack s (startOf o) (lenOf o) r
+HandsName s o r = HandsBack s (outcomeStart o) (lenOf o) r

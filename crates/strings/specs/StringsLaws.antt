@@ -15,7 +15,7 @@ use Rattle.word.specs.PartLaws.{part-bytes}
 use Rattle.walk.specs.Cases.{by-cases, tests}
 use Rattle.refusal.specs.Told.{Told, told, longest}
 use Rattle.refusal.specs.declared.Refusal.the-variants as why
-use Rattle.strings.specs.Strings.{signature, version, size, Outcome, part, refused, namesOf, untilZero, names, namesFrom, nameIn, ifTable, nameAt, startOf, lenOf, HandsName}
+use Rattle.strings.specs.Strings.{signature, version, namesSize, Outcome, part, refused, namesOf, untilZero, names, namesFrom, nameIn, ifTable, nameAt, outcomeStart, lenOf, HandsName}
 
 -- ---- the tests of `string_table`
 
@@ -42,12 +42,12 @@ module _ (s : List ℕ) where
       table-signature h = simp tests
 
       module _ (h₂ : signature s ≡ 0xEFFE_EFFE) where
-        pub table-cut : length s < 24 + size s → refused (told why.Cut) ≡ namesOf s
+        pub table-cut : length s < 24 + namesSize s → refused (told why.Cut) ≡ namesOf s
         unfolding namesOf
         table-cut h = simp tests
 
-        module _ (h₃ : 24 + size s ≤ length s) where
-          pub table-known : 1 ≤ version s → version s ≤ 2 → (n : ℕ) → n ≡ size s → part 12 n ≡ namesOf s
+        module _ (h₃ : 24 + namesSize s ≤ length s) where
+          pub table-known : 1 ≤ version s → version s ≤ 2 → (n : ℕ) → n ≡ namesSize s → part 12 n ≡ namesOf s
           unfolding namesOf
           table-known l h n e = simp (tests, one-or-two (version s) l h, e)
 
@@ -58,7 +58,7 @@ module _ (s : List ℕ) where
 -- ---- what a table that passes says of the stream
 
 abbrev pub Stands : List ℕ → Outcome → Type 0
-Stands s (part start len) = (start ≡ 12) × (len ≡ size s) × (24 + len ≤ length s)
+Stands s (part start len) = (start ≡ 12) × (len ≡ namesSize s) × (24 + len ≤ length s)
 Stands s (refused t) = Unit {0}
 
 pub names-stand : (s : List ℕ) → Stands s (namesOf s)
@@ -67,8 +67,8 @@ names-stand s =
     by-cases (Stands s) (ltb longest (length s)) (λ a. tt)
     (λ a. by-cases (Stands s) (ltb (length s) 12) (λ b. tt)
     (λ b. by-cases (Stands s) (eqb (signature s) 0xEFFE_EFFE)
-    (λ d. by-cases (Stands s) (ltb (length s) (24 + size s)) (λ e. tt)
-    (λ e. by-cases (Stands s) (eqb (version s) 1 || eqb (version s) 2) (λ f. (refl, refl, ltb-false (length s) (24 + size s) e)) (λ f. tt)))
+    (λ d. by-cases (Stands s) (ltb (length s) (24 + namesSize s)) (λ e. tt)
+    (λ e. by-cases (Stands s) (eqb (version s) 1 || eqb (version s) 2) (λ f. (refl, refl, ltb-false (length s) (24 + namesSize s) e)) (λ f. tt)))
     (λ d. tt)))
 
 pub names-part : (s : List ℕ) (start len : ℕ) → part start len ≡ namesOf s → Stands s (part start len)
@@ -98,7 +98,7 @@ module _ (s : List ℕ) (offset start len k end : ℕ) (table : part start len �
   left : length (namesFrom s offset) ≡ len - offset
   left =
       let w = names-part s start len table in
-      simp (length-drop) (omega (arith, length-take-le (size s) (drop 12 s) (simp length-drop (omega arith))))
+      simp (length-drop) (omega (arith, length-take-le (namesSize s) (drop 12 s) (simp length-drop (omega arith))))
 
   until : end ≡ offset + length (untilZero (namesFrom s offset))
   until =
@@ -117,14 +117,14 @@ module _ (s : List ℕ) (offset start len k end : ℕ) (table : part start len �
       let e : end - offset ≡ length (untilZero (namesFrom s offset)) = omega arith in
       let b : start + offset ≡ 12 + offset = omega arith in
       (λ i. part (b i) (e i))
-      ∙ sym (rw (lt-ltb offset (size s) (omega arith), lt-ltb (length (untilZero (namesFrom s offset))) (length (namesFrom s offset)) (omega arith)))
+      ∙ sym (rw (lt-ltb offset (namesSize s) (omega arith), lt-ltb (length (untilZero (namesFrom s offset))) (length (namesFrom s offset)) (omega arith)))
       ∙ in-table
 
   pub name-cut : len ≤ end → refused (told why.Cut) ≡ nameAt s offset
   unfolding nameIn
   name-cut h =
       let w = names-part s start len table in
-      by-cases (λ (o : Outcome). refused (told why.Cut) ≡ o) (ltb offset (size s))
+      by-cases (λ (o : Outcome). refused (told why.Cut) ≡ o) (ltb offset (namesSize s))
       (λ d. by-cases (λ (o : Outcome). refused (told why.Cut) ≡ o) (ltb (length (untilZero (namesFrom s offset))) (length (namesFrom s offset)))
       (λ e. let u = until in let l = left in absurd (omega (arith, ltb-true)))
       (λ e. refl))
@@ -164,27 +164,27 @@ until-free (b ∷ l) i h e = by (eqb b 0) refl i h e (until-free l)
 -- a name stands at its offset in the names, and its zero too; its bytes are those before the first zero
 abbrev pub Named : List ℕ → ℕ → Outcome → Type 0
 Named s offset (part start len) =
-    (start ≡ 12 + offset) × (offset + len < size s) × (24 + size s ≤ length s)
+    (start ≡ 12 + offset) × (offset + len < namesSize s) × (24 + namesSize s ≤ length s)
     × (take len (drop start s) ≡ untilZero (namesFrom s offset)) × (getD s (start + len) 0 ≡ 0)
 Named s offset (refused t) = Unit {0}
 
-name-stands : (s : List ℕ) (offset : ℕ) → 24 + size s ≤ length s → Named s offset (nameIn s offset)
+name-stands : (s : List ℕ) (offset : ℕ) → 24 + namesSize s ≤ length s → Named s offset (nameIn s offset)
 unfolding nameIn
 name-stands s offset h =
-    by-cases (Named s offset) (ltb offset (size s))
+    by-cases (Named s offset) (ltb offset (namesSize s))
     (λ d. by-cases (Named s offset) (ltb (length (untilZero (namesFrom s offset))) (length (namesFrom s offset)))
     (λ e.
     let n = length (untilZero (namesFrom s offset)) in
     let x = drop 12 s in
-    let a : offset < size s = ltb-true offset (size s) d in
-    let m : size s ≤ length x = simp length-drop (omega arith) in
-    let f : length (namesFrom s offset) ≡ size s - offset = length-drop offset (names s) ∙ ap (λ (k : ℕ). k - offset) (length-take-le (size s) x m) in
-    let b : n < size s - offset = omega (arith, ltb-true n (length (namesFrom s offset)) e) in (
+    let a : offset < namesSize s = ltb-true offset (namesSize s) d in
+    let m : namesSize s ≤ length x = simp length-drop (omega arith) in
+    let f : length (namesFrom s offset) ≡ namesSize s - offset = length-drop offset (names s) ∙ ap (λ (k : ℕ). k - offset) (length-take-le (namesSize s) x m) in
+    let b : n < namesSize s - offset = omega (arith, ltb-true n (length (namesFrom s offset)) e) in (
       refl,
       omega arith,
       h,
-      part-bytes s 12 (size s) offset n (omega arith) ∙ until-take (namesFrom s offset),
-      ap (λ (k : ℕ). getD s k 0) (add-assoc 12 offset n) ∙ sym (getD-drop 12 s (offset + n) 0) ∙ sym (getD-take (size s) x (offset + n) 0 (omega arith))
+      part-bytes s 12 (namesSize s) offset n (omega arith) ∙ until-take (namesFrom s offset),
+      ap (λ (k : ℕ). getD s k 0) (add-assoc 12 offset n) ∙ sym (getD-drop 12 s (offset + n) 0) ∙ sym (getD-take (namesSize s) x (offset + n) 0 (omega arith))
           ∙ sym (getD-drop offset (names s) n 0) ∙ until-zero (namesFrom s offset),
     ))
     (λ e. tt))
@@ -205,8 +205,8 @@ pub agree : (s r : RefT (List ℕ)) (offset start len : ℕ) → part start len 
     → (ptr r .1 ≡ ptr s .1 + start) × (length (now r) ≡ len) × (now r ≡ untilZero (namesFrom (now s) offset))
 agree s r offset start len e h =
     let w = name-part (now s) offset start len e in
-    let b : now r ≡ take len (drop start (now s)) = h .2 ∙ (λ i. take (lenOf (sym e i)) (drop (startOf (sym e i)) (now s))) in (
-      h .1 ∙ ap (λ (o : Outcome). ptr s .1 + startOf o) (sym e),
+    let b : now r ≡ take len (drop start (now s)) = h .2 ∙ (λ i. take (lenOf (sym e i)) (drop (outcomeStart (sym e i)) (now s))) in (
+      h .1 ∙ ap (λ (o : Outcome). ptr s .1 + outcomeStart o) (sym e),
       ap length b ∙ length-take-le len (drop start (now s)) (simp length-drop (omega arith)),
       b ∙ w .3,
     )

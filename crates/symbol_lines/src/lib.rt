@@ -4,7 +4,7 @@
 // The crate searches its sorted list by halves. Here the list is lent and may be wrong, so that each slot on the way is looked at; the area is
 // passed over once if the bodies ascend in it as in the list.
 ghost use mathlib.Core.Path.{_≡_};
-ghost use Rattle.area.specs.Kind.{ruled};
+ghost use Rattle.area.specs.Kind.{crateRule};
 ghost use Rattle.lines.specs.Slots.{bodyAt, named};
 ghost use Rattle.lines.specs.Told.{toldHeader};
 ghost use Rattle.symbol_lines.specs.Symbol.{headIs, better, slotIn, walkOf, walkTo, symbolWalk};
@@ -77,7 +77,7 @@ fn walk_of(best: Best) -> LineWalk
 
 // Through the first n slots. The list is tested once, so that each body is looked for where it is.
 fn find_slot(area: &[u8], slots: &[u32], n: usize, section: u16, offset: u32) -> SymbolLines
-    ensures { λ r. ⌜ toldSymbol r ≡ walkTo (slotIn section offset (named (bodyAt ruled (now (area .entry))) n (now (slots .entry)))) ⌝ }
+    ensures { λ r. ⌜ toldSymbol r ≡ walkTo (slotIn section offset (named (bodyAt crateRule (now (area .entry))) n (now (slots .entry)))) ⌝ }
 {
     let whole = tested_list(area, slots, 0);
     let mut best = Best::None;
@@ -105,7 +105,7 @@ fn find_slot(area: &[u8], slots: &[u32], n: usize, section: u16, offset: u32) ->
 
 // The list's first subsection at just this section and offset; else the last one in list order of the same section with a smaller offset; else none.
 pub fn lines_for_symbol(area: &[u8], slots: &[u32], section: u16, offset: u32) -> SymbolLines
-    ensures { λ r. ⌜ toldSymbol r ≡ symbolWalk ruled (now (area .entry)) (now (slots .entry)) section offset ⌝ }
+    ensures { λ r. ⌜ toldSymbol r ≡ symbolWalk crateRule (now (area .entry)) (now (slots .entry)) section offset ⌝ }
 {
     match count_lines(area) {
         Counted::Lines(n) => find_slot(area, slots, n, section, offset),

@@ -2,7 +2,7 @@
 //
 // A new walk looks for the body first; behind its first record it knows the body's place, so that the area is searched once.
 ghost use mathlib.Core.Path.{_≡_};
-ghost use Rattle.area.specs.Kind.{ruled};
+ghost use Rattle.area.specs.Kind.{crateRule};
 ghost use Rattle.find.specs.Find.{firstSub};
 ghost use Rattle.find.specs.Told.{toldFound};
 ghost use Rattle.table.specs.Table.{spotIn, spotNew, spotOf};
@@ -43,7 +43,7 @@ pub fn spot_in(area: &[u8], start: usize, len: usize, at: usize) -> Spot
 
 // Of the table that is the first subsection of a kind.
 pub fn spot_first(area: &[u8], kind: u32, walk: TableWalk) -> Spot
-    ensures { λ r. ⌜ toldSpot r ≡ spotOf (firstSub ruled kind (now (area .entry))) (now (area .entry)) walk ⌝ }
+    ensures { λ r. ⌜ toldSpot r ≡ spotOf (firstSub crateRule kind (now (area .entry))) (now (area .entry)) walk ⌝ }
 {
     match walk {
         TableWalk::New => spot_new(first_of(area, kind)),

@@ -13,7 +13,7 @@ use borrow.Author.Tests.{leb-true, le-leb, lt-leb}
 use Rattle.word.specs.Word.{put}
 use Rattle.word.specs.WordLaws.{put-length}
 use Rattle.walk.specs.Cases.{by-cases}
-use Rattle.text.specs.Text.{glyph, numeral, hexBytes, Next, at, full, Page, page, room, putAt, written, writtenAll, joined}
+use Rattle.text.specs.Text.{glyph, numeral, hexBytes, Next, at, full, Page, page, roomAt, putAt, pieceWritten, writtenAll, joined}
 use Rattle.text.specs.TextLaws.{numeral-one, numeral-more, length-more, hex-length}
 
 -- ---- bytes put one at a time
@@ -87,40 +87,40 @@ module _ (b : List ℕ) (p base m : ℕ) (two : 2 ≤ base) where
 -- ---- a piece
 
 module _ (len n : ℕ) (x : Next) where
-  pub room-at : (p : ℕ) → x ≡ at p → p + n ≤ len → at p ≡ room len n x
-  unfolding room
+  pub room-at : (p : ℕ) → x ≡ at p → p + n ≤ len → at p ≡ roomAt len n x
+  unfolding roomAt
   room-at p e h = rw (e, le-leb (p + n) len h)
 
-  pub room-none : (p : ℕ) → x ≡ at p → len < p + n → full ≡ room len n x
-  unfolding room
+  pub room-none : (p : ℕ) → x ≡ at p → len < p + n → full ≡ roomAt len n x
+  unfolding roomAt
   room-none p e h = rw (e, lt-leb (p + n) len h)
 
-  pub room-full : x ≡ full → full ≡ room len n x
-  unfolding room
+  pub room-full : x ≡ full → full ≡ roomAt len n x
+  unfolding roomAt
   room-full e = rw e
 
--- a place that is given has room
+-- a place that is given has roomAt
 abbrev Roomy : ℕ → ℕ → Next → Type 0
 Roomy len n (at p) = p + n ≤ len
 Roomy len n full = Unit {0}
 
-roomy : (len n : ℕ) (x : Next) → Roomy len n (room len n x)
-unfolding room
+roomy : (len n : ℕ) (x : Next) → Roomy len n (roomAt len n x)
+unfolding roomAt
 roomy len n (at p) = by-cases (Roomy len n) (leb (p + n) len) (λ e. leb-true (p + n) len e) (λ e. tt)
 roomy len n full = tt
 
-pub room-in : (len n p : ℕ) (x : Next) → at p ≡ room len n x → p + n ≤ len
+pub room-in : (len n p : ℕ) (x : Next) → at p ≡ roomAt len n x → p + n ≤ len
 room-in len n p x e = subst⁻¹ (Roomy len n) e (roomy len n x)
 
 module _ (b xs : List ℕ) (x : Next) (n : ℕ) (en : n ≡ length xs) where
-  pub written-at : (p : ℕ) (y : List ℕ) → at p ≡ room (length b) n x → y ≡ put b p xs → page y (at (p + n)) ≡ written xs (page b x)
-  unfolding written
+  pub written-at : (p : ℕ) (y : List ℕ) → at p ≡ roomAt (length b) n x → y ≡ put b p xs → page y (at (p + n)) ≡ pieceWritten xs (page b x)
+  unfolding pieceWritten
   written-at p y e ey =
-      (λ i. page (ey i) (at (p + en i))) ∙ ap (putAt xs b) (e ∙ ap (λ (k : ℕ). room (length b) k x) en)
+      (λ i. page (ey i) (at (p + en i))) ∙ ap (putAt xs b) (e ∙ ap (λ (k : ℕ). roomAt (length b) k x) en)
 
-  pub written-full : full ≡ room (length b) n x → page b full ≡ written xs (page b x)
-  unfolding written
-  written-full e = ap (putAt xs b) (e ∙ ap (λ (k : ℕ). room (length b) k x) en)
+  pub written-full : full ≡ roomAt (length b) n x → page b full ≡ pieceWritten xs (page b x)
+  unfolding pieceWritten
+  written-full e = ap (putAt xs b) (e ∙ ap (λ (k : ℕ). roomAt (length b) k x) en)
 
 -- ---- THE LAW: put at p of xs, and then at p + length xs of ys, is put of xs ++ ys
 
@@ -142,7 +142,7 @@ put-append b p xs ys h =
     ∙ ap (λ (k : ℕ). take p b ++ ((xs ++ ys) ++ drop k b)) e
 
 -- a piece that fits
-pub written-fits : (b : List ℕ) (p : ℕ) (xs : List ℕ) → p + length xs ≤ length b → page (put b p xs) (at (p + length xs)) ≡ written xs (page b (at p))
+pub written-fits : (b : List ℕ) (p : ℕ) (xs : List ℕ) → p + length xs ≤ length b → page (put b p xs) (at (p + length xs)) ≡ pieceWritten xs (page b (at p))
 written-fits b p xs h = written-at b xs (at p) (length xs) refl p (put b p xs) (room-at (length b) (length xs) (at p) p refl h) refl
 
 -- pieces that fit
@@ -160,7 +160,7 @@ all-written (xs ∷ xss) b p h =
 
 -- ---- pieces put by one call after the other: p is the page before the first, q that behind the last
 
-pub just : (p q : Page) (xs : List ℕ) → q ≡ written xs p → q ≡ writtenAll (xs ∷ []) p
+pub just : (p q : Page) (xs : List ℕ) → q ≡ pieceWritten xs p → q ≡ writtenAll (xs ∷ []) p
 unfolding writtenAll
 just p q xs e = e
 
@@ -170,10 +170,10 @@ and-all p q r xss yss e f = f ∙ ap (writtenAll yss) e ∙ sym (split xss p)
   where
     split : (zss : List (List ℕ)) (o : Page) → writtenAll (zss ++ yss) o ≡ writtenAll yss (writtenAll zss o)
     split [] o = refl
-    split (zs ∷ zss) o = split zss (written zs o)
+    split (zs ∷ zss) o = split zss (pieceWritten zs o)
 
-pub and-one : (p q r : Page) (xss : List (List ℕ)) (xs : List ℕ) → r ≡ writtenAll xss p → q ≡ written xs r → q ≡ writtenAll (xss ++ (xs ∷ [])) p
+pub and-one : (p q r : Page) (xss : List (List ℕ)) (xs : List ℕ) → r ≡ writtenAll xss p → q ≡ pieceWritten xs r → q ≡ writtenAll (xss ++ (xs ∷ [])) p
 and-one p q r xss xs e f = and-all p q r xss (xs ∷ []) e (just r q xs f)
 
-pub same-text : (p q : Page) (xs ys : List ℕ) → q ≡ written xs p → xs ≡ ys → q ≡ written ys p
-same-text p q xs ys e f = e ∙ ap (λ (zs : List ℕ). written zs p) f
+pub same-text : (p q : Page) (xs ys : List ℕ) → q ≡ pieceWritten xs p → xs ≡ ys → q ≡ pieceWritten ys p
+same-text p q xs ys e f = e ∙ ap (λ (zs : List ℕ). pieceWritten zs p) f

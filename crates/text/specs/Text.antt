@@ -61,22 +61,22 @@ abbrev pub page : List ℕ → Next → Page
 page b x = record { bytes = b; next = x }
 
 -- the place, if n bytes fit there
-unfoldable pub room : ℕ → ℕ → Next → Next
-room len n (at p) = cond (leb (p + n) len) (at p) full
-room len n full = full
+unfoldable pub roomAt : ℕ → ℕ → Next → Next
+roomAt len n (at p) = cond (leb (p + n) len) (at p) full
+roomAt len n full = full
 
 abbrev pub putAt : List ℕ → List ℕ → Next → Page
 putAt xs b (at p) = page (put b p xs) (at (p + length xs))
 putAt xs b full = page b full
 
 -- a piece xs, put: whole where it fits, else nothing, and then the page is full
-unfoldable pub written : List ℕ → Page → Page
-written xs q = putAt xs (q .bytes) (room (length (q .bytes)) (length xs) (q .next))
+unfoldable pub pieceWritten : List ℕ → Page → Page
+pieceWritten xs q = putAt xs (q .bytes) (roomAt (length (q .bytes)) (length xs) (q .next))
 
 -- several pieces, one after the other; and the text that they make
 unfoldable pub writtenAll : List (List ℕ) → Page → Page
 writtenAll [] q = q
-writtenAll (xs ∷ xss) q = writtenAll xss (written xs q)
+writtenAll (xs ∷ xss) q = writtenAll xss (pieceWritten xs q)
 
 abbrev pub joined : List (List ℕ) → List ℕ
 joined [] = []

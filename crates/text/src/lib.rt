@@ -6,7 +6,7 @@ ghost use mathlib.Core.Path.{_≡_};
 ghost use Prim.Native.Nat.{_+_, _*_, _≤_, _<_};
 ghost use lib.ListN.{length};
 ghost use Rattle.word.specs.Word.{put};
-ghost use Rattle.text.specs.Text.{glyph as glyphOf, numeral, decimal, hex, hexBytes, page, written, room as roomFor};
+ghost use Rattle.text.specs.Text.{glyph as glyphOf, numeral, decimal, hex, hexBytes, page, pieceWritten, roomAt};
 ghost use Rattle.text.specs.Told.{toldPlace};
 
 // Where the next piece goes: a place of the buffer; or nowhere, since a piece did not fit.
@@ -17,7 +17,7 @@ pub enum Place {
 
 // The place, if n bytes fit there.
 fn room(len: usize, place: Place, n: usize) -> Place
-    ensures { λ r. ⌜ toldPlace r ≡ roomFor len n (toldPlace place) ⌝ }
+    ensures { λ r. ⌜ toldPlace r ≡ roomAt len n (toldPlace place) ⌝ }
 {
     match place {
         Place::At(at) => {
@@ -46,7 +46,7 @@ fn copy(buf: &mut [u8], at: usize, bytes: &[u8])
 }
 
 pub fn put_bytes(buf: &mut [u8], place: Place, bytes: &[u8]) -> Place
-    ensures { λ r. ⌜ page (now (buf .exit)) (toldPlace r) ≡ written (now (bytes .entry)) (page (now (buf .entry)) (toldPlace place)) ⌝ }
+    ensures { λ r. ⌜ page (now (buf .exit)) (toldPlace r) ≡ pieceWritten (now (bytes .entry)) (page (now (buf .entry)) (toldPlace place)) ⌝ }
 {
     let n = bytes.len();
     match room(buf.len(), place, n) {
@@ -111,7 +111,7 @@ fn spell(buf: &mut [u8], at: usize, n: u64, base: u64, count: usize)
 
 fn put_numeral(buf: &mut [u8], place: Place, n: u64, base: u64) -> Place
     requires { ⌜ (2 ≤ base) × (base ≤ 16) ⌝ }
-    ensures { λ r. ⌜ page (now (buf .exit)) (toldPlace r) ≡ written (numeral base n) (page (now (buf .entry)) (toldPlace place)) ⌝ }
+    ensures { λ r. ⌜ page (now (buf .exit)) (toldPlace r) ≡ pieceWritten (numeral base n) (page (now (buf .entry)) (toldPlace place)) ⌝ }
 {
     let count = digits(n, base);
     match room(buf.len(), place, count) {
@@ -124,13 +124,13 @@ fn put_numeral(buf: &mut [u8], place: Place, n: u64, base: u64) -> Place
 }
 
 pub fn put_decimal(buf: &mut [u8], place: Place, n: u64) -> Place
-    ensures { λ r. ⌜ page (now (buf .exit)) (toldPlace r) ≡ written (decimal n) (page (now (buf .entry)) (toldPlace place)) ⌝ }
+    ensures { λ r. ⌜ page (now (buf .exit)) (toldPlace r) ≡ pieceWritten (decimal n) (page (now (buf .entry)) (toldPlace place)) ⌝ }
 {
     put_numeral(buf, place, n, 10)
 }
 
 pub fn put_hex(buf: &mut [u8], place: Place, n: u64) -> Place
-    ensures { λ r. ⌜ page (now (buf .exit)) (toldPlace r) ≡ written (hex n) (page (now (buf .entry)) (toldPlace place)) ⌝ }
+    ensures { λ r. ⌜ page (now (buf .exit)) (toldPlace r) ≡ pieceWritten (hex n) (page (now (buf .entry)) (toldPlace place)) ⌝ }
 {
     put_numeral(buf, place, n, 16)
 }
@@ -152,7 +152,7 @@ fn spell_bytes(buf: &mut [u8], at: usize, bytes: &[u8])
 
 // Two digits a byte.
 pub fn put_hex_bytes(buf: &mut [u8], place: Place, bytes: &[u8]) -> Place
-    ensures { λ r. ⌜ page (now (buf .exit)) (toldPlace r) ≡ written (hexBytes (now (bytes .entry))) (page (now (buf .entry)) (toldPlace place)) ⌝ }
+    ensures { λ r. ⌜ page (now (buf .exit)) (toldPlace r) ≡ pieceWritten (hexBytes (now (bytes .entry))) (page (now (buf .entry)) (toldPlace place)) ⌝ }
 {
     let n = 2 * bytes.len();
     match room(buf.len(), place, n) {

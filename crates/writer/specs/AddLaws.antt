@@ -15,7 +15,7 @@ use Rattle.refusal.specs.declared.Refusal.{Refusal}
 use Rattle.reading.specs.Reading.{Item, opens}
 use Rattle.writer_decides.specs.declared.Step.{Step}
 use Rattle.writer_decides.specs.declared.Step.the-variants as step
-use Rattle.writer_decides.specs.Calls.{kindOf, bytesFor, obeys, needs, act, patch, answered, after, growAct}
+use Rattle.writer_decides.specs.Calls.{itemKind, bytesFor, obeys, needs, act, patch, answered, bufferAfter, growAct}
 use Rattle.writer_decides.specs.Told.{toldAct}
 use Rattle.writer_decides.specs.CallLaws.{needs-is, patch-is, act-is, kind-some, Grows, grow-goes, kept-go, kept-stop}
 use Rattle.writer.specs.declared.Wrote.{Wrote}
@@ -27,16 +27,16 @@ use Rattle.writer.specs.LentLaws.{over, lent-room, lent-grown}
 pub record Adds (it : Item) (need : ℕ → ℕ) (b : List ℕ) (w : ℕ) (s : Step) : Type 0 where
   pub entry : opens it ≡ false
   pub size : (m : ℕ) → needs m it ≡ need m
-  pub says : toldAct s ≡ growAct (kindOf it) (λ m. obeys m it) need b w
+  pub says : toldAct s ≡ growAct (itemKind it) (λ m. obeys m it) need b w
 
 -- the step says what the call does
 acts : {it : Item} {need : ℕ → ℕ} {b : List ℕ} {w : ℕ} {s : Step} → Adds it need b w s → toldAct s ≡ act it b w
-acts {it} {need} {b} {w} d = d .says ∙ sym (λ i. growAct (kindOf it) (λ m. obeys m it) (λ m. d .size m i) b w) ∙ sym (act-is it (d .entry) b w)
+acts {it} {need} {b} {w} d = d .says ∙ sym (λ i. growAct (itemKind it) (λ m. obeys m it) (λ m. d .size m i) b w) ∙ sym (act-is it (d .entry) b w)
 
 -- it goes on
 module _ {it : Item} {need : ℕ → ℕ} {b : List ℕ} {w : ℕ} {s : Step} {h m n : ℕ} (d : Adds it need b w s) (e : s ≡ step.Go h m n) where
-  pub adds-known : Grows (kindOf it) (λ k. obeys k it) need b w h m n
-  adds-known = grow-goes (kindOf it) (λ k. obeys k it) need b w h m n (kind-some it (d .entry)) (sym (d .says) ∙ ap toldAct e)
+  pub adds-known : Grows (itemKind it) (λ k. obeys k it) need b w h m n
+  adds-known = grow-goes (itemKind it) (λ k. obeys k it) need b w h m n (kind-some it (d .entry)) (sym (d .says) ∙ ap toldAct e)
 
   -- what the writer of the entry and the writer of the last length ask
   pub adds-room : need m ≤ length (lent w b)
@@ -46,7 +46,7 @@ module _ {it : Item} {need : ℕ → ℕ} {b : List ℕ} {w : ℕ} {s : Step} {h
   adds-length = (omega (arith, adds-known), omega (arith, adds-known))
 
   pub adds-goes : {y z : List ℕ} {r : Wrote} → y ≡ over (bytesFor m it) (lent w b)
-      → (r ≡ wrote.To n) × (z ≡ store (putMid w (length b - w) b y) (h + 4) (le32 (n - h - 8))) → (toldWrote r ≡ answered it b w) × (z ≡ after it b w)
+      → (r ≡ wrote.To n) × (z ≡ store (putMid w (length b - w) b y) (h + 4) (le32 (n - h - 8))) → (toldWrote r ≡ answered it b w) × (z ≡ bufferAfter it b w)
   adds-goes {y} {z} {r} ey er =
       let g = adds-known in
       let bs = bytesFor m it in
@@ -56,5 +56,5 @@ module _ {it : Item} {need : ℕ → ℕ} {b : List ℕ} {w : ℕ} {s : Step} {h
 
 -- it stops, and nothing changes
 pub adds-stops : {it : Item} {need : ℕ → ℕ} {b : List ℕ} {w : ℕ} {s : Step} {t : Refusal} → Adds it need b w s → s ≡ step.Stop t
-    → (refused (told t) ≡ answered it b w) × (b ≡ after it b w)
+    → (refused (told t) ≡ answered it b w) × (b ≡ bufferAfter it b w)
 adds-stops {it} {need} {b} {w} {s} {t} d e = kept-stop (act it b w) (patch it b w) b (told t) (ap toldAct (sym e) ∙ acts d)

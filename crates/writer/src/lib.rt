@@ -12,7 +12,7 @@ ghost use Rattle.body.specs.Words.{wordBytes};
 ghost use Rattle.body.specs.Inlinees.{extended};
 ghost use Rattle.body.specs.InlineesLaws.{extraLength};
 ghost use Rattle.plain.specs.Plain.{sizeOf};
-ghost use Rattle.writer_decides.specs.Calls.{openAct, wrote, kept, answered, after, callLines, callBlock, callChecksum, callInlinee, callModule, callPair, bytesFor};
+ghost use Rattle.writer_decides.specs.Calls.{openAct, wrote, kept, answered, bufferAfter, callLines, callBlock, callChecksum, callInlinee, callModule, callPair, bytesFor};
 ghost use Rattle.writer.specs.LentLaws.{over};
 ghost use Rattle.writer.specs.Told.{toldWrote};
 use refusal::Refusal;
@@ -169,7 +169,7 @@ pub fn open_lines(
     code: u32,
 ) -> Wrote
     ensures { λ r. ⌜ toldWrote r ≡ answered (callLines offset section flags code) (now (buf .entry)) written ⌝ }
-    ensures { λ _. ⌜ now (buf .exit) ≡ after (callLines offset section flags code) (now (buf .entry)) written ⌝ }
+    ensures { λ _. ⌜ now (buf .exit) ≡ bufferAfter (callLines offset section flags code) (now (buf .entry)) written ⌝ }
 {
     let mut head = [0u8; 12];
     put_u32(&mut head, 0, offset);
@@ -181,7 +181,7 @@ pub fn open_lines(
 
 pub fn open_checksums(buf: &mut [u8], written: usize) -> Wrote
     ensures { λ r. ⌜ toldWrote r ≡ answered openChecksums (now (buf .entry)) written ⌝ }
-    ensures { λ _. ⌜ now (buf .exit) ≡ after openChecksums (now (buf .entry)) written ⌝ }
+    ensures { λ _. ⌜ now (buf .exit) ≡ bufferAfter openChecksums (now (buf .entry)) written ⌝ }
 {
     let none = [0u8; 0];
     open_with(buf, written, CHECKSUMS, true, &none)
@@ -189,7 +189,7 @@ pub fn open_checksums(buf: &mut [u8], written: usize) -> Wrote
 
 pub fn open_inlinees(buf: &mut [u8], written: usize, signature: u32) -> Wrote
     ensures { λ r. ⌜ toldWrote r ≡ answered (openInlinees signature) (now (buf .entry)) written ⌝ }
-    ensures { λ _. ⌜ now (buf .exit) ≡ after (openInlinees signature) (now (buf .entry)) written ⌝ }
+    ensures { λ _. ⌜ now (buf .exit) ≡ bufferAfter (openInlinees signature) (now (buf .entry)) written ⌝ }
 {
     let mut head = [0u8; 4];
     put_u32(&mut head, 0, signature);
@@ -198,7 +198,7 @@ pub fn open_inlinees(buf: &mut [u8], written: usize, signature: u32) -> Wrote
 
 pub fn open_imports(buf: &mut [u8], written: usize) -> Wrote
     ensures { λ r. ⌜ toldWrote r ≡ answered openImports (now (buf .entry)) written ⌝ }
-    ensures { λ _. ⌜ now (buf .exit) ≡ after openImports (now (buf .entry)) written ⌝ }
+    ensures { λ _. ⌜ now (buf .exit) ≡ bufferAfter openImports (now (buf .entry)) written ⌝ }
 {
     let none = [0u8; 0];
     open_with(buf, written, IMPORTS, true, &none)
@@ -206,7 +206,7 @@ pub fn open_imports(buf: &mut [u8], written: usize) -> Wrote
 
 pub fn open_exports(buf: &mut [u8], written: usize) -> Wrote
     ensures { λ r. ⌜ toldWrote r ≡ answered openExports (now (buf .entry)) written ⌝ }
-    ensures { λ _. ⌜ now (buf .exit) ≡ after openExports (now (buf .entry)) written ⌝ }
+    ensures { λ _. ⌜ now (buf .exit) ≡ bufferAfter openExports (now (buf .entry)) written ⌝ }
 {
     let none = [0u8; 0];
     open_with(buf, written, EXPORTS, true, &none)
@@ -214,7 +214,7 @@ pub fn open_exports(buf: &mut [u8], written: usize) -> Wrote
 
 pub fn add_opaque(buf: &mut [u8], written: usize, kind: u32, body: &[u8]) -> Wrote
     ensures { λ r. ⌜ toldWrote r ≡ answered (opaque kind (now (body .entry))) (now (buf .entry)) written ⌝ }
-    ensures { λ _. ⌜ now (buf .exit) ≡ after (opaque kind (now (body .entry))) (now (buf .entry)) written ⌝ }
+    ensures { λ _. ⌜ now (buf .exit) ≡ bufferAfter (opaque kind (now (body .entry))) (now (buf .entry)) written ⌝ }
 {
     let fine = opaque_rule(kind, body.len());
     open_with(buf, written, kind, fine, body)
@@ -222,7 +222,7 @@ pub fn add_opaque(buf: &mut [u8], written: usize, kind: u32, body: &[u8]) -> Wro
 
 pub fn add_block(buf: &mut [u8], written: usize, file: u32, lines: &[u32], columns: &[u32]) -> Wrote
     ensures { λ r. ⌜ toldWrote r ≡ answered (callBlock file (now (lines .entry)) (now (columns .entry))) (now (buf .entry)) written ⌝ }
-    ensures { λ _. ⌜ now (buf .exit) ≡ after (callBlock file (now (lines .entry)) (now (columns .entry))) (now (buf .entry)) written ⌝ }
+    ensures { λ _. ⌜ now (buf .exit) ≡ bufferAfter (callBlock file (now (lines .entry)) (now (columns .entry))) (now (buf .entry)) written ⌝ }
 {
     match block_step(buf, written, lines, columns) {
         Step::Go {
@@ -239,7 +239,7 @@ pub fn add_block(buf: &mut [u8], written: usize, file: u32, lines: &[u32], colum
 
 pub fn add_checksum(buf: &mut [u8], written: usize, name: u32, kind: u8, bytes: &[u8]) -> Wrote
     ensures { λ r. ⌜ toldWrote r ≡ answered (callChecksum name kind (now (bytes .entry))) (now (buf .entry)) written ⌝ }
-    ensures { λ _. ⌜ now (buf .exit) ≡ after (callChecksum name kind (now (bytes .entry))) (now (buf .entry)) written ⌝ }
+    ensures { λ _. ⌜ now (buf .exit) ≡ bufferAfter (callChecksum name kind (now (bytes .entry))) (now (buf .entry)) written ⌝ }
 {
     match checksum_step(buf, written, kind, bytes) {
         Step::Go {
@@ -263,7 +263,7 @@ pub fn add_inlinee(
     extra: &[u32],
 ) -> Wrote
     ensures { λ r. ⌜ toldWrote r ≡ answered (callInlinee inlinee file line (now (extra .entry))) (now (buf .entry)) written ⌝ }
-    ensures { λ _. ⌜ now (buf .exit) ≡ after (callInlinee inlinee file line (now (extra .entry))) (now (buf .entry)) written ⌝ }
+    ensures { λ _. ⌜ now (buf .exit) ≡ bufferAfter (callInlinee inlinee file line (now (extra .entry))) (now (buf .entry)) written ⌝ }
 {
     match inlinee_step(buf, written, extra) {
         Step::Go { header, mark, next } => {
@@ -276,7 +276,7 @@ pub fn add_inlinee(
 
 pub fn add_module(buf: &mut [u8], written: usize, name: u32, words: &[u32]) -> Wrote
     ensures { λ r. ⌜ toldWrote r ≡ answered (callModule name (now (words .entry))) (now (buf .entry)) written ⌝ }
-    ensures { λ _. ⌜ now (buf .exit) ≡ after (callModule name (now (words .entry))) (now (buf .entry)) written ⌝ }
+    ensures { λ _. ⌜ now (buf .exit) ≡ bufferAfter (callModule name (now (words .entry))) (now (buf .entry)) written ⌝ }
 {
     match module_step(buf, written, words) {
         Step::Go {
@@ -293,7 +293,7 @@ pub fn add_module(buf: &mut [u8], written: usize, name: u32, words: &[u32]) -> W
 
 pub fn add_pair(buf: &mut [u8], written: usize, local: u32, global: u32) -> Wrote
     ensures { λ r. ⌜ toldWrote r ≡ answered (callPair local global) (now (buf .entry)) written ⌝ }
-    ensures { λ _. ⌜ now (buf .exit) ≡ after (callPair local global) (now (buf .entry)) written ⌝ }
+    ensures { λ _. ⌜ now (buf .exit) ≡ bufferAfter (callPair local global) (now (buf .entry)) written ⌝ }
 {
     match pair_step(buf, written, local) {
         Step::Go {

@@ -22,7 +22,7 @@ use Rattle.plain.specs.Plain.{sizeOf, isOpaque, Last, plainOf}
 use Rattle.plain.specs.RecordLaws.{padding-two}
 use Rattle.plain.specs.LastLaws.{last-lies}
 use Rattle.walk.specs.Cases.{by-cases, and-true}
-use Rattle.writer_decides.specs.Calls.{kindOf, bytesFor, blockRule, checksumRule, extraRule, opaqueRule, obeys, Act, goes, stops, limit, place, ofKind, lastFor, room, ruled, needs, onLast, act, grown, patch, wrote, kept, openAct, growAct}
+use Rattle.writer_decides.specs.Calls.{itemKind, bytesFor, blockRule, checksumRule, extraRule, opaqueRule, obeys, Act, goes, stops, limit, place, ofKind, lastFor, room, elseNotPlain, needs, onLast, act, grown, patch, wrote, kept, openAct, growAct}
 
 -- ---- the tests of the code
 
@@ -89,27 +89,27 @@ on-some o f l a e q = q ∙ ap (λ (x : Option Last). onLast x (stops (told why.
 
 module _ (k : ℕ) (rule : ℕ → Bool) (need : ℕ → ℕ) (b : List ℕ) (w : ℕ) where
   pub grow-none : none ≡ ofKind k (place b w) → stops (told why.WrongPlace) ≡ growAct k rule need b w
-  grow-none e = on-none (ofKind k (place b w)) (λ l. ruled (rule (l .mark)) (room (length b) w (l .header) (l .mark) (need (l .mark)))) e
+  grow-none e = on-none (ofKind k (place b w)) (λ l. elseNotPlain (rule (l .mark)) (room (length b) w (l .header) (l .mark) (need (l .mark)))) e
 
-  pub grow-some : (l : Last) (a : Act) → some l ≡ ofKind k (place b w) → a ≡ ruled (rule (l .mark)) (room (length b) w (l .header) (l .mark) (need (l .mark))) → a ≡ growAct k rule need b w
-  grow-some l a e q = on-some (ofKind k (place b w)) (λ x. ruled (rule (x .mark)) (room (length b) w (x .header) (x .mark) (need (x .mark)))) l a e q
+  pub grow-some : (l : Last) (a : Act) → some l ≡ ofKind k (place b w) → a ≡ elseNotPlain (rule (l .mark)) (room (length b) w (l .header) (l .mark) (need (l .mark))) → a ≡ growAct k rule need b w
+  grow-some l a e q = on-some (ofKind k (place b w)) (λ x. elseNotPlain (rule (x .mark)) (room (length b) w (x .header) (x .mark) (need (x .mark)))) l a e q
 
 -- the rules
-pub checksum-need : (k n : ℕ) (t : Bool) (f : ℕ → Act) → t ≡ checksumRule k n → ruled t (f (n + 8)) ≡ ruled (checksumRule k n) (f (up4 (6 + n)))
-checksum-need k n t f e = go t e ∙ ap (λ (x : Bool). ruled x (f (up4 (6 + n)))) e
+pub checksum-need : (k n : ℕ) (t : Bool) (f : ℕ → Act) → t ≡ checksumRule k n → elseNotPlain t (f (n + 8)) ≡ elseNotPlain (checksumRule k n) (f (up4 (6 + n)))
+checksum-need k n t f e = go t e ∙ ap (λ (x : Bool). elseNotPlain x (f (up4 (6 + n)))) e
   where
-    go : (t : Bool) → t ≡ checksumRule k n → ruled t (f (n + 8)) ≡ ruled t (f (up4 (6 + n)))
+    go : (t : Bool) → t ≡ checksumRule k n → elseNotPlain t (f (n + 8)) ≡ elseNotPlain t (f (up4 (6 + n)))
     go true q = ap f (sym (fits-up k n (sym q)))
     go false q = refl
 
-pub extra-yes : (n w h m k : ℕ) → m ≡ 1 → ruled true (room n w h m (16 + 4 * k)) ≡ ruled (extraRule m k) (room n w h m (12 + extraLength (extended m) k))
+pub extra-yes : (n w h m k : ℕ) → m ≡ 1 → elseNotPlain true (room n w h m (16 + 4 * k)) ≡ elseNotPlain (extraRule m k) (room n w h m (12 + extraLength (extended m) k))
 extra-yes n w h m k e =
     let q : 16 + 4 * k ≡ 12 + (4 + 4 * k) = omega arith in
-    ap (λ (x : ℕ). ruled true (room n w h m x)) q
-    ∙ ap (λ (t : Bool). ruled (cond t true (eqb k 0)) (room n w h m (12 + extraLength t k))) (sym (eq-eqb m 1 e))
+    ap (λ (x : ℕ). elseNotPlain true (room n w h m x)) q
+    ∙ ap (λ (t : Bool). elseNotPlain (cond t true (eqb k 0)) (room n w h m (12 + extraLength t k))) (sym (eq-eqb m 1 e))
 
-pub extra-no : (n w h m k : ℕ) → (m ≡ 1 → ⊥) → ruled (eqb k 0) (room n w h m 12) ≡ ruled (extraRule m k) (room n w h m (12 + extraLength (extended m) k))
-extra-no n w h m k e = ap (λ (t : Bool). ruled (cond t true (eqb k 0)) (room n w h m (12 + extraLength t k))) (sym (ne-eqb m 1 e))
+pub extra-no : (n w h m k : ℕ) → (m ≡ 1 → ⊥) → elseNotPlain (eqb k 0) (room n w h m 12) ≡ elseNotPlain (extraRule m k) (room n w h m (12 + extraLength (extended m) k))
+extra-no n w h m k e = ap (λ (t : Bool). elseNotPlain (cond t true (eqb k 0)) (room n w h m (12 + extraLength t k))) (sym (ne-eqb m 1 e))
 
 pub block-rule-odd : (m n k : ℕ) → (n % 2 ≡ 0 → ⊥) → false ≡ blockRule m n k
 block-rule-odd m n k h = rw (ne-eqb (n % 2) 0 h)
@@ -124,21 +124,21 @@ module _ (it : Item) {t : Bool} (e : opens it ≡ t) where
   needs-is m = ap (λ (x : Bool). cond x (8 + length (bytesFor m it)) (length (bytesFor m it))) e
 
   pub patch-is : (b : List ℕ) (w h m : ℕ)
-      → patch it b w h m ≡ cond t (put b w (header (kindOf it) (length (bytesFor m it)) ++ bytesFor m it)) (grown b w (bytesFor m it) h)
-  patch-is b w h m = ap (λ (x : Bool). cond x (put b w (header (kindOf it) (length (bytesFor m it)) ++ bytesFor m it)) (grown b w (bytesFor m it) h)) e
+      → patch it b w h m ≡ cond t (put b w (header (itemKind it) (length (bytesFor m it)) ++ bytesFor m it)) (grown b w (bytesFor m it) h)
+  patch-is b w h m = ap (λ (x : Bool). cond x (put b w (header (itemKind it) (length (bytesFor m it)) ++ bytesFor m it)) (grown b w (bytesFor m it) h)) e
 
   pub act-is : (b : List ℕ) (w : ℕ)
-      → act it b w ≡ onLast (cond t (place b w) (ofKind (kindOf it) (place b w))) (stops (told why.WrongPlace))
-      (λ l. ruled (obeys (l .mark) it) (room (length b) w (l .header) (l .mark) (needs (l .mark) it)))
+      → act it b w ≡ onLast (cond t (place b w) (ofKind (itemKind it) (place b w))) (stops (told why.WrongPlace))
+      (λ l. elseNotPlain (obeys (l .mark) it) (room (length b) w (l .header) (l .mark) (needs (l .mark) it)))
   act-is b w =
-      ap (λ (x : Bool). onLast (cond x (place b w) (ofKind (kindOf it) (place b w))) (stops (told why.WrongPlace))
-      (λ l. ruled (obeys (l .mark) it) (room (length b) w (l .header) (l .mark) (needs (l .mark) it)))) e
+      ap (λ (x : Bool). onLast (cond x (place b w) (ofKind (itemKind it) (place b w))) (stops (told why.WrongPlace))
+      (λ l. elseNotPlain (obeys (l .mark) it) (room (length b) w (l .header) (l .mark) (needs (l .mark) it)))) e
 
 never : {A : Type 0} → _≡_ {A = Bool} true false → A
 never e = let z : _≡_ {A = ℕ} 0 1 = cc in absurd (omega arith)
 
 -- no entry is of kind 0, the kind before the first subsection
-pub kind-some : (it : Item) → opens it ≡ false → kindOf it ≡ 0 → ⊥
+pub kind-some : (it : Item) → opens it ≡ false → itemKind it ≡ 0 → ⊥
 kind-some (openLines h) b e = never b
 kind-some (block x) b e = omega arith
 kind-some openChecksums b e = never b
@@ -170,9 +170,9 @@ room-goes n w h₀ m₀ need h m x = go (leb (w + need) (limit n)) refl
     go true e q = record { head = cc; mark = cc; next = cc; fits = leb-true (w + need) (limit n) e }
     go false e q = no-goes q
 
-ruled-goes : (t : Bool) (a : Act) (h m x : ℕ) → ruled t a ≡ goes h m x → (t ≡ true) × (a ≡ goes h m x)
-ruled-goes true a h m x q = (refl, q)
-ruled-goes false a h m x q = no-goes q
+plain-goes : (t : Bool) (a : Act) (h m x : ℕ) → elseNotPlain t a ≡ goes h m x → (t ≡ true) × (a ≡ goes h m x)
+plain-goes true a h m x q = (refl, q)
+plain-goes false a h m x q = no-goes q
 
 -- the last subsection, the rule, the place behind and the room
 pub record Goes (o : Option Last) (rule : ℕ → Bool) (need : ℕ → ℕ) (n w h m x : ℕ) : Type 0 where
@@ -183,10 +183,10 @@ pub record Goes (o : Option Last) (rule : ℕ → Bool) (need : ℕ → ℕ) (n 
   pub fits : w + need m ≤ limit n
 
 on-goes : (o : Option Last) (rule : ℕ → Bool) (need : ℕ → ℕ) (n w h m x : ℕ)
-    → onLast o (stops (told why.WrongPlace)) (λ l. ruled (rule (l .mark)) (room n w (l .header) (l .mark) (need (l .mark)))) ≡ goes h m x → Goes o rule need n w h m x
+    → onLast o (stops (told why.WrongPlace)) (λ l. elseNotPlain (rule (l .mark)) (room n w (l .header) (l .mark) (need (l .mark)))) ≡ goes h m x → Goes o rule need n w h m x
 on-goes none rule need n w h m x q = no-goes q
 on-goes (some l) rule need n w h m x q =
-    let r = ruled-goes (rule (l .mark)) (room n w (l .header) (l .mark) (need (l .mark))) h m x q in
+    let r = plain-goes (rule (l .mark)) (room n w (l .header) (l .mark) (need (l .mark))) h m x q in
     let g = room-goes n w (l .header) (l .mark) (need (l .mark)) h m x (r .1) in
     let eh = g .head in
     let em = g .mark in

@@ -1,4 +1,4 @@
--- The writer's calls: what each answers, and the buffer after it. A call is an item of the full reading. Source: document 01, "Writer and plain
+-- The writer's calls: what each answers, and the buffer bufferAfter it. A call is an item of the full reading. Source: document 01, "Writer and plain
 -- areas", and numbers 10, 16, 17 of its table; the order of refusals is 16, 17, 10.
 -- Definitions only; a reader must believe them.
 use Prim.Native.Nat.{ℕ, _+_, _-_, _/_, _%_, min}
@@ -22,18 +22,18 @@ use Rattle.plain.specs.Plain.{sizeOf, isOpaque, Last, plainOf}
 -- ---- what each call is
 
 -- the kind of its subsection
-abbrev pub kindOf : Item → ℕ
-kindOf (openLines h) = 0xf2
-kindOf (block b) = 0xf2
-kindOf openChecksums = 0xf4
-kindOf (checksum c) = 0xf4
-kindOf (openInlinees s) = 0xf6
-kindOf (inlinee e) = 0xf6
-kindOf openImports = 0xf7
-kindOf (imports m) = 0xf7
-kindOf openExports = 0xf8
-kindOf (exports p) = 0xf8
-kindOf (opaque k b) = k
+abbrev pub itemKind : Item → ℕ
+itemKind (openLines h) = 0xf2
+itemKind (block b) = 0xf2
+itemKind openChecksums = 0xf4
+itemKind (checksum c) = 0xf4
+itemKind (openInlinees s) = 0xf6
+itemKind (inlinee e) = 0xf6
+itemKind openImports = 0xf7
+itemKind (imports m) = 0xf7
+itemKind openExports = 0xf8
+itemKind (exports p) = 0xf8
+itemKind (opaque k b) = k
 
 -- the bytes of it, a subsection's header left out; m is the mark of the last subsection
 abbrev pub bytesFor : ℕ → Item → List ℕ
@@ -99,15 +99,15 @@ ofKind k none = none
 ofKind k (some l) = cond (eqb (l .kind) k) (some l) none
 
 abbrev pub lastFor : Item → List ℕ → ℕ → Option Last
-lastFor it b w = cond (opens it) (place b w) (ofKind (kindOf it) (place b w))
+lastFor it b w = cond (opens it) (place b w) (ofKind (itemKind it) (place b w))
 
 -- number 10: written plus needed exceeds the smaller of the buffer and the longest area
 unfoldable pub room : ℕ → ℕ → ℕ → ℕ → ℕ → Act
 room n w h m need = cond (leb (w + need) (limit n)) (goes h m (w + need)) (stops (told why.NoRoom))
 
 -- number 17, and then 10
-abbrev pub ruled : Bool → Act → Act
-ruled t a = cond t a (stops (told why.NotPlain))
+abbrev pub elseNotPlain : Bool → Act → Act
+elseNotPlain t a = cond t a (stops (told why.NotPlain))
 
 -- the bytes that a call needs: a subsection has a header of 8
 abbrev pub needs : ℕ → Item → ℕ
@@ -120,9 +120,9 @@ onLast (some l) z f = f l
 abbrev pub act : Item → List ℕ → ℕ → Act
 act it b w =
     onLast (lastFor it b w) (stops (told why.WrongPlace))
-    (λ l. ruled (obeys (l .mark) it) (room (length b) w (l .header) (l .mark) (needs (l .mark) it)))
+    (λ l. elseNotPlain (obeys (l .mark) it) (room (length b) w (l .header) (l .mark) (needs (l .mark) it)))
 
--- ---- the buffer after it
+-- ---- the buffer bufferAfter it
 
 -- bytes behind w, which the last subsection, whose header stands at h, takes in
 abbrev pub grown : List ℕ → ℕ → List ℕ → ℕ → List ℕ
@@ -131,7 +131,7 @@ grown b w bs h = put (put b w bs) (h + 4) (le32 (w + length bs - h - 8))
 -- where it goes on, the last header being at h and the last mark m
 abbrev pub patch : Item → List ℕ → ℕ → ℕ → ℕ → List ℕ
 patch it b w h m =
-    cond (opens it) (put b w (header (kindOf it) (length (bytesFor m it)) ++ bytesFor m it)) (grown b w (bytesFor m it) h)
+    cond (opens it) (put b w (header (itemKind it) (length (bytesFor m it)) ++ bytesFor m it)) (grown b w (bytesFor m it) h)
 
 abbrev pub wrote : Act → Reply ℕ Told
 wrote (goes h m n) = gave n
@@ -141,12 +141,12 @@ abbrev pub kept : Act → (ℕ → ℕ → List ℕ) → List ℕ → List ℕ
 kept (goes h m n) f b = f h m
 kept (stops t) f b = b
 
--- THE ANSWER of a call, and THE BUFFER after it
+-- THE ANSWER of a call, and THE BUFFER bufferAfter it
 abbrev pub answered : Item → List ℕ → ℕ → Reply ℕ Told
 answered it b w = wrote (act it b w)
 
-abbrev pub after : Item → List ℕ → ℕ → List ℕ
-after it b w = kept (act it b w) (patch it b w) b
+abbrev pub bufferAfter : Item → List ℕ → ℕ → List ℕ
+bufferAfter it b w = kept (act it b w) (patch it b w) b
 
 -- ---- the calls by their arguments
 
@@ -171,8 +171,8 @@ callPair local global = exports (record { local = local; global = global })
 -- ---- the two shapes of a call, by what a step of the code knows: a new subsection, of whatever kind; more bytes for the last one, of kind k
 
 abbrev pub openAct : Bool → ℕ → List ℕ → ℕ → Act
-openAct t need b w = onLast (place b w) (stops (told why.WrongPlace)) (λ l. ruled t (room (length b) w (l .header) (l .mark) need))
+openAct t need b w = onLast (place b w) (stops (told why.WrongPlace)) (λ l. elseNotPlain t (room (length b) w (l .header) (l .mark) need))
 
 abbrev pub growAct : ℕ → (ℕ → Bool) → (ℕ → ℕ) → List ℕ → ℕ → Act
 growAct k rule need b w =
-    onLast (ofKind k (place b w)) (stops (told why.WrongPlace)) (λ l. ruled (rule (l .mark)) (room (length b) w (l .header) (l .mark) (need (l .mark))))
+    onLast (ofKind k (place b w)) (stops (told why.WrongPlace)) (λ l. elseNotPlain (rule (l .mark)) (room (length b) w (l .header) (l .mark) (need (l .mark))))

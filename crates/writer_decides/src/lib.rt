@@ -11,7 +11,7 @@ ghost use Rattle.body.specs.Inlinees.{extended};
 ghost use Rattle.body.specs.InlineesLaws.{extraLength};
 ghost use Rattle.body.specs.Checksums.{up4};
 ghost use Rattle.plain.specs.Told.{toldPlain};
-ghost use Rattle.writer_decides.specs.Calls.{blockRule, checksumRule, extraRule, opaqueRule, limit, place, ofKind, room, ruled, openAct, growAct};
+ghost use Rattle.writer_decides.specs.Calls.{blockRule, checksumRule, extraRule, opaqueRule, limit, place, ofKind, room, elseNotPlain, openAct, growAct};
 ghost use Rattle.writer_decides.specs.Told.{toldAct};
 use plain::PlainAnswer;
 use plain::is_opaque;
@@ -57,8 +57,8 @@ fn room_for(len: usize, written: usize, header: usize, mark: u64, need: usize) -
 }
 
 // Number 17, then 10.
-fn ruled_room(len: usize, written: usize, header: usize, mark: u64, fine: bool, need: usize) -> Step
-    ensures { λ r. ⌜ toldAct r ≡ ruled fine (room len written header mark need) ⌝ }
+fn plain_room(len: usize, written: usize, header: usize, mark: u64, fine: bool, need: usize) -> Step
+    ensures { λ r. ⌜ toldAct r ≡ elseNotPlain fine (room len written header mark need) ⌝ }
 {
     if fine {
         return room_for(len, written, header, mark, need);
@@ -99,7 +99,7 @@ pub fn open_step(buf: &[u8], written: usize, fine: bool, need: usize) -> Step
     else {
         return Step::Stop(Refusal::WrongPlace);
     };
-    ruled_room(buf.len(), written, header, mark, fine, need)
+    plain_room(buf.len(), written, header, mark, fine, need)
 }
 
 pub fn pair_step(buf: &[u8], written: usize, local: u32) -> Step
@@ -113,7 +113,7 @@ pub fn pair_step(buf: &[u8], written: usize, local: u32) -> Step
     else {
         return Step::Stop(Refusal::WrongPlace);
     };
-    ruled_room(buf.len(), written, header, mark, mark <= local as u64, 8)
+    plain_room(buf.len(), written, header, mark, mark <= local as u64, 8)
 }
 
 pub fn module_step(buf: &[u8], written: usize, words: &[u32]) -> Step
@@ -127,7 +127,7 @@ pub fn module_step(buf: &[u8], written: usize, words: &[u32]) -> Step
     else {
         return Step::Stop(Refusal::WrongPlace);
     };
-    ruled_room(buf.len(), written, header, mark, true, 8 + 4 * words.len())
+    plain_room(buf.len(), written, header, mark, true, 8 + 4 * words.len())
 }
 
 pub fn inlinee_step(buf: &[u8], written: usize, extra: &[u32]) -> Step
@@ -142,9 +142,9 @@ pub fn inlinee_step(buf: &[u8], written: usize, extra: &[u32]) -> Step
         return Step::Stop(Refusal::WrongPlace);
     };
     if mark == 1 {
-        return ruled_room(buf.len(), written, header, mark, true, 16 + 4 * extra.len());
+        return plain_room(buf.len(), written, header, mark, true, 16 + 4 * extra.len());
     }
-    ruled_room(buf.len(), written, header, mark, extra.len() == 0, 12)
+    plain_room(buf.len(), written, header, mark, extra.len() == 0, 12)
 }
 
 fn checksum_rule(kind: u8, n: usize) -> bool
@@ -167,7 +167,7 @@ pub fn checksum_step(buf: &[u8], written: usize, kind: u8, bytes: &[u8]) -> Step
     else {
         return Step::Stop(Refusal::WrongPlace);
     };
-    ruled_room(
+    plain_room(
         buf.len(),
         written,
         header,

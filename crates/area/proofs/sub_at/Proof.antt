@@ -4,7 +4,7 @@ use Prim.Native.Nat.{_-_}
 use mathlib.Core.Path.{_≡_, refl, sym, ap, _∙_}
 use borrow.Author.Needs.{needs}
 use lib.ListN.{length}
-use Rattle.area.specs.Kind.{ruled}
+use Rattle.area.specs.Kind.{crateRule}
 use Rattle.area.specs.Told.{toldHead}
 use Rattle.area.specs.Subs.{subsFrom, firstOf}
 use Rattle.area.specs.SubsLaws.{subs-is, head-falls, step-gives}
@@ -12,7 +12,7 @@ use Rattle.area.proofs.sub_at.Statement.{statement}
 use Rattle.area.proofs.sub_at.Tie as tie
 
 abbrev Inv-loop : tie.InvT-loop
-Inv-loop area at p₀ p = subsFrom ruled area p ≡ subsFrom ruled area at
+Inv-loop area at p₀ p = subsFrom crateRule area p ≡ subsFrom crateRule area at
 
 abbrev μ-loop : tie.MeasureT-loop
 μ-loop area at p₀ p = length area - p

@@ -7,8 +7,8 @@ use mathlib.Core.Path.{_≡_, sym}
 use native.Mathlib.Omega.{arith}
 use lib.ListN.{length}
 use lib.Seq.{length-take-le}
-use Rattle.area.specs.Kind.{ruled}
-use Rattle.listing.specs.Dump.{size}
+use Rattle.area.specs.Kind.{crateRule}
+use Rattle.listing.specs.Dump.{sheetSize}
 use Rattle.listing.specs.LessLaws.{textLeft, text-line}
 use Rattle.listing.specs.DumpLaws.{linesFrom}
 use Rattle.listing.specs.declared.TextWalk.the-variants.{Head}
@@ -18,10 +18,10 @@ use Rattle.dump.proofs.print_lines.Tie as tie
 
 abbrev Inv-loop : tie.InvT-loop
 Inv-loop area slots line₀ walk₀ count₀ line walk count =
-    (1024 ≡ length line) × (count + size (linesFrom ruled area slots walk) ≡ size (linesFrom ruled area slots Head))
+    (1024 ≡ length line) × (count + sheetSize (linesFrom crateRule area slots walk) ≡ sheetSize (linesFrom crateRule area slots Head))
 
 abbrev μ-loop : tie.MeasureT-loop
-μ-loop area slots line₀ walk₀ count₀ line walk count = textLeft ruled area walk
+μ-loop area slots line₀ walk₀ count₀ line walk count = textLeft crateRule area walk
 
 array-share-prefix-line : tie.Need-array-share-prefix-line Inv-loop μ-loop
 array-share-prefix-line c =
@@ -29,7 +29,7 @@ array-share-prefix-line c =
     let n = m .before .before .before in
     let l = n .before .before in
     let a = l .before .before .before .args in
-    omega (arith, text-line ruled (a .area .now) (a .slots .now) _ _ _ _ (l .loop .walk) _ (m .len .given .1) (n .next-text .ensures))
+    omega (arith, text-line crateRule (a .area .now) (a .slots .now) _ _ _ _ (l .loop .walk) _ (m .len .given .1) (n .next-text .ensures))
 
 slice-aggregate-write-all : tie.Need-slice-aggregate-write-all Inv-loop μ-loop
 slice-aggregate-write-all c =
@@ -37,7 +37,7 @@ slice-aggregate-write-all c =
     let n = m .before .before .before in
     let l = n .before .before in
     let a = l .before .before .before .args in
-    sym (length-take-le _ _ (text-line ruled (a .area .now) (a .slots .now) _ _ _ _ (l .loop .walk) _ (m .len .given .1) (n .next-text .ensures) .0))
+    sym (length-take-le _ _ (text-line crateRule (a .area .now) (a .slots .now) _ _ _ _ (l .loop .walk) _ (m .len .given .1) (n .next-text .ensures) .0))
 
 add-count : tie.Need-add-count Inv-loop μ-loop
 add-count c =
@@ -45,8 +45,8 @@ add-count c =
     let n = m .before .before .before in
     let l = n .before .before in
     let a = l .before .before .before .args in
-    let e = text-counts ruled (a .area .now) (a .slots .now) _ _ _ _ (l .loop .walk) (m .len .given .1) (n .next-text .ensures) (omega (arith, l .loop .inv .0)) in
-    omega (arith, e, l .loop .inv .1, lines-few ruled (a .area .now) (a .slots .now))
+    let e = text-counts crateRule (a .area .now) (a .slots .now) _ _ _ _ (l .loop .walk) (m .len .given .1) (n .next-text .ensures) (omega (arith, l .loop .inv .0)) in
+    omega (arith, e, l .loop .inv .1, lines-few crateRule (a .area .now) (a .slots .now))
 
 loop-less : tie.Need-loop-less Inv-loop μ-loop
 loop-less c =
@@ -54,7 +54,7 @@ loop-less c =
     let n = m .before .before .before in
     let l = n .before .before in
     let a = l .before .before .before .args in
-    omega (arith, text-line ruled (a .area .now) (a .slots .now) _ _ _ _ (l .loop .walk) _ (m .len .given .1) (n .next-text .ensures) .1)
+    omega (arith, text-line crateRule (a .area .now) (a .slots .now) _ _ _ _ (l .loop .walk) _ (m .len .given .1) (n .next-text .ensures) .1)
 
 loop-again : tie.Need-loop-again Inv-loop μ-loop
 loop-again c =
@@ -62,7 +62,7 @@ loop-again c =
     let n = m .before .before .before in
     let l = n .before .before in
     let a = l .before .before .before .args in
-    let e = text-counts ruled (a .area .now) (a .slots .now) _ _ _ _ (l .loop .walk) (m .len .given .1) (n .next-text .ensures) (omega (arith, l .loop .inv .0)) in
+    let e = text-counts crateRule (a .area .now) (a .slots .now) _ _ _ _ (l .loop .walk) (m .len .given .1) (n .next-text .ensures) (omega (arith, l .loop .inv .0)) in
     (search needs, omega (arith, e, l .loop .inv .1))
 
 returns : tie.Need-returns Inv-loop μ-loop
@@ -70,7 +70,7 @@ returns c =
     let n = c .before .before .before in
     let l = n .before .before in
     let a = l .before .before .before .args in
-    let e = text-counts ruled (a .area .now) (a .slots .now) _ _ _ _ (l .loop .walk) (c .enum-told .given .1) (n .next-text .ensures) (omega (arith, l .loop .inv .0)) in
+    let e = text-counts crateRule (a .area .now) (a .slots .now) _ _ _ _ (l .loop .walk) (c .enum-told .given .1) (n .next-text .ensures) (omega (arith, l .loop .inv .0)) in
     omega (arith, e, l .loop .inv .1)
 
 returns-2 : tie.Need-returns-2 Inv-loop μ-loop
@@ -78,7 +78,7 @@ returns-2 c =
     let n = c .before .before .before in
     let l = n .before .before in
     let a = l .before .before .before .args in
-    let e = text-counts ruled (a .area .now) (a .slots .now) _ _ _ _ (l .loop .walk) (c .enum-told2 .given .1) (n .next-text .ensures) (omega (arith, l .loop .inv .0)) in
+    let e = text-counts crateRule (a .area .now) (a .slots .now) _ _ _ _ (l .loop .walk) (c .enum-told2 .given .1) (n .next-text .ensures) (omega (arith, l .loop .inv .0)) in
     omega (arith, e, l .loop .inv .1)
 
 pub print-lines-spec : {M : Type 1} → statement M

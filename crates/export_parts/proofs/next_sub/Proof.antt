@@ -2,7 +2,7 @@
 -- Assumes nothing.
 use borrow.Author.Needs.{needs}
 use mathlib.Core.Path.{sym, ap, _∙_}
-use Rattle.area.specs.Kind.{ruled}
+use Rattle.area.specs.Kind.{crateRule}
 use Rattle.area.specs.Subs.{stepAt}
 use Rattle.area.specs.Told.{toldStep}
 use Rattle.answer_words.specs.Given.{stepGiven}
@@ -14,19 +14,19 @@ use Rattle.export_parts.proofs.next_sub.Tie as tie
 returns : tie.Need-returns
 returns c =
     let h = c .before .before .before .before .before .before in
-    let e = ap toldStep (sym (h .kind .given .1)) ∙ h .before .before .sub-at .ensures ∙ ap (stepAt ruled _) (h .before .before .before .state-word .ensures) in
+    let e = ap toldStep (sym (h .kind .given .1)) ∙ h .before .before .sub-at .ensures ∙ ap (stepAt crateRule _) (h .before .before .before .state-word .ensures) in
     gives-as (stepGiven 1 subWords) e (c .before .before .put .ensures)
 
 returns-2 : tie.Need-returns-2
 returns-2 c =
     let h = c .before .before in
-    let e = ap toldStep (sym (c .enum-told .given .1)) ∙ h .sub-at .ensures ∙ ap (stepAt ruled _) (h .before .state-word .ensures) in
+    let e = ap toldStep (sym (c .enum-told .given .1)) ∙ h .sub-at .ensures ∙ ap (stepAt crateRule _) (h .before .state-word .ensures) in
     gives-as (stepGiven 1 subWords) e (gives-none _)
 
 returns-3 : tie.Need-returns-3
 returns-3 c =
     let h = c .before .before .before .before .before in
-    let e = ap toldStep (sym (h .why .given .1)) ∙ h .before .before .sub-at .ensures ∙ ap (stepAt ruled _) (h .before .before .before .state-word .ensures) in
+    let e = ap toldStep (sym (h .why .given .1)) ∙ h .before .before .sub-at .ensures ∙ ap (stepAt crateRule _) (h .before .before .before .state-word .ensures) in
     gives-as (stepGiven 1 subWords) e (c .before .before .put-refusal .ensures)
 
 pub next-sub-spec : {M : Type 1} → statement M

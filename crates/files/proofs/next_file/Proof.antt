@@ -3,7 +3,7 @@
 use borrow.Author.Needs.{needs}
 use native.Mathlib.Omega.{arith}
 use mathlib.Core.Path.{sym, ap, _∙_}
-use Rattle.area.specs.Kind.{ruled}
+use Rattle.area.specs.Kind.{crateRule}
 use Rattle.checksums.specs.Told.{toldEntry}
 use Rattle.checksums.specs.EntryLaws.{entry-lies}
 use Rattle.files.specs.FilesLaws.{file-steps, file-entry}
@@ -16,14 +16,14 @@ next-file-spec =
     (tie.spec
     (λ c κs. search needs)
     (λ c. search needs)
-    (λ c. let l = c .before in let a = l .before .before .before .before .args in omega (arith, file-steps ruled (a .area .now) (a .walk) .lies (l .start .given .1) (l .before .before .spot-files .ensures)))
+    (λ c. let l = c .before in let a = l .before .before .before .before .args in omega (arith, file-steps crateRule (a .area .now) (a .walk) .lies (l .start .given .1) (l .before .before .spot-files .ensures)))
     (λ c. search needs)
     (λ c. search needs)
-    (λ c. let l = c .before in let a = l .before .before .before .before .args in omega (arith, file-steps ruled (a .area .now) (a .walk) .lies (l .start .given .1) (l .before .before .spot-files .ensures)))
+    (λ c. let l = c .before in let a = l .before .before .before .before .args in omega (arith, file-steps crateRule (a .area .now) (a .walk) .lies (l .start .given .1) (l .before .before .spot-files .ensures)))
     (λ c κs. search needs)
     (λ c. search needs)
-    (λ c. let m = c .before in let l = m .before .before .before .before .before in let a = l .before .before .before .before .args in omega (arith, file-steps ruled (a .area .now) (a .walk) .lies (l .start .given .1) (l .before .before .spot-files .ensures), entry-lies _ _ _ _ (ap toldEntry (sym (m .name .given .1)) ∙ m .before .before .entry-at .ensures)))
-    (λ c. let m = c .before in let l = m .before .before .before .before .before in let a = l .before .before .before .before .args in omega (arith, file-steps ruled (a .area .now) (a .walk) .lies (l .start .given .1) (l .before .before .spot-files .ensures), entry-lies _ _ _ _ (ap toldEntry (sym (m .name .given .1)) ∙ m .before .before .entry-at .ensures)))
+    (λ c. let m = c .before in let l = m .before .before .before .before .before in let a = l .before .before .before .before .args in omega (arith, file-steps crateRule (a .area .now) (a .walk) .lies (l .start .given .1) (l .before .before .spot-files .ensures), entry-lies _ _ _ _ (ap toldEntry (sym (m .name .given .1)) ∙ m .before .before .entry-at .ensures)))
+    (λ c. let m = c .before in let l = m .before .before .before .before .before in let a = l .before .before .before .before .args in omega (arith, file-steps crateRule (a .area .now) (a .walk) .lies (l .start .given .1) (l .before .before .spot-files .ensures), entry-lies _ _ _ _ (ap toldEntry (sym (m .name .given .1)) ∙ m .before .before .entry-at .ensures)))
     (λ c. search needs)
     (λ c. search needs)
     (λ c. search needs)

@@ -7,7 +7,7 @@ use borrow.Author.Needs.{needs}
 use borrow.Author.Tests.{eq-eqb, ne-eqb}
 use lib.ListN.{length}
 use Rattle.walk.specs.Pick.{firstBy, mapReply}
-use Rattle.area.specs.Kind.{ruled}
+use Rattle.area.specs.Kind.{crateRule}
 use Rattle.area.specs.Told.{toldStep}
 use Rattle.area.specs.Subs.{subsFrom}
 use Rattle.area.specs.SubsLaws.{sub-next}
@@ -17,7 +17,7 @@ use Rattle.find.proofs.first_of.Statement.{statement}
 use Rattle.find.proofs.first_of.Tie as tie
 
 abbrev Inv-loop : tie.InvT-loop
-Inv-loop area wanted p₀ p = mapReply spanOf same (firstBy (is wanted) (subsFrom ruled area p)) ≡ mapReply spanOf same (firstBy (is wanted) (subsFrom ruled area 0))
+Inv-loop area wanted p₀ p = mapReply spanOf same (firstBy (is wanted) (subsFrom crateRule area p)) ≡ mapReply spanOf same (firstBy (is wanted) (subsFrom crateRule area 0))
 
 abbrev μ-loop : tie.MeasureT-loop
 μ-loop area wanted p₀ p = length area - p

@@ -6,7 +6,7 @@ use mathlib.Core.Path.{_≡_, sym, ap, _∙_}
 use native.Mathlib.Omega.{arith}
 use borrow.Author.Needs.{needs}
 use lib.ListN.{length}
-use Rattle.area.specs.Kind.{ruled}
+use Rattle.area.specs.Kind.{crateRule}
 use Rattle.area.specs.Told.{toldStep}
 use Rattle.area.specs.SubsLaws.{sub-next}
 use Rattle.find.specs.Find.{lastSub}
@@ -16,7 +16,7 @@ use Rattle.find.proofs.last_of.Statement.{statement}
 use Rattle.find.proofs.last_of.Tie as tie
 
 abbrev Inv-loop : tie.InvT-loop
-Inv-loop area wanted best₀ p₀ best p = Best ruled area wanted p (toldFound best) ≡ lastSub ruled wanted area
+Inv-loop area wanted best₀ p₀ best p = Best crateRule area wanted p (toldFound best) ≡ lastSub crateRule wanted area
 
 abbrev μ-loop : tie.MeasureT-loop
 μ-loop area wanted best₀ p₀ best p = length area - p

@@ -3,8 +3,8 @@
 use borrow.Author.Needs.{needs}
 use native.Mathlib.Omega.{arith}
 use mathlib.Core.Path.{sym, ap, _∙_}
-use Rattle.area.specs.Kind.{ruled}
-use Rattle.inlinees.specs.Told.{toldLine}
+use Rattle.area.specs.Kind.{crateRule}
+use Rattle.inlinees.specs.Told.{toldSourceLine}
 use Rattle.inlinees.specs.SourceLineLaws.{line-lies}
 use Rattle.inlinees.specs.InlineesLaws.{inlinee-steps}
 use Rattle.inlinees.proofs.next_inlinee.Statement.{statement}
@@ -16,13 +16,13 @@ next-inlinee-spec =
     (tie.spec
     (λ c κs. search needs)
     (λ c. search needs)
-    (λ c. let l = c .before in let a = l .before .before .before .before .args in omega (arith, inlinee-steps ruled (a .area .now) (a .walk) .lies (l .start .given .1) (l .before .before .spot-first .ensures)))
+    (λ c. let l = c .before in let a = l .before .before .before .before .args in omega (arith, inlinee-steps crateRule (a .area .now) (a .walk) .lies (l .start .given .1) (l .before .before .spot-first .ensures)))
     (λ c. search needs)
     (λ c. search needs)
-    (λ c. let l = c .before in let a = l .before .before .before .before .args in omega (arith, inlinee-steps ruled (a .area .now) (a .walk) .lies (l .start .given .1) (l .before .before .spot-first .ensures)))
+    (λ c. let l = c .before in let a = l .before .before .before .before .args in omega (arith, inlinee-steps crateRule (a .area .now) (a .walk) .lies (l .start .given .1) (l .before .before .spot-first .ensures)))
     (λ c κs. search needs)
     (λ c. search needs)
-    (λ c. let m = c .before in let l = m .before .before .before .before .before in let a = l .before .before .before .before .args in omega (arith, inlinee-steps ruled (a .area .now) (a .walk) .lies (l .start .given .1) (l .before .before .spot-first .ensures), line-lies _ _ _ _ (ap toldLine (sym (m .inlinee .given .1)) ∙ m .before .before .source-line-at .ensures)))
+    (λ c. let m = c .before in let l = m .before .before .before .before .before in let a = l .before .before .before .before .args in omega (arith, inlinee-steps crateRule (a .area .now) (a .walk) .lies (l .start .given .1) (l .before .before .spot-first .ensures), line-lies _ _ _ _ (ap toldSourceLine (sym (m .inlinee .given .1)) ∙ m .before .before .source-line-at .ensures)))
     (λ c. search needs)
     (λ c. search needs)
     (λ c. search needs)

@@ -3,7 +3,7 @@
 -- Assumes nothing.
 use borrow.Author.Needs.{needs}
 use mathlib.Core.Path.{_≡_, refl, sym, ap, _∙_}
-use Rattle.area.specs.Kind.{ruled}
+use Rattle.area.specs.Kind.{crateRule}
 use Rattle.line_step.specs.Told.{toldTurn}
 use Rattle.line_walk.specs.Next.{todo, nextOf}
 use Rattle.line_walk.specs.NextLaws.{next-is, next-falls}
@@ -11,10 +11,10 @@ use Rattle.line_walk.proofs.next_line.Statement.{statement}
 use Rattle.line_walk.proofs.next_line.Tie as tie
 
 abbrev Inv-loop : tie.InvT-loop
-Inv-loop area slots w₀ w = nextOf ruled area slots w ≡ nextOf ruled area slots w₀
+Inv-loop area slots w₀ w = nextOf crateRule area slots w ≡ nextOf crateRule area slots w₀
 
 abbrev μ-loop : tie.MeasureT-loop
-μ-loop area slots w₀ w = todo ruled area w
+μ-loop area slots w₀ w = todo crateRule area w
 
 returns : tie.Need-returns Inv-loop μ-loop
 returns c =
@@ -25,7 +25,7 @@ loop-less : tie.Need-loop-less Inv-loop μ-loop
 loop-less c =
     let h = c .before .before .before in
     let a = h .before .before .before .before .args in
-    next-falls ruled (a .area .now) (a .slots .now) (h .before .loop .w) _ (ap toldTurn (sym (c .before .t .given .1)) ∙ h .take-turn .ensures)
+    next-falls crateRule (a .area .now) (a .slots .now) (h .before .loop .w) _ (ap toldTurn (sym (c .before .t .given .1)) ∙ h .take-turn .ensures)
 
 loop-again : tie.Need-loop-again Inv-loop μ-loop
 loop-again c =

@@ -6,7 +6,7 @@ use Prim.Native.Nat.{_-_, _≤_}
 use mathlib.Core.Path.{_≡_, sym, ap, _∙_}
 use native.Mathlib.Omega.{arith}
 use lib.ListN.{length}
-use Rattle.area.specs.Kind.{ruled}
+use Rattle.area.specs.Kind.{crateRule}
 use Rattle.area.specs.Told.{toldStep}
 use Rattle.area.specs.SubsLaws.{sub-next}
 use Rattle.lines.specs.Lines.{plus, countOf, countLines, linesFrom}
@@ -15,7 +15,7 @@ use Rattle.lines.proofs.count_lines.Statement.{statement}
 use Rattle.lines.proofs.count_lines.Tie as tie
 
 abbrev Inv-loop : tie.InvT-loop
-Inv-loop area n₀ p₀ n p = (plus n (countOf (linesFrom ruled area p)) ≡ countLines ruled area) × (n ≤ p)
+Inv-loop area n₀ p₀ n p = (plus n (countOf (linesFrom crateRule area p)) ≡ countLines crateRule area) × (n ≤ p)
 
 abbrev μ-loop : tie.MeasureT-loop
 μ-loop area n₀ p₀ n p = length area - p

@@ -6,7 +6,7 @@ use Prim.Native.Nat.{_-_}
 use mathlib.Core.Path.{_≡_, refl, sym, ap, _∙_}
 use native.Mathlib.Omega.{arith}
 use lib.ListN.{length}
-use Rattle.area.specs.Kind.{ruled}
+use Rattle.area.specs.Kind.{crateRule}
 use Rattle.area.specs.Told.{toldStep}
 use Rattle.area.specs.SubsLaws.{sub-next}
 use Rattle.find.specs.FindLaws.{first-end, first-refused}
@@ -16,7 +16,7 @@ use Rattle.lines.proofs.seek.Statement.{statement}
 use Rattle.lines.proofs.seek.Tie as tie
 
 abbrev Inv-loop : tie.InvT-loop
-Inv-loop area from body p₀ p = bodyFrom ruled area p body ≡ bodyFrom ruled area from body
+Inv-loop area from body p₀ p = bodyFrom crateRule area p body ≡ bodyFrom crateRule area from body
 
 abbrev μ-loop : tie.MeasureT-loop
 μ-loop area from body p₀ p = length area - p

@@ -6,7 +6,7 @@ use Prim.Native.Nat.{_-_}
 use mathlib.Core.Path.{_≡_, refl, sym, ap, _∙_}
 use native.Mathlib.Omega.{arith}
 use lib.ListN.{length}
-use Rattle.area.specs.Kind.{ruled}
+use Rattle.area.specs.Kind.{crateRule}
 use Rattle.area.specs.Subs.{subsFrom}
 use Rattle.area.specs.Told.{toldStep}
 use Rattle.area.specs.SubsLaws.{sub-next}
@@ -16,7 +16,7 @@ use Rattle.list_test.proofs.comes_to.Statement.{statement}
 use Rattle.list_test.proofs.comes_to.Tie as tie
 
 abbrev Inv-loop : tie.InvT-loop
-Inv-loop area place p₀ p = comesBy place p (subsFrom ruled area p) ≡ comesTo ruled area place
+Inv-loop area place p₀ p = comesBy place p (subsFrom crateRule area p) ≡ comesTo crateRule area place
 
 abbrev μ-loop : tie.MeasureT-loop
 μ-loop area place p₀ p = length area - p

@@ -6,7 +6,7 @@ use Prim.Native.Nat.{_-_, _≤_}
 use mathlib.Core.Path.{_≡_, refl, sym, ap, _∙_}
 use native.Mathlib.Omega.{arith}
 use lib.ListN.{length}
-use Rattle.area.specs.Kind.{ruled}
+use Rattle.area.specs.Kind.{crateRule}
 use Rattle.area.specs.Told.{toldStep}
 use Rattle.area.specs.SubsLaws.{sub-next}
 use Rattle.lines.specs.Lines.{plus, countOf, countLines, linesFrom}
@@ -21,8 +21,8 @@ use Rattle.list_test.proofs.found.Tie as tie
 
 abbrev Inv-loop : tie.InvT-loop
 Inv-loop area named n₀ behind₀ p₀ n behind p =
-    (plus n (countOf (linesFrom ruled area p)) ≡ countLines ruled area) × (n ≤ p)
-    × (allFound (rank area) named behind (startsFrom ruled area p) ≡ allFound (rank area) named 0 (startsFrom ruled area 0))
+    (plus n (countOf (linesFrom crateRule area p)) ≡ countLines crateRule area) × (n ≤ p)
+    × (allFound (rank area) named behind (startsFrom crateRule area p) ≡ allFound (rank area) named 0 (startsFrom crateRule area 0))
 
 abbrev μ-loop : tie.MeasureT-loop
 μ-loop area named n₀ behind₀ p₀ n behind p = length area - p

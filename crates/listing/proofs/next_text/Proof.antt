@@ -3,7 +3,7 @@
 use borrow.Author.Needs.{needs}
 use native.Mathlib.Omega.{arith}
 use mathlib.Core.Path.{sym, ap}
-use Rattle.area.specs.Kind.{ruled}
+use Rattle.area.specs.Kind.{crateRule}
 use Rattle.listing.specs.Step.{stepOf}
 use Rattle.listing.specs.StepLaws.{step-none, step-is, none-shown}
 use Rattle.listing.proofs.next_text.Statement.{statement}
@@ -12,22 +12,22 @@ use Rattle.listing.proofs.next_text.Tie as tie
 returns-2 : tie.Need-returns-2
 returns-2 c =
     let m = c .before .before .before .before in
-    step-is _ _ _ _ _ (omega arith) (c .before .before .head-step .ensures) (ap (stepOf ruled _ _) (sym (m .enum-told .given .1)))
+    step-is _ _ _ _ _ (omega arith) (c .before .before .head-step .ensures) (ap (stepOf crateRule _ _) (sym (m .enum-told .given .1)))
 
 returns-3 : tie.Need-returns-3
 returns-3 c =
     let m = c .before .before .before .before in
-    step-is _ _ _ _ _ (omega arith) (c .before .before .subs-step .ensures) (ap (stepOf ruled _ _) (sym (m .before .walk .given .1)))
+    step-is _ _ _ _ _ (omega arith) (c .before .before .subs-step .ensures) (ap (stepOf crateRule _ _) (sym (m .before .walk .given .1)))
 
 returns-4 : tie.Need-returns-4
 returns-4 c =
     let m = c .before .before .before .before in
-    step-is _ _ _ _ _ (omega arith) (c .before .before .files-step .ensures) (ap (stepOf ruled _ _) (sym (m .before .walk2 .given .1)))
+    step-is _ _ _ _ _ (omega arith) (c .before .before .files-step .ensures) (ap (stepOf crateRule _ _) (sym (m .before .walk2 .given .1)))
 
 returns-5 : tie.Need-returns-5
 returns-5 c =
     let m = c .before .before .before .before in
-    step-is _ _ _ _ _ (omega arith) (c .before .before .lines-step .ensures) (ap (stepOf ruled _ _) (sym (m .before .walk3 .given .1)))
+    step-is _ _ _ _ _ (omega arith) (c .before .before .lines-step .ensures) (ap (stepOf crateRule _ _) (sym (m .before .walk3 .given .1)))
 
 pub next-text-spec : {M : Type 1} → statement M
 next-text-spec =
@@ -51,4 +51,4 @@ next-text-spec =
     returns-4
     (λ c. search needs)
     returns-5
-    (λ c. step-is _ _ _ _ _ (omega arith) (none-shown _) (ap (stepOf ruled _ _) (sym (c .enum-told2 .given .1)))))
+    (λ c. step-is _ _ _ _ _ (omega arith) (none-shown _) (ap (stepOf crateRule _ _) (sym (c .enum-told2 .given .1)))))

@@ -3,7 +3,7 @@
 use borrow.Author.Needs.{needs}
 use native.Mathlib.Omega.{arith}
 use mathlib.Core.Path.{_∙_}
-use Rattle.area.specs.Kind.{ruled}
+use Rattle.area.specs.Kind.{crateRule}
 use Rattle.files.specs.Files.{fileStep}
 use Rattle.answer_words.specs.FillLaws.{fill-no-room}
 use Rattle.many_files.specs.FileWords.{fileWords}
@@ -14,7 +14,7 @@ use Rattle.many_files.proofs.next_files.Tie as tie
 returns : tie.Need-returns
 returns c =
     let a = c .before .before .before .before .before .args in
-    let q = fill-no-room 5 fileWords file-length (fileStep ruled _) _ (a .out .now) (omega arith) _ (c .before .next-file .ensures) in
+    let q = fill-no-room 5 fileWords file-length (fileStep crateRule _) _ (a .out .now) (omega arith) _ (c .before .next-file .ensures) in
     (c .no-room .ensures ∙ q .0, q .1)
 
 pub next-files-spec : {M : Type 1} → statement M

@@ -3,7 +3,7 @@
 use borrow.Author.Needs.{needs}
 use native.Mathlib.Omega.{arith}
 use mathlib.Core.Path.{sym, ap, _∙_}
-use Rattle.area.specs.Kind.{ruled}
+use Rattle.area.specs.Kind.{crateRule}
 use Rattle.walk.specs.Listing.{item, pass, over, fail}
 use Rattle.line_step.specs.Told.{toldTurn}
 use Rattle.line_walk.specs.Next.{todo}
@@ -15,10 +15,10 @@ use Rattle.many_lines.proofs.behind.Statement.{statement}
 use Rattle.many_lines.proofs.behind.Tie as tie
 
 abbrev Inv-loop : tie.InvT-loop
-Inv-loop area slots whole n left₀ last₀ w₀ left last w = Behind area slots w₀ n left last w × Led ruled area slots whole w
+Inv-loop area slots whole n left₀ last₀ w₀ left last w = Behind area slots w₀ n left last w × Led crateRule area slots whole w
 
 abbrev μ-loop : tie.MeasureT-loop
-μ-loop area slots whole n left₀ last₀ w₀ left last w = todo ruled area w
+μ-loop area slots whole n left₀ last₀ w₀ left last w = todo crateRule area w
 
 loop-holds : tie.Need-loop-holds Inv-loop μ-loop
 loop-holds c = (behind-start _ _ _ _, c .before .before .pre)
@@ -33,25 +33,25 @@ sub-left : tie.Need-sub-left Inv-loop μ-loop
 sub-left c = search needs
 
 loop-less : tie.Need-loop-less Inv-loop μ-loop
-loop-less c = record-falls ruled _ _ _ _ _ (ap toldTurn (sym (c .before .t .given .1)) ∙ c .before .before .before .led-turn .ensures)
+loop-less c = record-falls crateRule _ _ _ _ _ (ap toldTurn (sym (c .before .t .given .1)) ∙ c .before .before .before .led-turn .ensures)
 
 loop-again : tie.Need-loop-again Inv-loop μ-loop
 loop-again c =
     let l = c .before .before .before .before .before .loop in
     let e = ap toldTurn (sym (c .before .t .given .1)) ∙ c .before .before .before .led-turn .ensures in
-    (behind-record _ _ _ _ _ _ _ (l .inv .0) (omega arith) _ _ e, led-kept ruled _ _ _ _ (l .inv .1) (item _ _) e)
+    (behind-record _ _ _ _ _ _ _ (l .inv .0) (omega arith) _ _ e, led-kept crateRule _ _ _ _ (l .inv .1) (item _ _) e)
 
 enum-known-t-2 : tie.Need-enum-known-t-2 Inv-loop μ-loop
 enum-known-t-2 c = search needs
 
 loop-less-2 : tie.Need-loop-less-2 Inv-loop μ-loop
-loop-less-2 c = next-falls ruled _ _ _ _ (ap toldTurn (sym (c .before .t2 .given .1)) ∙ c .before .before .before .led-turn .ensures)
+loop-less-2 c = next-falls crateRule _ _ _ _ (ap toldTurn (sym (c .before .t2 .given .1)) ∙ c .before .before .before .led-turn .ensures)
 
 loop-again-2 : tie.Need-loop-again-2 Inv-loop μ-loop
 loop-again-2 c =
     let l = c .before .before .before .before .before .loop in
     let e = ap toldTurn (sym (c .before .t2 .given .1)) ∙ c .before .before .before .led-turn .ensures in
-    (behind-pass _ _ _ _ _ _ _ (l .inv .0) _ e, led-kept ruled _ _ _ _ (l .inv .1) (pass _) e)
+    (behind-pass _ _ _ _ _ _ _ (l .inv .0) _ e, led-kept crateRule _ _ _ _ (l .inv .1) (pass _) e)
 
 enum-told : tie.Need-enum-told Inv-loop μ-loop
 enum-told c = search needs

@@ -3,7 +3,7 @@
 use borrow.Author.Needs.{needs}
 use native.Mathlib.Omega.{arith}
 use mathlib.Core.Path.{refl, subst}
-use Rattle.area.specs.Kind.{ruled}
+use Rattle.area.specs.Kind.{crateRule}
 use Rattle.many_lines.specs.LedLaws.{Led}
 use Rattle.many_lines.specs.WentLaws.{went-same, went-as}
 use Rattle.many_lines.proofs.faster.Statement.{statement}
@@ -15,7 +15,7 @@ returns c = went-same _ _ _ _ _ _ _ (c .before .before .before .before .pre .0) 
 opened-requires : tie.Need-opened-requires
 opened-requires c κs =
     let p = c .before .before .before .before .before .before .before .pre in
-    (subst (Led ruled _ _ _) (c .before .enum-told .given .1) (p .0), (p .1, omega (arith, c .before .before .before .if1 .left)))
+    (subst (Led crateRule _ _ _) (c .before .enum-told .given .1) (p .0), (p .1, omega (arith, c .before .before .before .if1 .left)))
 
 returns-2 : tie.Need-returns-2
 returns-2 c = went-same _ _ _ _ _ _ _ (c .before .before .before .before .before .before .before .before .before .pre .0) _ (c .before .before .before .w .given .1)
@@ -23,12 +23,12 @@ returns-2 c = went-same _ _ _ _ _ _ _ (c .before .before .before .before .before
 bodies-requires : tie.Need-bodies-requires
 bodies-requires c κs =
     let p = c .before .before .before .before .before .before .before .before .before .before .before .pre in
-    (subst (Led ruled _ _ _) (c .before .before .before .before .before .w .given .1) (p .0), (p .1, omega (arith, c .before .before .before .before .before .before .before .if1 .left)))
+    (subst (Led crateRule _ _ _) (c .before .before .before .before .before .w .given .1) (p .0), (p .1, omega (arith, c .before .before .before .before .before .before .before .if1 .left)))
 
 bodies-requires-2 : tie.Need-bodies-requires-2
 bodies-requires-2 c κs =
     let p = c .before .before .before .before .before .before .before .before .pre in
-    (subst (Led ruled _ _ _) (c .before .before .w2 .given .1) (p .0), (p .1, omega (arith, c .before .before .before .before .if1 .left)))
+    (subst (Led crateRule _ _ _) (c .before .before .w2 .given .1) (p .0), (p .1, omega (arith, c .before .before .before .before .if1 .left)))
 
 returns-3 : tie.Need-returns-3
 returns-3 c = went-as _ _ _ _ _ _ _ _ (c .before .before .before .before .enum-told .given .1) _ _ (c .before .before .opened .ensures)

@@ -7,7 +7,7 @@ use mathlib.Core.Path.{_≡_, refl, sym, ap, _∙_}
 use Prim.Native.Nat.{_/_}
 use mathlib.Core.Bool.{true}
 use lib.ListN.{length}
-use Rattle.area.specs.Kind.{ruled}
+use Rattle.area.specs.Kind.{crateRule}
 use Rattle.walk.specs.Listing.{item, pass, over, fail}
 use Rattle.line_step.specs.Told.{toldTurn}
 use Rattle.line_walk.specs.Next.{todo}
@@ -21,17 +21,17 @@ use Rattle.many_lines.proofs.fill.Tie as tie
 
 abbrev Inv-loop : tie.InvT-loop
 Inv-loop area slots walk out₀ whole room n₀ w₀ exact₀ fast₀ out n w exact fast =
-    Standing area slots walk out₀ n w exact out × (room ≡ length out₀ / 12) × Led ruled area slots whole w × Led ruled area slots whole walk
+    Standing area slots walk out₀ n w exact out × (room ≡ length out₀ / 12) × Led crateRule area slots whole w × Led crateRule area slots whole walk
 
 abbrev μ-loop : tie.MeasureT-loop
-μ-loop area slots walk out₀ whole room n₀ w₀ exact₀ fast₀ out n w exact fast = toGo fast (todo ruled area w)
+μ-loop area slots walk out₀ whole room n₀ w₀ exact₀ fast₀ out n w exact fast = toGo fast (todo crateRule area w)
 
 tested-for-requires : tie.Need-tested-for-requires Inv-loop μ-loop
 tested-for-requires c κs = search needs
 
 loop-holds : tie.Need-loop-holds Inv-loop μ-loop
 loop-holds c =
-    let h = led-start ruled _ _ _ _ (c .tested-for .ensures) in
+    let h = led-start crateRule _ _ _ _ (c .tested-for .ensures) in
     (stand-start _ _ _ _, refl, h, h)
 
 faster-requires : tie.Need-faster-requires Inv-loop μ-loop
@@ -63,7 +63,7 @@ loop-less-2 : tie.Need-loop-less-2 Inv-loop μ-loop
 loop-less-2 c =
     let m = c .before .before .before .before .before in
     let q = m .before .before in
-    go-turn _ _ _ (q .before .if1 .left) (record-falls ruled _ _ _ _ _ (ap toldTurn (sym (m .r .given .1)) ∙ q .led-turn .ensures)) (q .before .before .before .loop .fast)
+    go-turn _ _ _ (q .before .if1 .left) (record-falls crateRule _ _ _ _ _ (ap toldTurn (sym (m .r .given .1)) ∙ q .led-turn .ensures)) (q .before .before .before .loop .fast)
 
 loop-again-2 : tie.Need-loop-again-2 Inv-loop μ-loop
 loop-again-2 c =
@@ -71,13 +71,13 @@ loop-again-2 c =
     let q = m .before .before in
     let l = q .before .before .before .loop in
     let e = ap toldTurn (sym (m .r .given .1)) ∙ q .led-turn .ensures in
-    (stand-record _ _ _ _ (l .n) (l .w) (l .exact) (l .out) (l .inv .0) _ _ _ e (omega (arith, l .inv .1)) (c .before .before .put-record .ensures), l .inv .1, led-kept ruled _ _ _ _ (l .inv .2) (item _ _) e, l .inv .3)
+    (stand-record _ _ _ _ (l .n) (l .w) (l .exact) (l .out) (l .inv .0) _ _ _ e (omega (arith, l .inv .1)) (c .before .before .put-record .ensures), l .inv .1, led-kept crateRule _ _ _ _ (l .inv .2) (item _ _) e, l .inv .3)
 
 loop-less-3 : tie.Need-loop-less-3 Inv-loop μ-loop
 loop-less-3 c =
     let m = c .before in
     let q = m .before .before in
-    go-turn _ _ _ (q .before .if1 .left) (next-falls ruled _ _ _ _ (ap toldTurn (sym (m .t .given .1)) ∙ q .led-turn .ensures)) true
+    go-turn _ _ _ (q .before .if1 .left) (next-falls crateRule _ _ _ _ (ap toldTurn (sym (m .t .given .1)) ∙ q .led-turn .ensures)) true
 
 loop-again-3 : tie.Need-loop-again-3 Inv-loop μ-loop
 loop-again-3 c =
@@ -85,7 +85,7 @@ loop-again-3 c =
     let q = m .before .before in
     let l = q .before .before .before .loop in
     let e = ap toldTurn (sym (m .t .given .1)) ∙ q .led-turn .ensures in
-    (stand-goes _ _ _ _ (l .n) (l .w) (l .exact) (l .out) (l .inv .0) _ _ _ _ (sym (l .inv .1)) (goes-pass _ _ _ (omega arith) _ e), l .inv .1, led-kept ruled _ _ _ _ (l .inv .2) (pass _) e, l .inv .3)
+    (stand-goes _ _ _ _ (l .n) (l .w) (l .exact) (l .out) (l .inv .0) _ _ _ _ (sym (l .inv .1)) (goes-pass _ _ _ (omega arith) _ e), l .inv .1, led-kept crateRule _ _ _ _ (l .inv .2) (pass _) e, l .inv .3)
 
 stopped-requires : tie.Need-stopped-requires Inv-loop μ-loop
 stopped-requires c κs = c .before .before .before .before .before .loop .inv .3

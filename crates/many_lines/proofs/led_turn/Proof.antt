@@ -2,23 +2,23 @@
 -- Assumes nothing.
 use borrow.Author.Needs.{needs}
 use mathlib.Core.Path.{sym, ap, subst, _∙_}
-use Rattle.area.specs.Kind.{ruled}
+use Rattle.area.specs.Kind.{crateRule}
 use Rattle.line_step.specs.Turn.{turnOf}
 use Rattle.many_lines.specs.LedLaws.{Led}
 use Rattle.many_lines.proofs.led_turn.Statement.{statement}
 use Rattle.many_lines.proofs.led_turn.Tie as tie
 
 led-between-requires : tie.Need-led-between-requires
-led-between-requires c κs = subst (Led ruled _ _ _) (c .before .walk .given .1) (c .before .before .before .before .before .pre)
+led-between-requires c κs = subst (Led crateRule _ _ _) (c .before .walk .given .1) (c .before .before .before .before .before .pre)
 
 returns : tie.Need-returns
-returns c = c .take-turn .ensures ∙ ap (turnOf ruled _ _) (sym (c .before .enum-told .given .1))
+returns c = c .take-turn .ensures ∙ ap (turnOf crateRule _ _) (sym (c .before .enum-told .given .1))
 
 returns-2 : tie.Need-returns-2
-returns-2 c = c .led-between .ensures ∙ ap (turnOf ruled _ _) (sym (c .before .before .walk .given .1))
+returns-2 c = c .led-between .ensures ∙ ap (turnOf crateRule _ _) (sym (c .before .before .walk .given .1))
 
 returns-3 : tie.Need-returns-3
-returns-3 c = c .take-turn2 .ensures ∙ ap (turnOf ruled _ _) (sym (c .before .before .walk2 .given .1))
+returns-3 c = c .take-turn2 .ensures ∙ ap (turnOf crateRule _ _) (sym (c .before .before .walk2 .given .1))
 
 pub led-turn-spec : {M : Type 1} → statement M
 led-turn-spec =

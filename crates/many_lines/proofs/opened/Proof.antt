@@ -2,7 +2,7 @@
 -- Assumes nothing.
 use borrow.Author.Needs.{needs}
 use mathlib.Core.Path.{refl, sym, ap, _∙_}
-use Rattle.area.specs.Kind.{ruled}
+use Rattle.area.specs.Kind.{crateRule}
 use Rattle.walk.specs.Listing.{pass}
 use Rattle.lines.specs.Told.{toldCounted}
 use Rattle.many_lines.specs.LedLaws.{led-kept}
@@ -15,7 +15,7 @@ bodies-requires c κs =
     let m = c .before .before .before in
     let b = m .before .before in
     let p = b .before .before .before .before .pre in
-    (led-kept ruled _ _ _ _ (p .0) (pass _) (open-turn _ _ _ (ap toldCounted (sym (m .left .given .1)) ∙ b .count-of .ensures)), p .1)
+    (led-kept crateRule _ _ _ _ (p .0) (pass _) (open-turn _ _ _ (ap toldCounted (sym (m .left .given .1)) ∙ b .count-of .ensures)), p .1)
 
 returns : tie.Need-returns
 returns c =

@@ -5,9 +5,9 @@ use Prim.Native.Nat.{ℕ}
 use mathlib.Core.List.{List}
 use native.Mathlib.Omega.{arith}
 use mathlib.Core.Path.{_∙_}
-use Rattle.area.specs.Kind.{ruled}
+use Rattle.area.specs.Kind.{crateRule}
 use Rattle.files.specs.Files.{fileStep}
-use Rattle.modi.specs.Modi.{stepIn}
+use Rattle.modi.specs.Modi.{stepInPart}
 use Rattle.modi.specs.ModiLaws.{lines-in, of-part, of-refused}
 use Rattle.modi_lines.proofs.module_next_file.Statement.{statement}
 use Rattle.modi_lines.proofs.module_next_file.Tie as tie
@@ -24,5 +24,5 @@ module-next-file-spec =
     (λ c. omega (arith, lines-in _ _ (c .before .start .given .1) (c .before .before .before .lines-part .ensures)))
     (λ c κs. search needs)
     (λ c. search needs)
-    (λ c. let q = c .before .before .before in let p = q .before .before in let m = p .before .before .args in c .next-file .ensures ∙ of-part (stepIn (λ (a : List ℕ). fileStep ruled a (m .walk))) _ _ (q .start .given .1) (p .lines-part .ensures))
-    (λ c. let p = c .before .before .before in let m = p .before .before .args in of-refused (stepIn (λ (a : List ℕ). fileStep ruled a (m .walk))) _ _ (c .before .why .given .1) (p .lines-part .ensures)))
+    (λ c. let q = c .before .before .before in let p = q .before .before in let m = p .before .before .args in c .next-file .ensures ∙ of-part (stepInPart (λ (a : List ℕ). fileStep crateRule a (m .walk))) _ _ (q .start .given .1) (p .lines-part .ensures))
+    (λ c. let p = c .before .before .before in let m = p .before .before .args in of-refused (stepInPart (λ (a : List ℕ). fileStep crateRule a (m .walk))) _ _ (c .before .why .given .1) (p .lines-part .ensures)))

@@ -7,7 +7,7 @@ use mathlib.Core.List.{List}
 use lib.ListN.{length}
 use native.Mathlib.Omega.{arith}
 use mathlib.Core.Path.{_∙_}
-use Rattle.area.specs.Kind.{ruled}
+use Rattle.area.specs.Kind.{crateRule}
 use Rattle.rows.specs.Collect.{onGave}
 use Rattle.order.specs.Order.{ordered, slotsAfter}
 use Rattle.modi.specs.ModiLaws.{lines-in, of-part, of-refused}
@@ -21,16 +21,16 @@ returns c =
     let q = o .before .before .before .before in
     let p = q .before .before in
     let v = p .before .before .before .args .slots .now in (
-      o .order-list .ensures .0 ∙ of-part (onGave (λ (a : List ℕ). ordered ruled a (length v))) _ _ (q .start .given .1) (p .lines-part .ensures),
-      o .order-list .ensures .1 ∙ of-part (changed (λ (a : List ℕ). slotsAfter ruled a v) v) _ _ (q .start .given .1) (p .lines-part .ensures),
+      o .order-list .ensures .0 ∙ of-part (onGave (λ (a : List ℕ). ordered crateRule a (length v))) _ _ (q .start .given .1) (p .lines-part .ensures),
+      o .order-list .ensures .1 ∙ of-part (changed (λ (a : List ℕ). slotsAfter crateRule a v) v) _ _ (q .start .given .1) (p .lines-part .ensures),
     )
 
 returns-2 : tie.Need-returns-2
 returns-2 c =
     let p = c .before .before .before in
     let v = p .before .before .before .args .slots .now in (
-      of-refused (onGave (λ (a : List ℕ). ordered ruled a (length v))) _ _ (c .before .why .given .1) (p .lines-part .ensures),
-      of-refused (changed (λ (a : List ℕ). slotsAfter ruled a v) v) _ _ (c .before .why .given .1) (p .lines-part .ensures),
+      of-refused (onGave (λ (a : List ℕ). ordered crateRule a (length v))) _ _ (c .before .why .given .1) (p .lines-part .ensures),
+      of-refused (changed (λ (a : List ℕ). slotsAfter crateRule a v) v) _ _ (c .before .why .given .1) (p .lines-part .ensures),
     )
 
 pub module-order-list-spec : {M : Type 1} → statement M

@@ -3,7 +3,7 @@
 use borrow.Author.Needs.{needs}
 use native.Mathlib.Omega.{arith}
 use mathlib.Core.Path.{_∙_}
-use Rattle.area.specs.Kind.{ruled}
+use Rattle.area.specs.Kind.{crateRule}
 use Rattle.rows.specs.Collect.{onGave}
 use Rattle.exports.specs.Exports.{exportCount}
 use Rattle.modi.specs.ModiLaws.{tables-in, of-part, of-refused}
@@ -22,5 +22,5 @@ module-export-count-spec =
     (λ c. omega (arith, tables-in _ _ (c .before .start .given .1) (c .before .before .before .tables-part .ensures)))
     (λ c κs. search needs)
     (λ c. search needs)
-    (λ c. let q = c .before .before .before in let p = q .before .before in c .export-count .ensures ∙ of-part (onGave (exportCount ruled)) _ _ (q .start .given .1) (p .tables-part .ensures))
-    (λ c. let p = c .before .before .before in of-refused (onGave (exportCount ruled)) _ _ (c .before .why .given .1) (p .tables-part .ensures)))
+    (λ c. let q = c .before .before .before in let p = q .before .before in c .export-count .ensures ∙ of-part (onGave (exportCount crateRule)) _ _ (q .start .given .1) (p .tables-part .ensures))
+    (λ c. let p = c .before .before .before in of-refused (onGave (exportCount crateRule)) _ _ (c .before .why .given .1) (p .tables-part .ensures)))

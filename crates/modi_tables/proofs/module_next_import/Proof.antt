@@ -5,9 +5,9 @@ use Prim.Native.Nat.{ℕ}
 use mathlib.Core.List.{List}
 use native.Mathlib.Omega.{arith}
 use mathlib.Core.Path.{_∙_}
-use Rattle.area.specs.Kind.{ruled}
+use Rattle.area.specs.Kind.{crateRule}
 use Rattle.imports.specs.Imports.{importStep}
-use Rattle.modi.specs.Modi.{stepIn}
+use Rattle.modi.specs.Modi.{stepInPart}
 use Rattle.modi.specs.ModiLaws.{tables-in, of-part, of-refused}
 use Rattle.modi_tables.proofs.module_next_import.Statement.{statement}
 use Rattle.modi_tables.proofs.module_next_import.Tie as tie
@@ -24,5 +24,5 @@ module-next-import-spec =
     (λ c. omega (arith, tables-in _ _ (c .before .start .given .1) (c .before .before .before .tables-part .ensures)))
     (λ c κs. search needs)
     (λ c. search needs)
-    (λ c. let q = c .before .before .before in let p = q .before .before in let m = p .before .before .args in c .next-import .ensures ∙ of-part (stepIn (λ (a : List ℕ). importStep ruled a (m .walk))) _ _ (q .start .given .1) (p .tables-part .ensures))
-    (λ c. let p = c .before .before .before in let m = p .before .before .args in of-refused (stepIn (λ (a : List ℕ). importStep ruled a (m .walk))) _ _ (c .before .why .given .1) (p .tables-part .ensures)))
+    (λ c. let q = c .before .before .before in let p = q .before .before in let m = p .before .before .args in c .next-import .ensures ∙ of-part (stepInPart (λ (a : List ℕ). importStep crateRule a (m .walk))) _ _ (q .start .given .1) (p .tables-part .ensures))
+    (λ c. let p = c .before .before .before in let m = p .before .before .args in of-refused (stepInPart (λ (a : List ℕ). importStep crateRule a (m .walk))) _ _ (c .before .why .given .1) (p .tables-part .ensures)))

@@ -5,7 +5,7 @@ use Prim.Native.Nat.{ℕ}
 use mathlib.Core.List.{List}
 use native.Mathlib.Omega.{arith}
 use mathlib.Core.Path.{_∙_}
-use Rattle.area.specs.Kind.{ruled}
+use Rattle.area.specs.Kind.{crateRule}
 use Rattle.rows.specs.Collect.{onGave}
 use Rattle.exports.specs.Exports.{resolveExport}
 use Rattle.modi.specs.ModiLaws.{tables-in, of-part, of-refused}
@@ -24,5 +24,5 @@ module-resolve-export-spec =
     (λ c. omega (arith, tables-in _ _ (c .before .start .given .1) (c .before .before .before .tables-part .ensures)))
     (λ c κs. search needs)
     (λ c. search needs)
-    (λ c. let q = c .before .before .before in let p = q .before .before in let m = p .before .before .args in c .resolve-export .ensures ∙ of-part (onGave (λ (a : List ℕ). resolveExport ruled a (m .local))) _ _ (q .start .given .1) (p .tables-part .ensures))
-    (λ c. let p = c .before .before .before in let m = p .before .before .args in of-refused (onGave (λ (a : List ℕ). resolveExport ruled a (m .local))) _ _ (c .before .why .given .1) (p .tables-part .ensures)))
+    (λ c. let q = c .before .before .before in let p = q .before .before in let m = p .before .before .args in c .resolve-export .ensures ∙ of-part (onGave (λ (a : List ℕ). resolveExport crateRule a (m .local))) _ _ (q .start .given .1) (p .tables-part .ensures))
+    (λ c. let p = c .before .before .before in let m = p .before .before .args in of-refused (onGave (λ (a : List ℕ). resolveExport crateRule a (m .local))) _ _ (c .before .why .given .1) (p .tables-part .ensures)))

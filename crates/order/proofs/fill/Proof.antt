@@ -6,7 +6,7 @@ use Prim.Native.Nat.{_+_, _-_, _≤_}
 use mathlib.Core.Path.{_≡_, refl, sym, ap, _∙_}
 use native.Mathlib.Omega.{arith}
 use lib.ListN.{length, length-set}
-use Rattle.area.specs.Kind.{ruled}
+use Rattle.area.specs.Kind.{crateRule}
 use Rattle.area.specs.Told.{toldStep}
 use Rattle.area.specs.SubsLaws.{sub-next}
 use Rattle.order.specs.Order.{startsFrom}
@@ -16,8 +16,8 @@ use Rattle.order.proofs.fill.Tie as tie
 
 abbrev Inv-loop : tie.InvT-loop
 Inv-loop area slots₀ n₀ p₀ slots n p =
-    (storeAll (startsFrom ruled area p) n slots ≡ storeAll (startsFrom ruled area 0) 0 slots₀)
-    × (n + length (startsFrom ruled area p) ≤ length slots) × (length slots ≡ length slots₀)
+    (storeAll (startsFrom crateRule area p) n slots ≡ storeAll (startsFrom crateRule area 0) 0 slots₀)
+    × (n + length (startsFrom crateRule area p) ≤ length slots) × (length slots ≡ length slots₀)
 
 abbrev μ-loop : tie.MeasureT-loop
 μ-loop area slots₀ n₀ p₀ slots n p = length area - p

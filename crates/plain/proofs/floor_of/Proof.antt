@@ -7,14 +7,14 @@ use mathlib.Core.Path.{_≡_, refl, _∙_}
 use native.Mathlib.Omega.{arith}
 use lib.ListN.{length}
 use Rattle.body.specs.Exports.{pairs}
-use Rattle.plain.specs.Plain.{ascends}
+use Rattle.plain.specs.Plain.{ascendsFrom}
 use Rattle.plain.specs.PlainLaws.{pairsFrom, floor-odd, floor-first, floor-end, floor-bad, floor-next}
 use Rattle.plain.proofs.floor_of.Statement.{statement}
 use Rattle.plain.proofs.floor_of.Tie as tie
 
 abbrev Inv-loop : tie.InvT-loop
 Inv-loop body floor₀ i₀ floor i =
-    (i ≤ length body) × (i % 8 ≡ 0) × (length body % 8 ≡ 0) × (floor ≤ 4294967296) × (ascends floor (pairsFrom body i) ≡ ascends 0 (pairs body))
+    (i ≤ length body) × (i % 8 ≡ 0) × (length body % 8 ≡ 0) × (floor ≤ 4294967296) × (ascendsFrom floor (pairsFrom body i) ≡ ascendsFrom 0 (pairs body))
 
 abbrev μ-loop : tie.MeasureT-loop
 μ-loop body floor₀ i₀ floor i = length body - i

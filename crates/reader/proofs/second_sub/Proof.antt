@@ -38,9 +38,9 @@ use denote.Triple.Walked.{says, Stays, stay-none-slice, walkOf, goes-none-slice,
 use denote.Exit.{yes}
 use denote.Triple.Clauses.{ensured, lasts}
 use Rattle.area.specs.Subs.{stepAt}
-use Rattle.area.specs.Kind.{ruled}
+use Rattle.area.specs.Kind.{crateRule}
 use Rattle.area.specs.Told.{toldStep}
-use Rattle.area.specs.Subs.{after}
+use Rattle.area.specs.Subs.{placeBehind}
 use Rattle.reader.specs.Second.{second}
 use Rattle.reader.specs.declared.Reader.{Reader}
 use Rattle.reader.specs.declared.Stepped.{Stepped}
@@ -84,15 +84,15 @@ stayed = (stay-none-slice (0 ∷ []) tt (plain (λ _. u8)) yes, tt)
 
 -- what a step says of the reader r and what it leaves, q
 abbrev Says : Reader → Stepped → Type 0
-Says r q = (q .area ≡ r .area) × (toldStep (q .step) ≡ stepAt ruled (now (r .area)) (r .at)) × (q .at ≡ after (toldStep (q .step)) (r .at))
+Says r q = (q .area ≡ r .area) × (toldStep (q .step) ≡ stepAt crateRule (now (r .area)) (r .at)) × (q .at ≡ placeBehind (toldStep (q .step)) (r .at))
 
 two-steps : (s : RefT (List ℕ)) (r r′ : Reader) (q q′ : Stepped) (t : SubStep) → (r .area ≡ s) × (r .at ≡ 0) → Says r q → (r′ .area ≡ q .area) × (r′ .at ≡ q .at) → Says r′ q′ → t ≡ q′ .step
-    → toldStep t ≡ second ruled (now s)
+    → toldStep t ≡ second crateRule (now s)
 two-steps s r r′ q q′ t e₁ e₂ e₃ e₄ e₅ =
-    let first : toldStep (q .step) ≡ stepAt ruled (now s) 0 = e₂ .1 ∙ (λ i. stepAt ruled (now (e₁ .0 i)) (e₁ .1 i)) in
+    let first : toldStep (q .step) ≡ stepAt crateRule (now s) 0 = e₂ .1 ∙ (λ i. stepAt crateRule (now (e₁ .0 i)) (e₁ .1 i)) in
     let area : r′ .area ≡ s = e₃ .0 ∙ e₂ .0 ∙ e₁ .0 in
-    let at : r′ .at ≡ after (stepAt ruled (now s) 0) 0 = e₃ .1 ∙ e₂ .2 ∙ (λ i. after (first i) (e₁ .1 i)) in
-    ap toldStep e₅ ∙ e₄ .1 ∙ (λ i. stepAt ruled (now (area i)) (at i))
+    let at : r′ .at ≡ placeBehind (stepAt crateRule (now s) 0) 0 = e₃ .1 ∙ e₂ .2 ∙ (λ i. placeBehind (first i) (e₁ .1 i)) in
+    ap toldStep e₅ ∙ e₄ .1 ∙ (λ i. stepAt crateRule (now (area i)) (at i))
 
 module _ {M : Type 1} (𝓤 : URA M) (H : Heap 𝓤) (A : Atoms 𝓤) (mem : Memory → SProp 𝓤) (run : Routine → Fun 𝓤) where
   -- the contracts that the proof cites
@@ -168,7 +168,7 @@ module _ {M : Type 1} (𝓤 : URA M) (H : Heap 𝓤) (A : Atoms 𝓤) (W : Given
   answer-said : (x : Stepped) (t : SubStep) → ent 𝓤 (ensured 𝓤 H A answer.ended (answer.clauses 𝓤 H A mem run) (κ, tt) (x, tt) tt t) (fact 𝓤 (t ≡ x .step))
   answer-said x t = exE 𝓤 _ (λ ws. snd∗ 𝓤 (sem 𝓤 H A (lasts answer.ended (κ, tt) (x, tt) ws)) (fact 𝓤 (t ≡ x .step)))
 
-  exits : (t : SubStep) (u : Val) → toldStep t ≡ second ruled (now s) → ent 𝓤 (⋆ 𝓤 H A (‵ (S.the-row .own t (u ∷ [])) ∷ tok ∷ ‵ Own ∷ [])) (Post u)
+  exits : (t : SubStep) (u : Val) → toldStep t ≡ second crateRule (now s) → ent 𝓤 (⋆ 𝓤 H A (‵ (S.the-row .own t (u ∷ [])) ∷ tok ∷ ‵ Own ∷ [])) (Post u)
   exits t u e =
       qed W (‵ (S.the-row .own t (u ∷ [])) ∷ tok ∷ ‵ Own ∷ []) ∵
       suffices ! _ (ends-at 𝓤 H A fn.ended stayed (fn.clauses 𝓤 H A mem run) W (((κ, tt), (q, tt), tt, (s, tt), (v ∷ [], tt)), tt) u t (tt, tt) (tt, tt)) $ says ! e $

@@ -43,10 +43,10 @@ use denote.Exit.{yes}
 use denote.Triple.Clauses.{ensured, lasts}
 use Rattle.area.specs.Subs.{Sub, stepAt}
 use Rattle.refusal.specs.Told.{Told}
-use Rattle.area.specs.Kind.{ruled}
+use Rattle.area.specs.Kind.{crateRule}
 use Rattle.area.specs.Told.{toldStep}
 use Rattle.walk.specs.Listing.{Answer}
-use Rattle.area.specs.Subs.{after}
+use Rattle.area.specs.Subs.{placeBehind}
 use Rattle.reader.specs.declared.Reader.{Reader}
 use Rattle.reader.specs.declared.Stepped.{Stepped}
 use Rattle.area.specs.declared.SubStep.{SubStep}
@@ -87,7 +87,7 @@ ans = EL.val S.the-type S′.the-laws
 
 module _ {M : Type 1} (𝓤 : URA M) (H : Heap 𝓤) (A : Atoms 𝓤) (W : Given 𝓤 H A) (mem : Memory → SProp 𝓤) (run : Routine → Fun 𝓤) (κ : Lft) (q : Share) (d : Reader) where
   abbrev found : Answer ℕ Sub Told
-  found = stepAt ruled (now (d .area)) (d .at)
+  found = stepAt crateRule (now (d .area)) (d .at)
 
   abbrev Post : Val → SProp 𝓤
   Post = walkOf 𝓤 H A step.ended stayed (step.clauses 𝓤 H A mem run) .post (((κ, tt), (q, tt), tt, (d, tt), ((mach d) ∷ [], tt)), tt)
@@ -111,8 +111,8 @@ module _ {M : Type 1} (𝓤 : URA M) (H : Heap 𝓤) (A : Atoms 𝓤) (W : Given
       qed W (‵ ftrue ∷ []) ∵ nothing ! $ owned ! S.the-row (Is S.the-row) (EL.makes S.the-type S′.the-plain 𝓤 H A) r _ is $ fjoin ! $ owned ! usize (Is usize) (uint-makes 𝓤 H A W w64) (d .at) _ (refl, fits) $ fjoin ! $
       move ! (1 ∷ 0 ∷ []) $ join ! $ frame ! $ done !
 
-  tells-place : (r : SubStep) (m : ℕ) → ent 𝓤 (ensured 𝓤 H A place.ended (place.clauses 𝓤 H A mem run) tt (d .at, (r, tt)) tt m) (fact 𝓤 (m ≡ after (toldStep r) (d .at)))
-  tells-place r m = exE 𝓤 _ (λ ws. snd∗ 𝓤 (sem 𝓤 H A (lasts place.ended tt (d .at, (r, tt)) ws)) (fact 𝓤 (m ≡ after (toldStep r) (d .at))))
+  tells-place : (r : SubStep) (m : ℕ) → ent 𝓤 (ensured 𝓤 H A place.ended (place.clauses 𝓤 H A mem run) tt (d .at, (r, tt)) tt m) (fact 𝓤 (m ≡ placeBehind (toldStep r) (d .at)))
+  tells-place r m = exE 𝓤 _ (λ ws. snd∗ 𝓤 (sem 𝓤 H A (lasts place.ended tt (d .at, (r, tt)) ws)) (fact 𝓤 (m ≡ placeBehind (toldStep r) (d .at))))
 
   -- what is returned
   abbrev made : SubStep → ℕ → Stepped
@@ -125,7 +125,7 @@ module _ {M : Type 1} (𝓤 : URA M) (H : Heap 𝓤) (A : Atoms 𝓤) (W : Given
   fits-all : Is (B (κ, tt)) d ((mach d) ∷ []) → (r : SubStep) (m : ℕ) → m < 2 ^ 64 → Is S.the-row r (ans r ∷ []) → Is (Q.the-row (namedLft 1 0 tt (κ, tt))) (made r m) (out r m ∷ [])
   fits-all p r m fits is = LL.owes (Q.the-type (namedLft 1 0 tt (κ, tt))) (Q′.the-laws (namedLft 1 0 tt (κ, tt))) (made r m) (LL.owed (D κ) (L κ) d ((mach d) ∷ []) p .0, ((refl, fits), (is, tt)))
 
-  exits : (r : SubStep) (m : ℕ) → toldStep r ≡ found → m ≡ after (toldStep r) (d .at) → m < 2 ^ 64 → Is S.the-row r (ans r ∷ [])
+  exits : (r : SubStep) (m : ℕ) → toldStep r ≡ found → m ≡ placeBehind (toldStep r) (d .at) → m < 2 ^ 64 → Is S.the-row r (ans r ∷ [])
       → ent 𝓤 (⋆ 𝓤 H A ((‵ (flft κ q) ⊛ ‵ ftrue) ∷ ‵ (Own κ d) ∷ [])) (Post (out r m))
   exits r m e e′ fits is =
       qed W ((‵ (flft κ q) ⊛ ‵ ftrue) ∷ ‵ (Own κ d) ∷ []) ∵
@@ -159,7 +159,7 @@ module _ {M : Type 1} (𝓤 : URA M) (H : Heap 𝓤) (A : Atoms 𝓤) (W : Given
         nothing ! $ use1 W (raw (PlaceAfter 𝓤 H A mem run .pre (to-place r))) (asks r (wt .1 .1 .0 .fits) is) $
         calls-at ! fm (PlaceAfter 𝓤 H A mem run) known-place (to-place r) (and-then ! (load ! (from ! (stop !)) (look ! 5 refl)) (and-then ! (load ! (from ! (stop !)) (look ! 13 refl)) (no-more !))) (λ w.
         use1 W (later (some (λ (m : ℕ). (‵ ftrue ⊛ ‵ (usize .own m (w ∷ []))) ⊛ raw (ensured 𝓤 H A place.ended (place.clauses 𝓤 H A mem run) tt (d .at, (r, tt)) tt m)))) (id⊢ 𝓤 _) $ await ! tt $ pick ! (λ m.
-        split ! $ move ! (1 ∷ []) $ use1 W (raw (fact 𝓤 (m ≡ after (toldStep r) (d .at)))) (tells-place r m) $ heard ! (m ≡ after (toldStep r) (d .at)) (λ e′. split ! $ drop ! $
+        split ! $ move ! (1 ∷ []) $ use1 W (raw (fact 𝓤 (m ≡ placeBehind (toldStep r) (d .at)))) (tells-place r m) $ heard ! (m ≡ placeBehind (toldStep r) (d .at)) (λ e′. split ! $ drop ! $
         facts ! usize (Is usize) (shows 𝓤 H A usize) m (w ∷ []) (λ fit.
         land ! (from ! (stop !)) (init ! 10 refl (uint-lawful 𝓤 H A W w64 .typed m _ fit .0)) $ rewrite ! 10 (λ (x : Val). ‵ (fat fullShare (tyInt w64) l₃ 0 x)) (ap only (fit .0)) refl $
         -- [the token; what the struct owns; _7; …; _6; …; _5; …; _4; …; _3; …; _2; …; _1; …; room for _0; …]

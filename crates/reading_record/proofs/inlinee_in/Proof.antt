@@ -3,7 +3,7 @@
 use borrow.Author.Needs.{needs}
 use native.Mathlib.Omega.{arith}
 use mathlib.Core.Path.{sym, ap, _∙_}
-use Rattle.inlinees.specs.Told.{toldLine}
+use Rattle.inlinees.specs.Told.{toldSourceLine}
 use Rattle.inlinees.specs.SourceLineLaws.{line-lies}
 use Rattle.reading_record.specs.Record.{inlineeItem}
 use Rattle.reading_record.specs.RecordLaws.{hands}
@@ -17,9 +17,9 @@ inlinee-in-spec =
     (tie.spec
     (λ c κs. search needs)
     (λ c. search needs)
-    (λ c. omega (arith, line-lies _ _ _ _ (ap toldLine (sym (c .before .inlinee .given .1)) ∙ c .before .before .before .source-line-at .ensures)))
+    (λ c. omega (arith, line-lies _ _ _ _ (ap toldSourceLine (sym (c .before .inlinee .given .1)) ∙ c .before .before .before .source-line-at .ensures)))
     (λ c. search needs)
     (λ c. search needs)
-    (λ c. hands typed.Inlinees _ _ toldLine (inlineeItem _) (c .before .inlinee .given .1) (c .before .before .before .source-line-at .ensures))
-    (λ c. hands typed.Inlinees _ _ toldLine (inlineeItem _) (c .enum-told .given .1) (c .before .before .source-line-at .ensures))
-    (λ c. hands typed.Inlinees _ _ toldLine (inlineeItem _) (c .before .why .given .1) (c .before .before .before .source-line-at .ensures)))
+    (λ c. hands typed.Inlinees _ _ toldSourceLine (inlineeItem _) (c .before .inlinee .given .1) (c .before .before .before .source-line-at .ensures))
+    (λ c. hands typed.Inlinees _ _ toldSourceLine (inlineeItem _) (c .enum-told .given .1) (c .before .before .source-line-at .ensures))
+    (λ c. hands typed.Inlinees _ _ toldSourceLine (inlineeItem _) (c .before .why .given .1) (c .before .before .before .source-line-at .ensures)))

@@ -7,7 +7,7 @@ use mathlib.Core.Path.{_≡_, sym, ap, _∙_}
 use native.Mathlib.Nat.{add-sub-cancel-left}
 use native.Mathlib.Omega.{arith}
 use Rattle.walk.specs.Listing.{gave}
-use Rattle.area.specs.Kind.{ruled}
+use Rattle.area.specs.Kind.{crateRule}
 use Rattle.lines.specs.Slots.{bodyAt, named}
 use Rattle.lines.specs.SlotsLaws.{Scans, scans-start, slot-inside, slot-scans}
 use Rattle.lines.specs.Told.{toldNamed}
@@ -20,7 +20,7 @@ use Rattle.symbol_lines.proofs.find_slot.Tie as tie
 
 abbrev Inv-loop : tie.InvT-loop
 Inv-loop area slots n section offset whole best₀ scan₀ i₀ best scan i =
-    (bestOf section offset (slotFrom ruled area slots n i) (toldBest best) ≡ slotIn section offset (named (bodyAt ruled area) n slots)) × Scans ruled area scan
+    (bestOf section offset (slotFrom crateRule area slots n i) (toldBest best) ≡ slotIn section offset (named (bodyAt crateRule area) n slots)) × Scans crateRule area scan
 
 abbrev μ-loop : tie.MeasureT-loop
 μ-loop area slots n section offset whole best₀ scan₀ i₀ best scan i = n - i

@@ -8,7 +8,7 @@ use native.Mathlib.Omega.{arith}
 use lib.ListN.{length}
 use Rattle.body.specs.Lines.{columned}
 use Rattle.plain.specs.Told.{toldPlain}
-use Rattle.writer_decides.specs.Calls.{blockRule, room, ruled}
+use Rattle.writer_decides.specs.Calls.{blockRule, room, elseNotPlain}
 use Rattle.writer_decides.specs.CallLaws.{grow-none, grow-some, fits-block, columns-few}
 use Rattle.writer_decides.proofs.block_step.Statement.{statement}
 use Rattle.writer_decides.proofs.block_step.Tie as tie
@@ -35,7 +35,7 @@ returns-2 c =
     let l = c .before .before .before .before .header .given .0 in
     grow-some 0xf2 (λ m. blockRule m n k) (λ m. 12 + 4 * n + 4 * k) (a .buf .now) (a .written) _ _
     (ap toldPlain (sym (c .before .before .before .before .header .given .1)) ∙ c .before .before .before .before .before .before .last-of .ensures)
-    (c .room-for .ensures ∙ ap (λ (t : Bool). ruled t (room (length (a .buf .now)) (a .written) (l .0) (l .1 .1 .0) (12 + 4 * n + 4 * k))) (sym (c .before .if1 .taken) ∙ c .before .before .block-rule .ensures))
+    (c .room-for .ensures ∙ ap (λ (t : Bool). elseNotPlain t (room (length (a .buf .now)) (a .written) (l .0) (l .1 .1 .0) (12 + 4 * n + 4 * k))) (sym (c .before .if1 .taken) ∙ c .before .before .block-rule .ensures))
 
 returns-3 : tie.Need-returns-3
 returns-3 c =
@@ -45,7 +45,7 @@ returns-3 c =
     let l = c .before .before .before .header .given .0 in
     grow-some 0xf2 (λ m. blockRule m n k) (λ m. 12 + 4 * n + 4 * k) (a .buf .now) (a .written) _ _
     (ap toldPlain (sym (c .before .before .before .header .given .1)) ∙ c .before .before .before .before .before .last-of .ensures)
-    (ap (λ (t : Bool). ruled t (room (length (a .buf .now)) (a .written) (l .0) (l .1 .1 .0) (12 + 4 * n + 4 * k))) (sym (c .if1 .left) ∙ c .before .block-rule .ensures))
+    (ap (λ (t : Bool). elseNotPlain t (room (length (a .buf .now)) (a .written) (l .0) (l .1 .1 .0) (12 + 4 * n + 4 * k))) (sym (c .if1 .left) ∙ c .before .block-rule .ensures))
 
 pub block-step-spec : {M : Type 1} → statement M
 block-step-spec =

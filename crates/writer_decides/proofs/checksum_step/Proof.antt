@@ -24,7 +24,7 @@ returns-2 c =
     let l = c .before .before .before .header .given .0 in
     grow-some 0xf4 (λ m. checksumRule (a .kind) n) (λ m. up4 (6 + n)) (a .buf .now) (a .written) _ _
     (ap toldPlain (sym (c .before .before .before .header .given .1)) ∙ c .before .before .before .before .before .last-of .ensures)
-    (c .ruled-room .ensures ∙ checksum-need (a .kind) n _ (room (length (a .buf .now)) (a .written) (l .0) (l .1 .1 .0)) (c .before .checksum-rule .ensures))
+    (c .plain-room .ensures ∙ checksum-need (a .kind) n _ (room (length (a .buf .now)) (a .written) (l .0) (l .1 .1 .0)) (c .before .checksum-rule .ensures))
 
 pub checksum-step-spec : {M : Type 1} → statement M
 checksum-step-spec =

@@ -25,7 +25,7 @@ returns-2 c =
     let n = length (a .extra .now) in
     grow-some 0xf6 (λ m. extraRule m n) (λ m. 12 + extraLength (extended m) n) (a .buf .now) (a .written) _ _
     (ap toldPlain (sym (c .before .before .before .header .given .1)) ∙ c .before .before .before .before .before .last-of .ensures)
-    (c .ruled-room .ensures ∙ extra-yes _ _ _ _ n (c .before .if1 .taken))
+    (c .plain-room .ensures ∙ extra-yes _ _ _ _ n (c .before .if1 .taken))
 
 returns-3 : tie.Need-returns-3
 returns-3 c =
@@ -33,7 +33,7 @@ returns-3 c =
     let n = length (a .extra .now) in
     grow-some 0xf6 (λ m. extraRule m n) (λ m. 12 + extraLength (extended m) n) (a .buf .now) (a .written) _ _
     (ap toldPlain (sym (c .before .before .before .header .given .1)) ∙ c .before .before .before .before .before .last-of .ensures)
-    (c .ruled-room2 .ensures ∙ extra-no _ _ _ _ n (c .before .if1 .left))
+    (c .plain-room2 .ensures ∙ extra-no _ _ _ _ n (c .before .if1 .left))
 
 pub inlinee-step-spec : {M : Type 1} → statement M
 inlinee-step-spec =

@@ -19,7 +19,7 @@ returns-2 : tie.Need-returns-2
 returns-2 c =
     let a = c .before .before .before .before .before .before .before .args in
     grow-some 0xf7 (λ m. true) (λ m. 8 + 4 * length (a .words .now)) (a .buf .now) (a .written) _ _
-    (ap toldPlain (sym (c .before .before .header .given .1)) ∙ c .before .before .before .before .last-of .ensures) (c .ruled-room .ensures)
+    (ap toldPlain (sym (c .before .before .header .given .1)) ∙ c .before .before .before .before .last-of .ensures) (c .plain-room .ensures)
 
 pub module-step-spec : {M : Type 1} → statement M
 module-step-spec =

@@ -8,7 +8,7 @@ use Rattle.writer_decides.proofs.open_step.Statement.{statement}
 use Rattle.writer_decides.proofs.open_step.Tie as tie
 
 returns-2 : tie.Need-returns-2
-returns-2 c = on-some _ _ _ _ (ap toldPlain (sym (c .before .before .header .given .1)) ∙ c .before .before .before .before .last-at .ensures) (c .ruled-room .ensures)
+returns-2 c = on-some _ _ _ _ (ap toldPlain (sym (c .before .before .header .given .1)) ∙ c .before .before .before .before .last-at .ensures) (c .plain-room .ensures)
 
 pub open-step-spec : {M : Type 1} → statement M
 open-step-spec =

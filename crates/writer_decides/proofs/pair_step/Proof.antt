@@ -17,7 +17,7 @@ returns-2 : tie.Need-returns-2
 returns-2 c =
     let a = c .before .before .before .before .before .before .args in
     grow-some 0xf8 (λ m. leb m (a .local)) (λ m. 8) (a .buf .now) (a .written) _ _
-    (ap toldPlain (sym (c .before .before .header .given .1)) ∙ c .before .before .before .before .last-of .ensures) (c .ruled-room .ensures)
+    (ap toldPlain (sym (c .before .before .header .given .1)) ∙ c .before .before .before .before .last-of .ensures) (c .plain-room .ensures)
 
 pub pair-step-spec : {M : Type 1} → statement M
 pair-step-spec =
