@@ -13,7 +13,7 @@ ghost use Rattle.answer_words.specs.Given.{Gives};
 ghost use Rattle.export_parts.specs.Calls.{subGiven, namesGiven, nameGiven, symbolsGiven, linesPartGiven, tablesPartGiven};
 ghost use Rattle.export_files.specs.Calls.{fileGiven, filesGiven, filesLeft, infoGiven};
 ghost use Rattle.export_tables.specs.Calls.{wordGiven, inlineeGiven, moduleGiven, refGiven, exportGiven, countGiven, globalGiven};
-ghost use Rattle.export_many.specs.Lines.{linesGiven, recordsLeft};
+ghost use Rattle.export_lines.specs.Calls.{linesGiven, recordsLeft};
 ghost use Rattle.export_lines.specs.Calls.{orderGiven, slotsLeft, lineGiven, symbolGiven};
 ghost use Rattle.export_write.specs.Calls.{wroteGiven, bufferLeft, plainGiven};
 
@@ -174,7 +174,7 @@ pub extern "C" fn c13_lines(area: &[u8], slots: &[u32], records: &mut [u64], out
     ensures { λ r. ⌜ Gives (now (out .entry)) (linesGiven (now (area .entry)) (now (slots .entry)) (length (now (records .entry))) (now (out .entry))) r (now (out .exit)) ⌝ }
     ensures { λ _. ⌜ now (records .exit) ≡ recordsLeft (now (area .entry)) (now (slots .entry)) (now (records .entry)) (now (out .entry)) ⌝ }
 {
-    export_many::lines(area, slots, records, out)
+    export_lines::lines(area, slots, records, out)
 }
 
 #[no_mangle]

@@ -1,15 +1,24 @@
--- Laws of the calls on lines: only an answer changes the slots.
-use Prim.Native.Nat.{ℕ}
-use mathlib.Core.Path.{_≡_, refl}
-use mathlib.Core.List.{List}
-use lib.ListN.{length}
+-- Laws of the calls on lines: only an answer changes the slots, or the words lent for records; a state put, and a number behind it, are put at once.
+use Prim.Native.Nat.{ℕ, _+_, _≤_}
+use mathlib.Core.Path.{_≡_, refl, sym, ap, _∙_, subst⁻¹}
+use mathlib.Core.List.{List, [], _∷_, _++_}
+use lib.ListN.{length, length-append}
+use native.Mathlib.Omega.{arith}
 use Rattle.walk.specs.Listing.{Reply, gave, nothing, refused}
 use Rattle.refusal.specs.Told.{Told}
 use Rattle.area.specs.Kind.{crateRule}
 use Rattle.order.specs.Order.{ordered, slotsBy, slotsAfter}
-use Rattle.answer_words.specs.Given.{Gives}
-use Rattle.answer_words.specs.GivenLaws.{Still, room-careful}
-use Rattle.export_lines.specs.Calls.{orderGiven, slotsLeft}
+use Rattle.answer_words.specs.Given.{Gives, given}
+use Rattle.answer_words.specs.GivenLaws.{Still, room-careful, gives-put}
+use Rattle.export_lines.specs.Calls.{orderGiven, slotsLeft, linesGiven, recordsLeft}
+use Rattle.word.specs.Word.{put}
+use Rattle.word.specs.WordLaws.{put-length, store-put}
+use Rattle.answer_words.specs.PiecesLaws.{put-join}
+use Rattle.answer_words.specs.FillGivenLaws.{fill-careful}
+use Rattle.line_step.specs.declared.LineWalk.{LineWalk}
+use Rattle.line_state_words.specs.LineWords.{lineWalkIn, lineWalkWords, recordWords}
+use Rattle.line_state_words.specs.LineWordsLaws.{walk-length}
+use Rattle.many_lines.specs.Lines.{linesOf}
 
 -- THE LAW: with any status but 1 the slots are as they were
 pub order-careful : (s v o : List ℕ) {r : ℕ} {left : List ℕ} → Gives o (orderGiven s (length v) o) r left → (r ≡ 1 → ⊥) → slotsLeft s v o ≡ v
@@ -19,3 +28,24 @@ order-careful s v o g z = room-careful o (ordered crateRule s (length v)) v (slo
     still (gave n) = tt
     still nothing = refl
     still (refused t) = refl
+
+module _ (o p q : List ℕ) (w : LineWalk) (n r k : ℕ) (room : 29 ≤ length o) where
+  -- p behind the state, and q behind the number
+  pub gives-count : Gives o (given 1 0 (lineWalkWords w)) k p → Gives p (given 1 27 (n ∷ [])) r q → Gives o (given 1 0 (lineWalkWords w ++ (n ∷ []))) r q
+  gives-count f g =
+      let l = walk-length w in
+      let fits : 0 + length (lineWalkWords w) ≤ length o = omega arith in
+      let ep : p ≡ put o 0 (lineWalkWords w) = f .words ∙ sym (store-put o 0 (lineWalkWords w) 27 l (omega arith)) in
+      let lp : length p ≡ length o = ap length ep ∙ put-length o 0 (lineWalkWords w) fits in
+      let eq : q ≡ put p 27 (n ∷ []) = g .words ∙ sym (store-put p 27 (n ∷ []) 1 (omega arith) (omega arith)) in
+      let at : 27 ≡ 0 + length (lineWalkWords w) = omega arith in
+      let e : q ≡ put o 0 (lineWalkWords w ++ (n ∷ [])) = eq ∙ (λ i. put (ep i) (at i) (n ∷ [])) ∙ put-join o 0 (lineWalkWords w) (n ∷ []) fits in
+      let m : length (lineWalkWords w ++ (n ∷ [])) ≡ 28 = length-append (lineWalkWords w) (n ∷ []) ∙ (let z : length (lineWalkWords w) + 1 ≡ 28 = omega arith in z) in
+      let z : Gives p (given 1 27 (n ∷ [])) 1 (put p 27 (n ∷ [])) = gives-put p (given 1 27 (n ∷ [])) (omega arith) in
+      let s : r ≡ 1 = g .status ∙ sym (z .status) in
+      subst⁻¹ (λ (x : ℕ). Gives o (given 1 0 (lineWalkWords w ++ (n ∷ []))) x q) s
+      (subst⁻¹ (λ (x : List ℕ). Gives o (given 1 0 (lineWalkWords w ++ (n ∷ []))) 1 x) e (gives-put o (given 1 0 (lineWalkWords w ++ (n ∷ []))) (omega arith)))
+
+-- THE LAW: with any status but 1 the words lent for records are as they were
+pub lines-careful : (s v x o : List ℕ) {r : ℕ} {left : List ℕ} → Gives o (linesGiven s v (length x) o) r left → (r ≡ 1 → ⊥) → recordsLeft s v x o ≡ x
+lines-careful s v x o = fill-careful 27 lineWalkWords recordWords o x (linesOf crateRule s v (length x) (lineWalkIn o)) walk-length

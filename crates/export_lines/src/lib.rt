@@ -1,9 +1,12 @@
-// The calls on lines, for programs in other languages: the order list, the walk one record at a time, and the lines of a symbol. The crate `c13` gives
-// each its C name.
+// The calls on lines, for programs in other languages: the order list, the walk one record or many at a time, and the lines of a symbol. The crate
+// `c13` gives each its C name.
 ghost use mathlib.Core.Path.{_≡_};
 ghost use lib.ListN.{length};
-ghost use Rattle.answer_words.specs.Given.{Gives};
-ghost use Rattle.export_lines.specs.Calls.{orderGiven, slotsLeft, lineGiven, symbolGiven};
+ghost use mathlib.Core.List.{[], _∷_, _++_};
+ghost use Prim.Native.Nat.{_≤_};
+ghost use Rattle.answer_words.specs.Given.{Gives, given};
+ghost use Rattle.export_lines.specs.Calls.{orderGiven, slotsLeft, lineGiven, symbolGiven, linesGiven, recordsLeft};
+ghost use Rattle.line_state_words.specs.LineWords.{lineWalkWords};
 use answer_words::GIVEN;
 use answer_words::LEAST;
 use answer_words::NONE;
@@ -13,7 +16,10 @@ use answer_words::put_refusal;
 use line_state_words::line_walk_in;
 use line_state_words::put_line;
 use line_state_words::put_line_walk;
+use line_step::LineWalk;
 use line_walk::LineStep;
+use many_lines::LinesStep;
+use many_lines::next_lines;
 use order::Ordered;
 use symbol_lines::SymbolLines;
 
@@ -55,5 +61,33 @@ pub fn lines_for_symbol(
     match symbol_lines::lines_for_symbol(area, slots, section, offset) {
         SymbolLines::Lines(walk) => put_line_walk(out, walk),
         SymbolLines::Refused(why) => put_refusal(out, 0, why),
+    }
+}
+
+// The words of `out` that the call asks for: a walk's state, and those of a refusal.
+const ASKED: usize = 29;
+
+// The next state, and behind it how many records there are.
+fn put_lines(out: &mut [u64], count: usize, next: LineWalk) -> u32
+    requires { ⌜ 29 ≤ length (now out) ⌝ }
+    ensures { λ r. ⌜ Gives (now (out .entry)) (given 1 0 (lineWalkWords next ++ (count ∷ []))) r (now (out .exit)) ⌝ }
+{
+    put_line_walk(out, next);
+    put(out, 27, &[count as u64], GIVEN)
+}
+
+// The records from the walk in `out` on, 12 words each, into `records`. Words: the next state, and how many records there are. Where there is none to
+// give the answer is that of `next_line`; without room for one it is number 10.
+pub fn lines(area: &[u8], slots: &[u32], records: &mut [u64], out: &mut [u64]) -> u32
+    ensures { λ r. ⌜ Gives (now (out .entry)) (linesGiven (now (area .entry)) (now (slots .entry)) (length (now (records .entry))) (now (out .entry))) r (now (out .exit)) ⌝ }
+    ensures { λ _. ⌜ now (records .exit) ≡ recordsLeft (now (area .entry)) (now (slots .entry)) (now (records .entry)) (now (out .entry)) ⌝ }
+{
+    if out.len() < ASKED {
+        return TOO_SHORT;
+    }
+    match next_lines(area, slots, line_walk_in(out), records) {
+        LinesStep::Lines { count, next } => put_lines(out, count, next),
+        LinesStep::None => NONE,
+        LinesStep::Refused(why) => put_refusal(out, 27, why),
     }
 }

@@ -3,7 +3,7 @@
 use Prim.Native.Nat.{ℕ}
 use mathlib.Core.List.{List}
 use Rattle.area.specs.Kind.{crateRule}
-use Rattle.rows.specs.Words.{wordIn}
+use Rattle.table.specs.Words.{wordIn}
 use Rattle.inlinees.specs.Inlinees.{inlineeStep}
 use Rattle.imports.specs.Imports.{importStep, resolveImport}
 use Rattle.exports.specs.Exports.{exportStep, exportCount, resolveExport}

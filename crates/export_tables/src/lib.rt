@@ -19,8 +19,8 @@ use exports::Lookup;
 use imports::ImportStep;
 use imports::Resolved;
 use inlinees::InlineeStep;
-use rows::WordAnswer;
-use rows::word_in;
+use table::WordAnswer;
+use table::word_in;
 
 // One of the words that a record says by their place and their number.
 pub fn word(area: &[u8], words: usize, count: usize, i: usize, out: &mut [u64]) -> u32

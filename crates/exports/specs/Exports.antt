@@ -15,8 +15,8 @@ use Rattle.find.specs.Find.{same, firstSub}
 use Rattle.body.specs.Exports.{Pair, pairBite, pairs}
 use Rattle.table.specs.declared.TableWalk.{TableWalk}
 use Rattle.table.specs.Table.{shifted, tableStep, tableOf}
-use Rattle.rows.specs.Rows.{rowAt, rowsFrom}
-use Rattle.rows.specs.Collect.{onGave, collected, listingCount}
+use Rattle.table.specs.Rows.{rowAt, rowsFrom}
+use Rattle.table.specs.Collect.{onGave, collected, listingCount}
 
 -- an export, local and global index
 pub data Export : Type 0 where

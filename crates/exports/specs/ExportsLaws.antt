@@ -23,10 +23,10 @@ use Rattle.table.specs.declared.TableWalk.the-variants as walk
 use Rattle.table.specs.Table.{tableOf}
 use Rattle.table.specs.StepLaws.{Steps, steps}
 use Rattle.table.specs.TableLaws.{table-walk, first-finds}
-use Rattle.rows.specs.Rows.{rowsPlaced, rowAt, rowsFrom}
-use Rattle.rows.specs.RowsLaws.{Bitten, bites-step, rows-step, rows-in}
-use Rattle.rows.specs.Collect.{onGave, collected, listingCount}
-use Rattle.rows.specs.CollectLaws.{mapped-same, collected-length}
+use Rattle.table.specs.Rows.{rowsPlaced, rowAt, rowsFrom}
+use Rattle.table.specs.RowsLaws.{Bitten, bites-step, rows-step, rows-in}
+use Rattle.table.specs.Collect.{onGave, collected, listingCount}
+use Rattle.table.specs.CollectLaws.{mapped-same, collected-length}
 use Rattle.exports.specs.Told.{toldPair}
 use Rattle.exports.specs.Exports.{Export, aType, anId, exportOf, pairSize, unplaced, exportIn, pairsOf, exportsOf, exportCount, above, ascends, globalOf, lookup, pairAt, exportShown, exportStep, pairsFrom}
 

@@ -5,7 +5,7 @@
 ghost use mathlib.Core.Path.{_≡_};
 ghost use Rattle.area.specs.Kind.{crateRule};
 ghost use Rattle.body.specs.Exports.{pairs};
-ghost use Rattle.rows.specs.Collect.{onGave, collected, listingCount};
+ghost use Rattle.table.specs.Collect.{onGave, collected, listingCount};
 ghost use Rattle.exports.specs.Exports.{exportOf, pairAt, exportShown, exportStep, exportCount, ascends, globalOf, lookup, resolveExport};
 ghost use Rattle.exports.specs.ExportsLaws.{pairsBehind};
 ghost use Rattle.exports.specs.Told.{toldExport, toldPair, toldExportStep, toldCount, toldLookup};

@@ -16,8 +16,8 @@ use Rattle.body.specs.Words.{wordsIn}
 use Rattle.body.specs.Imports.{Module, moduleBite, modules}
 use Rattle.table.specs.declared.TableWalk.{TableWalk}
 use Rattle.table.specs.Table.{tableStep, tableOf}
-use Rattle.rows.specs.Rows.{rowsPlaced, rowAt, rowsFrom}
-use Rattle.rows.specs.Collect.{onGave, collected, ofNth}
+use Rattle.table.specs.Rows.{rowsPlaced, rowAt, rowsFrom}
+use Rattle.table.specs.Collect.{onGave, collected, ofNth}
 
 -- THE MODULES of an area
 abbrev pub modulesOf : (ℕ → Sort) → List ℕ → Listing Module Told

@@ -25,11 +25,11 @@ use Rattle.table.specs.declared.TableWalk.the-variants as walk
 use Rattle.table.specs.Table.{tableOf}
 use Rattle.table.specs.StepLaws.{Steps, steps}
 use Rattle.table.specs.TableLaws.{table-walk, first-finds}
-use Rattle.rows.specs.Rows.{rowsPlaced, rowAt}
-use Rattle.rows.specs.RowsLaws.{Bitten, rows-step, rows-in, row-next, row-end, row-refused, rows-back}
-use Rattle.rows.specs.Collect.{onGave, collected, ofNth}
-use Rattle.rows.specs.CollectLaws.{mapped-same, mapped-mapped, sought, sought-is}
-use Rattle.rows.specs.WordsLaws.{words-nth, words-none, words-part}
+use Rattle.table.specs.Rows.{rowsPlaced, rowAt}
+use Rattle.table.specs.RowsLaws.{Bitten, rows-step, rows-in, row-next, row-end, row-refused, rows-back}
+use Rattle.table.specs.Collect.{onGave, collected, ofNth}
+use Rattle.table.specs.CollectLaws.{mapped-same, mapped-mapped, sought, sought-is}
+use Rattle.table.specs.WordsLaws.{words-nth, words-none, words-part}
 use Rattle.imports.specs.Told.{toldModule}
 use Rattle.imports.specs.Imports.{modulesOf, Ref, scopeOf, idOf, ifRef, refIn, refOf, ModuleAt, moduleOf, moduleShown, moduleSize, inArea, importsOf, moduleAt, importStep, modulesFrom}
 

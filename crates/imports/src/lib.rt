@@ -1,13 +1,13 @@
 // The imports of an area: modules, each a name and the words that are imported from it, in the first subsection of kind 0xf7 (crate:
 // `CrossModuleImports`, `CrossScopeImportModule`).
 //
-// A module's words are answered by their place in the lent area and their number, from which `rows::word_in` reads each; nothing is copied.
+// A module's words are answered by their place in the lent area and their number, from which `table::word_in` reads each; nothing is copied.
 ghost use mathlib.Core.Path.{_≡_};
 ghost use Prim.Native.Nat.{_+_, _*_, _≤_};
 ghost use lib.ListN.{length};
 ghost use Rattle.area.specs.Kind.{crateRule};
 ghost use Rattle.body.specs.Imports.{modules};
-ghost use Rattle.rows.specs.Collect.{onGave, collected};
+ghost use Rattle.table.specs.Collect.{onGave, collected};
 ghost use Rattle.imports.specs.Imports.{moduleAt, moduleOf, importStep, ifRef, refIn, refOf, resolveImport};
 ghost use Rattle.imports.specs.Told.{toldModule, toldImportStep, toldResolved};
 use find::Found;

@@ -17,9 +17,9 @@ use Rattle.table.specs.declared.TableWalk.{TableWalk}
 use Rattle.table.specs.declared.TableWalk.the-variants as walk
 use Rattle.body.specs.Words.{wordsIn}
 use Rattle.body.specs.Inlinees.{Inlinee}
-use Rattle.rows.specs.Collect.{ofNth}
-use Rattle.rows.specs.Words.{wordIn}
-use Rattle.rows.specs.WordsLaws.{words-part, word-of}
+use Rattle.table.specs.Collect.{ofNth}
+use Rattle.table.specs.Words.{wordIn}
+use Rattle.table.specs.WordsLaws.{words-part, word-of}
 use Rattle.inlinees.specs.Inlinees.{SourceLine, sourceLineAt, sourceLinesFrom, show, inlineeStep, inlineesIn, inlineeSpelt, inlineesOf}
 use Rattle.inlinees.specs.Told.{toldSourceLine}
 use Rattle.inlinees.specs.SourceLineLaws.{lines-step, In, lines-in, lines-mean}
@@ -50,7 +50,7 @@ inlinees-mean rule s =
         = words-part s start n (e .extra) (e .count) q in
         λ i. record { inlinee = e .inlinee; file = e .file; line = e .line; extra = words i }
 
--- and `rows::word_in`, asked for each inlinee of an area, hands out its extra files in order, and nothing behind them
+-- and `table::word_in`, asked for each inlinee of an area, hands out its extra files in order, and nothing behind them
 pub extra-files : (rule : ℕ → Sort) (s : List ℕ)
     → Every (λ (e : SourceLine). (i : ℕ) → wordIn s (e .extra) (e .count) i ≡ ofNth i (inlineeSpelt s e .extra) nothing gave) (inlineesIn rule s)
 extra-files rule s =

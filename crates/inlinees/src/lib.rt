@@ -1,7 +1,7 @@
 // The inlinees of an area: the entries of its first subsection of kind 0xf6, behind the body's signature (crate: `InlineeIterator`,
 // `DebugInlineeLinesIterator`, `InlineeSourceLine`).
 //
-// An entry with extra files says where their words stand and how many there are; `rows::word_in` hands out one of them.
+// An entry with extra files says where their words stand and how many there are; `table::word_in` hands out one of them.
 ghost use mathlib.Core.Path.{_≡_};
 ghost use Prim.Native.Nat.{_+_, _*_, _≤_};
 ghost use lib.ListN.{length};

@@ -18,7 +18,7 @@ use Rattle.files.specs.Files.{File, filesIn, fileSpelt}
 use Rattle.line_walk.specs.Meaning.{areaRecords}
 use Rattle.text.specs.Text.{joined}
 use Rattle.printed.specs.Printed.{Pieces, headLine, subLine, fileLine, endOfText, refusedLine}
-use Rattle.line_text.specs.LineText.{recordLine}
+use Rattle.printed.specs.LineText.{recordLine}
 
 abbrev pub mostBytes : ℕ
 mostBytes = 65536

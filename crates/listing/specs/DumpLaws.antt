@@ -38,7 +38,7 @@ use Rattle.line_walk.specs.NextLaws.{falls}
 use Rattle.line_walk.specs.WalkLaws.{walk-is}
 use Rattle.text.specs.Text.{joined}
 use Rattle.printed.specs.Printed.{Pieces, headLine, endOfText}
-use Rattle.line_text.specs.LineText.{recordLine}
+use Rattle.printed.specs.LineText.{recordLine}
 use Rattle.listing.specs.Dump.{mostBytes, subRow, fileRow, refusal, closing, sheetLines, sheetBytes, textOf, Room, spoken, sheetSize}
 use Rattle.listing.specs.Step.{Line, stage, linesStep, filesStep, subsStep, headStep, stepOf}
 use Rattle.listing.specs.RoomLaws.{room-taken}

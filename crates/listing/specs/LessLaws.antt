@@ -32,7 +32,7 @@ use Rattle.line_walk.specs.Next.{todo, nextOf}
 use Rattle.line_walk.specs.NextLaws.{falls}
 use Rattle.text.specs.Text.{joined}
 use Rattle.printed.specs.Printed.{Pieces, longestLine, endOfText}
-use Rattle.line_text.specs.LineText.{recordLine}
+use Rattle.printed.specs.LineText.{recordLine}
 use Rattle.listing.specs.Dump.{mostBytes, subRow, fileRow}
 use Rattle.listing.specs.Step.{Line, stage, linesStep, filesStep, subsStep, headStep, stepOf, Both, both, lineShown, textStep}
 use Rattle.listing.specs.Told.{toldText}

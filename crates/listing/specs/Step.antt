@@ -21,7 +21,7 @@ use Rattle.line_step.specs.declared.LineWalk.the-variants as line
 use Rattle.line_walk.specs.Next.{nextOf}
 use Rattle.text.specs.Text.{joined, Next, at, full}
 use Rattle.printed.specs.Printed.{Pieces, longestLine, headLine, endOfText}
-use Rattle.line_text.specs.LineText.{recordLine}
+use Rattle.printed.specs.LineText.{recordLine}
 use Rattle.listing.specs.Dump.{mostBytes, subRow, fileRow, refusal}
 use Rattle.listing.specs.declared.TextWalk.{TextWalk}
 use Rattle.listing.specs.declared.TextWalk.the-variants.{Head, Subs, Files, Lines, Done}

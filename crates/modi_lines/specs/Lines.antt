@@ -11,7 +11,7 @@ use Rattle.area.specs.Kind.{Sort}
 use Rattle.find.specs.Find.{Span, bytesAt}
 use Rattle.table.specs.declared.TableWalk.{TableWalk}
 use Rattle.table.specs.Whole.{ofBody}
-use Rattle.rows.specs.Collect.{onGave}
+use Rattle.table.specs.Collect.{onGave}
 use Rattle.files.specs.Files.{Info, File, filesIn, fileStep, fileAt, partOf}
 use Rattle.order.specs.Order.{ordered, slotsAfter}
 use Rattle.line_record.specs.declared.LineRecord.{LineRecord}

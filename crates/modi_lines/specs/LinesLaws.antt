@@ -10,7 +10,7 @@ use Rattle.area.specs.Kind.{Sort}
 use Rattle.find.specs.Find.{Span, bytesAt}
 use Rattle.table.specs.declared.TableWalk.the-variants as walk
 use Rattle.table.specs.Whole.{ofBody}
-use Rattle.rows.specs.Collect.{onGave}
+use Rattle.table.specs.Collect.{onGave}
 use Rattle.files.specs.Files.{filesIn, fileStep, partOf}
 use Rattle.files.specs.FilesLaws.{files-walk}
 use Rattle.line_step.specs.declared.LineWalk.{LineWalk}

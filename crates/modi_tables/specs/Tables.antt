@@ -8,8 +8,8 @@ use Rattle.refusal.specs.Told.{Told}
 use Rattle.area.specs.Kind.{Sort}
 use Rattle.table.specs.declared.TableWalk.{TableWalk}
 use Rattle.table.specs.Whole.{ofBody}
-use Rattle.rows.specs.Collect.{onGave}
-use Rattle.rows.specs.Words.{wordIn}
+use Rattle.table.specs.Collect.{onGave}
+use Rattle.table.specs.Words.{wordIn}
 use Rattle.imports.specs.Imports.{ModuleAt, Ref, importsOf, importStep, resolveImport}
 use Rattle.exports.specs.Exports.{Export, exportsOf, exportStep, exportCount, resolveExport}
 use Rattle.inlinees.specs.Inlinees.{SourceLine, inlineesIn, inlineeStep}

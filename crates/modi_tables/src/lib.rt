@@ -4,7 +4,7 @@
 // With C11 lines that part is empty, and so are the tables.
 ghost use mathlib.Core.Path.{_≡_};
 ghost use Rattle.area.specs.Kind.{crateRule};
-ghost use Rattle.rows.specs.Told.{toldWord};
+ghost use Rattle.table.specs.Told.{toldWord};
 ghost use Rattle.imports.specs.Told as imports;
 ghost use Rattle.exports.specs.Told as exports;
 ghost use Rattle.inlinees.specs.Told.{toldInlinee};
@@ -24,9 +24,9 @@ use inlinees::next_inlinee;
 use modi::ModuleSizes;
 use modi::Part;
 use modi::tables_part;
-use rows::WordAnswer;
-use rows::word_in;
 use table::TableWalk;
+use table::WordAnswer;
+use table::word_in;
 
 // A word of a module of imports, or an extra file of an inlinee.
 pub fn module_word(

@@ -24,8 +24,8 @@ use Rattle.find.specs.Find.{same, is, spanOf}
 use Rattle.table.specs.Table.{tableOf}
 use Rattle.body.specs.Exports.{Pair, pairs}
 use Rattle.body.specs.RunLaws.{Each}
-use Rattle.rows.specs.Collect.{onGave, collected}
-use Rattle.rows.specs.CollectLaws.{mapped-same}
+use Rattle.table.specs.Collect.{onGave, collected}
+use Rattle.table.specs.CollectLaws.{mapped-same}
 use Rattle.lines.specs.Lines.{countOf, plus, linesFrom, countLines}
 use Rattle.files.specs.Files as file
 use Rattle.files.specs.Files.{filesIn}

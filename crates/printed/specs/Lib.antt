@@ -1,2 +1,4 @@
 pub mod Printed
 pub mod PrintedLaws
+pub mod LineText
+pub mod LineTextLaws

@@ -22,7 +22,7 @@ use Rattle.area.specs.SubsLaws.{Inside, subs-inside}
 use Rattle.find.specs.Find.{same, Span, is, spanOf, firstSub, lastSub, bytesAt, firstBytes, lastBytes}
 use Rattle.table.specs.Table.{tableOf}
 use Rattle.table.specs.Whole.{ofBody}
-use Rattle.rows.specs.CollectLaws.{mapped-same, mapped-mapped}
+use Rattle.table.specs.CollectLaws.{mapped-same, mapped-mapped}
 use Rattle.body.specs.Lines.{lineHead, columned, blocks}
 use Rattle.body.specs.Checksums.{checksums}
 use Rattle.body.specs.Imports.{modules}

@@ -12,8 +12,8 @@ use Rattle.word.specs.PartLaws.{part-bytes}
 use Rattle.walk.specs.Cases.{tests}
 use Rattle.walk.specs.Listing.{Listing, mapped, onMove, moved, Answer, gives, none, refuses}
 use Rattle.table.specs.WholeLaws.{mapped-is}
-use Rattle.rows.specs.CollectLaws.{mapped-mapped}
-use Rattle.rows.specs.WordsLaws.{words-part}
+use Rattle.table.specs.CollectLaws.{mapped-mapped}
+use Rattle.table.specs.WordsLaws.{words-part}
 use Rattle.refusal.specs.Told.{Told}
 use Rattle.find.specs.Find.{same}
 use Rattle.body.specs.Words.{wordsIn}

@@ -10,8 +10,8 @@ use reading_record::Columns;
 use reading_record::ItemStep;
 use reading_record::ItemWalk;
 use reading_walk::next_item;
-use rows::WordAnswer;
-use rows::word_in;
+use table::WordAnswer;
+use table::word_in;
 use text::Place;
 use writer::Wrote;
 

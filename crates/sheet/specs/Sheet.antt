@@ -21,7 +21,7 @@ use Rattle.line_record.specs.declared.LineRecord.{LineRecord}
 use Rattle.line_record.specs.declared.Column.the-variants as column
 use Rattle.line_record.specs.Flags.{lineKind, isMarker}
 use Rattle.line_record.specs.Record.{entryOf}
-use Rattle.rows.specs.Collect.{collected, ofNth}
+use Rattle.table.specs.Collect.{collected, ofNth}
 use Rattle.imports.specs.Imports.{Ref, ifRef, resolveImport}
 
 -- what is asked: the subsections of an area; what a line entry's flags word says; the blocks of bytes behind a line header, without columns or with

@@ -6,3 +6,9 @@ pub mod StepLaws
 pub mod HandLaws
 pub mod Whole
 pub mod WholeLaws
+pub mod Rows
+pub mod RowsLaws
+pub mod Collect
+pub mod CollectLaws
+pub mod Words
+pub mod WordsLaws

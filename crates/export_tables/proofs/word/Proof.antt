@@ -2,7 +2,7 @@
 -- Assumes nothing.
 use borrow.Author.Needs.{needs}
 use mathlib.Core.Path.{sym, ap, _∙_}
-use Rattle.rows.specs.Told.{toldWord}
+use Rattle.table.specs.Told.{toldWord}
 use Rattle.answer_words.specs.Given.{one, replyGiven}
 use Rattle.answer_words.specs.GivenLaws.{gives-as, gives-none}
 use Rattle.export_tables.proofs.word.Statement.{statement}

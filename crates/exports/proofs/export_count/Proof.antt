@@ -6,7 +6,7 @@ use native.Mathlib.Nat.{add-sub-cancel-left}
 use mathlib.Core.Path.{sym, ap, _∙_}
 use Rattle.find.specs.Told.{toldFound}
 use Rattle.find.specs.FindLaws.{first-in}
-use Rattle.rows.specs.CollectLaws.{of-found, of-none, of-refused}
+use Rattle.table.specs.CollectLaws.{of-found, of-none, of-refused}
 use Rattle.exports.proofs.export_count.Statement.{statement}
 use Rattle.exports.proofs.export_count.Tie as tie
 

@@ -6,7 +6,7 @@ use native.Mathlib.Nat.{add-sub-cancel-left}
 use mathlib.Core.Path.{sym, ap, _∙_}
 use Rattle.find.specs.Told.{toldFound}
 use Rattle.find.specs.FindLaws.{first-in}
-use Rattle.rows.specs.CollectLaws.{of-found, of-none, of-refused}
+use Rattle.table.specs.CollectLaws.{of-found, of-none, of-refused}
 use Rattle.imports.specs.ImportsLaws.{ref-empty}
 use Rattle.imports.proofs.resolve_import.Statement.{statement}
 use Rattle.imports.proofs.resolve_import.Tie as tie

@@ -8,7 +8,7 @@ use mathlib.Core.Logic.{⊎-elim}
 use native.Mathlib.Omega.{arith}
 use lib.ListN.{length}
 use Rattle.body.specs.Imports.{modules}
-use Rattle.rows.specs.Collect.{onGave, collected}
+use Rattle.table.specs.Collect.{onGave, collected}
 use Rattle.imports.specs.Imports.{refOf}
 use Rattle.imports.specs.Told.{toldModule, toldResolved}
 use Rattle.imports.specs.ImportsLaws.{module-next, Sought, sought-first, sought-hit, sought-miss, sought-end, sought-refused}

@@ -6,7 +6,7 @@ use mathlib.Core.List.{List}
 use native.Mathlib.Omega.{arith}
 use mathlib.Core.Path.{_∙_}
 use Rattle.area.specs.Kind.{crateRule}
-use Rattle.rows.specs.Collect.{onGave}
+use Rattle.table.specs.Collect.{onGave}
 use Rattle.symbol_lines.specs.Symbol.{symbolWalk}
 use Rattle.modi.specs.ModiLaws.{lines-in, of-part, of-refused}
 use Rattle.modi_lines.proofs.module_lines_for_symbol.Statement.{statement}

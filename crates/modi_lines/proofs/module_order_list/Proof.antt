@@ -8,7 +8,7 @@ use lib.ListN.{length}
 use native.Mathlib.Omega.{arith}
 use mathlib.Core.Path.{_∙_}
 use Rattle.area.specs.Kind.{crateRule}
-use Rattle.rows.specs.Collect.{onGave}
+use Rattle.table.specs.Collect.{onGave}
 use Rattle.order.specs.Order.{ordered, slotsAfter}
 use Rattle.modi.specs.ModiLaws.{lines-in, of-part, of-refused}
 use Rattle.modi_lines.specs.Lines.{changed}

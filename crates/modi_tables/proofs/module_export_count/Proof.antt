@@ -4,7 +4,7 @@ use borrow.Author.Needs.{needs}
 use native.Mathlib.Omega.{arith}
 use mathlib.Core.Path.{_∙_}
 use Rattle.area.specs.Kind.{crateRule}
-use Rattle.rows.specs.Collect.{onGave}
+use Rattle.table.specs.Collect.{onGave}
 use Rattle.exports.specs.Exports.{exportCount}
 use Rattle.modi.specs.ModiLaws.{tables-in, of-part, of-refused}
 use Rattle.modi_tables.proofs.module_export_count.Statement.{statement}

@@ -6,7 +6,7 @@ use mathlib.Core.List.{List}
 use native.Mathlib.Omega.{arith}
 use mathlib.Core.Path.{_∙_}
 use Rattle.area.specs.Kind.{crateRule}
-use Rattle.rows.specs.Collect.{onGave}
+use Rattle.table.specs.Collect.{onGave}
 use Rattle.imports.specs.Imports.{resolveImport}
 use Rattle.modi.specs.ModiLaws.{tables-in, of-part, of-refused}
 use Rattle.modi_tables.proofs.module_resolve_import.Statement.{statement}

@@ -5,8 +5,8 @@ use Prim.Native.Nat.{ℕ}
 use mathlib.Core.List.{List}
 use native.Mathlib.Omega.{arith}
 use mathlib.Core.Path.{_∙_}
-use Rattle.rows.specs.Collect.{onGave}
-use Rattle.rows.specs.Words.{wordIn}
+use Rattle.table.specs.Collect.{onGave}
+use Rattle.table.specs.Words.{wordIn}
 use Rattle.modi.specs.ModiLaws.{tables-in, of-part, of-refused}
 use Rattle.modi_tables.proofs.module_word.Statement.{statement}
 use Rattle.modi_tables.proofs.module_word.Tie as tie

@@ -1,2 +1,0 @@
-pub mod LineText
-pub mod LineTextLaws
