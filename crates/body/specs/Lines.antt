@@ -20,6 +20,10 @@ pub record LineHead : Type 0 where
   pub flags : ℕ
   pub code : ℕ
 
+-- the bytes of the header
+abbrev pub lineHeadSize : ℕ
+lineHeadSize = 12
+
 abbrev pub lineHead : List ℕ → LineHead
 lineHead s = record { offset = u32At s 0; section = u16At s 4; flags = u16At s 6; code = u32At s 8 }
 
@@ -41,17 +45,21 @@ columnsOf false n = 0
 abbrev pub lineBytes : Bool → ℕ → ℕ
 lineBytes c n = 8 * n + 4 * columnsOf c n
 
+-- the bytes of a block's header
+abbrev pub blockHeadSize : ℕ
+blockHeadSize = 12
+
 unfoldable pub blockBite : Bool → List ℕ → Move (List ℕ) Block Told
 blockBite c s =
     cond (eqb (length s) 0) over
-    (cond (ltb (length s) 12) (fail (told why.Cut))
-    (cond (ltb (u32At s 8) 12) (fail (told why.BlockSize))
+    (cond (ltb (length s) blockHeadSize) (fail (told why.Cut))
+    (cond (ltb (u32At s 8) blockHeadSize) (fail (told why.BlockSize))
     (cond (ltb (length s) (u32At s 8)) (fail (told why.Cut))
-    (cond (ltb (u32At s 8 - 12) (lineBytes c (u32At s 4))) (fail (told why.BlockSize))
+    (cond (ltb (u32At s 8 - blockHeadSize) (lineBytes c (u32At s 4))) (fail (told why.BlockSize))
     (item (record {
       file = u32At s 0;
-      lines = wordsIn (2 * u32At s 4) (drop 12 s);
-      columns = wordsIn (columnsOf c (u32At s 4)) (drop (12 + 8 * u32At s 4) s);
+      lines = wordsIn (2 * u32At s 4) (drop blockHeadSize s);
+      columns = wordsIn (columnsOf c (u32At s 4)) (drop (blockHeadSize + 8 * u32At s 4) s);
     }) (drop (u32At s 8) s))))))
 
 unfoldable pub blocks : Bool → List ℕ → Listing Block Told
@@ -65,4 +73,4 @@ abbrev pub blockBytes : Block → List ℕ
 blockBytes b =
     le32 (b .file)
     ++ (le32 (length (b .lines) / 2)
-    ++ (le32 (12 + 4 * length (b .lines) + 4 * length (b .columns)) ++ (wordBytes (b .lines) ++ wordBytes (b .columns))))
+    ++ (le32 (blockHeadSize + 4 * length (b .lines) + 4 * length (b .columns)) ++ (wordBytes (b .lines) ++ wordBytes (b .columns))))

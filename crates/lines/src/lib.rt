@@ -26,6 +26,11 @@ pub struct LineHeader {
     pub code: u32,
 }
 
+// The bytes of a line body's header, and those of a block's.
+pub const LINE_HEAD: usize = 12;
+
+pub const BLOCK_HEAD: usize = 12;
+
 // A byte that is missing reads as 0.
 pub fn header_of(body: &[u8]) -> LineHeader
     ensures { λ r. ⌜ toldHeader r ≡ lineHead (now (body .entry)) ⌝ }
@@ -70,7 +75,7 @@ fn line_bytes(columns: bool, count: u32) -> usize
     8 * (count as usize)
 }
 
-// The first block stands behind the header, at 12.
+// The first block stands behind the header, at `LINE_HEAD`.
 pub fn block_at(body: &[u8], at: usize, columns: bool) -> BlockStep
     ensures { λ r. ⌜ toldBlock r ≡ blockAt columns (now (body .entry)) at ⌝ }
 {
@@ -81,25 +86,25 @@ pub fn block_at(body: &[u8], at: usize, columns: bool) -> BlockStep
     if left == 0 {
         return BlockStep::None;
     }
-    if left < 12 {
+    if left < BLOCK_HEAD {
         return BlockStep::Refused(Refusal::Cut);
     }
     let file = u32_at(body, at);
     let count = u32_at(body, at + 4);
     let size = u32_at(body, at + 8) as usize;
-    if size < 12 {
+    if size < BLOCK_HEAD {
         return BlockStep::Refused(Refusal::BlockSize);
     }
     if left < size {
         return BlockStep::Refused(Refusal::Cut);
     }
-    if size - 12 < line_bytes(columns, count) {
+    if size - BLOCK_HEAD < line_bytes(columns, count) {
         return BlockStep::Refused(Refusal::BlockSize);
     }
     BlockStep::Block {
         file,
         count: count as usize,
-        start: at + 12,
+        start: at + BLOCK_HEAD,
         next: at + size,
     }
 }
@@ -125,7 +130,7 @@ pub fn count_lines(area: &[u8]) -> Counted
                 next,
             } => {
                 if kind == 0xf2 {
-                    if len < 12 {
+                    if len < LINE_HEAD {
                         return Counted::Refused(Refusal::Cut);
                     }
                     n += 1;
