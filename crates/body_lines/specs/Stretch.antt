@@ -9,12 +9,12 @@ use Rattle.walk.specs.Listing.{pass, none}
 use Rattle.word.specs.Word.{u32At, store}
 use Rattle.refusal.specs.Told.{longest}
 use Rattle.body.specs.Lines.{columned}
-use Rattle.line_record.specs.Record.{columnIf, startColumn, endColumn, recordOf, closedAt, maxOffset}
+use Rattle.line_record.specs.Record.{columnIf, recordOf, closedAt, maxOffset}
 use Rattle.line_record.specs.Flags.{isMarker}
 use Rattle.line_record.specs.declared.LineRecord.{LineRecord}
 use Rattle.line_state_words.specs.LineWords.{recordWords}
 use Rattle.lines.specs.Blocks.{blockAt}
-use Rattle.line_step.specs.Turn.{withHeld, blockTurn}
+use Rattle.line_step.specs.Turn.{sourceOf, withHeld, blockTurn}
 use Rattle.line_step.specs.declared.Held.{Held}
 use Rattle.line_step.specs.declared.Held.the-variants.{Nothing, One}
 use Rattle.line_step.specs.declared.Rest.{Rest}
@@ -34,8 +34,7 @@ atLine p i =
 
 -- the record of an entry whose sum and words these are
 abbrev pub plainOf : Place → ℕ → ℕ → ℕ → LineRecord
-plainOf p offset flags word =
-    recordOf (p .head .section) offset (p .file) flags (startColumn (columnIf (columned (p .head .flags)) word)) (endColumn (columnIf (columned (p .head .flags)) word))
+plainOf p offset flags word = recordOf (sourceOf p) offset flags (columnIf (sourceOf p .columns) word)
 
 -- the lines of the place, and their columns, lie in its body, and that in the area s
 pub record Fit (s : List ℕ) (p : Place) : Type 0 where

@@ -13,15 +13,15 @@ use Rattle.refusal.specs.Told.{longest}
 use Rattle.area.specs.Kind.{crateRule}
 use Rattle.body.specs.Lines.{columned, lineBytes}
 use Rattle.line_record.specs.Flags.{isMarker}
-use Rattle.line_record.specs.Record.{maxOffset, columnIf, startColumn, endColumn, recordOf, entryOf, closedAt}
+use Rattle.line_record.specs.Record.{maxOffset, columnIf, recordOf, entryOf, closedAt}
 use Rattle.line_record.specs.RecordLaws.{entry-marker, entry-line}
-use Rattle.line_record.specs.declared.Column.{Column}
 use Rattle.line_record.specs.declared.LineRecord.{LineRecord}
+use Rattle.line_record.specs.declared.LineSource.{LineSource}
 use Rattle.line_state_words.specs.LineWords.{recordWords}
 use Rattle.line_state_words.specs.LineWordsLaws.{record-length, record-is}
 use Rattle.lines.specs.Blocks.{LineBlock, blockAt}
 use Rattle.lines.specs.BlocksLaws.{block-in}
-use Rattle.line_step.specs.Turn.{lineEntryAt, withHeld, pastLine, holdIn, lineOf, lineTurn, columnPlace, blockTurn, turnOf}
+use Rattle.line_step.specs.Turn.{sourceOf, lineEntryAt, withHeld, pastLine, holdIn, lineOf, lineTurn, columnPlace, blockTurn, turnOf}
 use Rattle.line_step.specs.TurnLaws.{entry-in, block-lines, inside-block, inside-line, turn-is}
 use Rattle.line_step.specs.declared.Held.{Held}
 use Rattle.line_step.specs.declared.Held.the-variants.{Nothing, One}
@@ -51,12 +51,8 @@ pub put-closed : (o o′ : List ℕ) (at section end : ℕ) (r k x : LineRecord)
 put-closed o o′ at section end r k x er ek eo = eo ∙ ap (λ d. store o at (recordWords d)) (ek ∙ ap (closedAt section end) er)
 
 -- a record as code makes it
-pub record-plain : (p : Place) (offset flags w : ℕ) (c : Bool) (a b : Column) (r : LineRecord) → c ≡ columned (p .head .flags) → a ≡ startColumn (columnIf c w)
-    → b ≡ endColumn (columnIf c w) → r ≡ recordOf (p .head .section) offset (p .file) flags a b → r ≡ plainOf p offset flags w
-record-plain p offset flags w c a b r ec ea eb er =
-    let ea′ = ea ∙ ap (λ x. startColumn (columnIf x w)) ec in
-    let eb′ = eb ∙ ap (λ x. endColumn (columnIf x w)) ec in
-    er ∙ (λ i. recordOf (p .head .section) offset (p .file) flags (ea′ i) (eb′ i))
+pub record-plain : (p : Place) (offset flags w : ℕ) (x : LineSource) (r : LineRecord) → x ≡ sourceOf p → r ≡ recordOf x offset flags (columnIf (x .columns) w) → r ≡ plainOf p offset flags w
+record-plain p offset flags w x r ex er = er ∙ ap (λ y. recordOf y offset flags (columnIf (y .columns) w)) ex
 
 -- ---- a line is a turn
 
@@ -74,17 +70,14 @@ module _ (s v : List ℕ) (p : Place) (f : Fit s p) (i : ℕ) (l : i < p .lines)
   -- o and g are the line's words, and w its column word where it has one
   module _ (o g w : ℕ) (eo : o ≡ u32At s (p .line + 8 * i)) (eg : g ≡ u32At s (p .line + 8 * i + 4))
       (ew : columnIf (columned (p .head .flags)) w ≡ columnIf (columned (p .head .flags)) (u32At s (p .column + 4 * i))) where
-    entry-words : entryOf (p .head .section) (p .head .offset) (p .file) o g (startColumn (columnIf (columned (p .head .flags)) w)) (endColumn (columnIf (columned (p .head .flags)) w))
-        ≡ lineEntryAt (take (p .end) s) (atLine p i)
+    entry-words : entryOf (sourceOf p) o g (columnIf (sourceOf p .columns) w) ≡ lineEntryAt (take (p .end) s) (atLine p i)
     entry-words =
         let b = take (p .end) s in
-        let c = columned (p .head .flags) in
         let wo = sym (u32-take s (p .end) (p .line + 8 * i) (omega (arith, f .lines))) in
         let wg = sym (u32-take s (p .end) (p .line + 8 * i + 4) (omega (arith, f .lines))) in
         let ww = sym (u32-take s (p .end) (p .column + 4 * i) (omega (arith, f .columns))) in
-        let q = ew ∙ ap (columnIf c) ww in
-        entry-in b (atLine p i) (omega (arith, body-length, f .lines)) (omega (arith, body-length, f .columns)) o g (u32At b (p .column + 4 * i)) c
-        (startColumn (columnIf c w)) (endColumn (columnIf c w)) (eo ∙ wo) (eg ∙ wg) refl refl (ap startColumn q) (ap endColumn q)
+        ap (entryOf (sourceOf p) o g) (ew ∙ ap (columnIf (sourceOf p .columns)) ww)
+        ∙ entry-in b (atLine p i) (omega (arith, body-length, f .lines)) (omega (arith, body-length, f .columns)) (sourceOf p) o g (u32At b (p .column + 4 * i)) refl (eo ∙ wo) (eg ∙ wg) refl
 
     line-turn-is : (t : Rest) → lineTurn (take (p .end) s) (atLine p i) t ≡ turnOf crateRule s v (Inside (atLine p i) t)
     line-turn-is t =
@@ -93,7 +86,7 @@ module _ (s v : List ℕ) (p : Place) (f : Fit s p) (i : ℕ) (l : i < p .lines)
     pub turn-marker : isMarker g ≡ true → (t : Rest) → pass (Inside (atLine p (i + 1)) t) ≡ turnOf crateRule s v (Inside (atLine p i) t)
     turn-marker m t =
         ap (λ q. pass (Inside q t)) (sym past-line)
-        ∙ ap (lineOf (atLine p i) t) (entry-marker _ _ _ _ _ _ _ m ∙ entry-words)
+        ∙ ap (lineOf (atLine p i) t) (entry-marker _ _ _ _ m ∙ entry-words)
         ∙ line-turn-is t
 
     turn-line : isMarker g ≡ false → p .head .offset + o ≤ maxOffset → (t : Rest) (h : Held)
@@ -101,7 +94,7 @@ module _ (s v : List ℕ) (p : Place) (f : Fit s p) (i : ℕ) (l : i < p .lines)
         ≡ turnOf crateRule s v (Inside (atLine p i) (withHeld t h))
     turn-line m k t h =
         ap (λ q. holdIn h (plainOf p (p .head .offset + o) g w) (Inside q (withHeld t (One (plainOf p (p .head .offset + o) g w))))) (sym past-line)
-        ∙ ap (lineOf (atLine p i) (withHeld t h)) (entry-line _ _ _ _ _ _ _ m k ∙ entry-words)
+        ∙ ap (lineOf (atLine p i) (withHeld t h)) (entry-line _ _ _ _ m k ∙ entry-words)
         ∙ line-turn-is (withHeld t h)
 
     pub turn-first : isMarker g ≡ false → p .head .offset + o ≤ maxOffset → (t : Rest)

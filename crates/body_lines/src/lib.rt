@@ -12,13 +12,12 @@ ghost use Rattle.line_step.specs.Turn.{columnPlace};
 ghost use Rattle.body_lines.specs.Stretch.{atLine, plainOf, Fit, Stride, Strode, HeldPut, FirstLine, Ran, OpenedIs, Rode};
 use line_record::LineRecord;
 use line_record::closed;
-use line_record::column_end;
-use line_record::column_start;
 use line_record::is_marker;
 use line_record::record_of;
 use line_state_words::put_record;
 use line_step::Held;
 use line_step::Place;
+use line_step::source_of;
 use lines::BlockStep;
 use lines::block_at;
 use lines::has_columns;
@@ -56,11 +55,7 @@ fn column_at(area: &[u8], columns: bool, at: usize) -> u32
 fn record_in(p: Place, offset: u32, flags: u32, word: u32) -> LineRecord
     ensures { λ r. ⌜ r ≡ plainOf p offset flags word ⌝ }
 {
-    let h = p.head;
-    let columns = has_columns(h.flags);
-    let a = column_start(columns, word);
-    let b = column_end(columns, word);
-    record_of(h.section, offset, p.file, flags, a, b)
+    record_of(source_of(p), offset, flags, word)
 }
 
 // How far a stretch has come: the records that are put, the lines that are done, and of the held record its offset and words.

@@ -97,8 +97,16 @@ pub fn is_marker(flags: u32) -> bool
     line == 0xf00f00
 }
 
+// What the lines of a block have in common: the section and the start of their subsection, their file, and whether they have columns.
+pub struct LineSource {
+    pub section: u16,
+    pub base: u32,
+    pub file: u32,
+    pub columns: bool,
+}
+
 // The start column: the low half of the column word, if there are columns.
-pub fn column_start(columns: bool, word: u32) -> Column
+fn column_start(columns: bool, word: u32) -> Column
     ensures { λ r. ⌜ r ≡ startColumn (columnIf columns word) ⌝ }
 {
     if columns {
@@ -108,7 +116,7 @@ pub fn column_start(columns: bool, word: u32) -> Column
 }
 
 // The end column: the high half.
-pub fn column_end(columns: bool, word: u32) -> Column
+fn column_end(columns: bool, word: u32) -> Column
     ensures { λ r. ⌜ r ≡ endColumn (columnIf columns word) ⌝ }
 {
     if columns {
@@ -117,29 +125,24 @@ pub fn column_end(columns: bool, word: u32) -> Column
     Column::None
 }
 
-// The one place where a record is made of an entry.
-pub fn record_of(
-    section: u16,
-    offset: u32,
-    file: u32,
-    flags: u32,
-    column_start: Column,
-    column_end: Column,
-) -> LineRecord
-    ensures { λ r. ⌜ r ≡ recordOf section offset file flags «column_start» «column_end» ⌝ }
+// The one place where a record is made of an entry: `offset` is the one in the section, and `word` the column word, if there are columns.
+pub fn record_of(source: LineSource, offset: u32, flags: u32, word: u32) -> LineRecord
+    ensures { λ r. ⌜ r ≡ recordOf source offset flags (columnIf (source .columns) word) ⌝ }
 {
     let start = start_line(flags);
     let end = end_line(flags);
+    let a = column_start(source.columns, word);
+    let b = column_end(source.columns, word);
     let k = kind(flags);
     LineRecord {
-        section,
+        section: source.section,
         offset,
         length: Length::Unset,
-        file,
+        file: source.file,
         start_line: start,
         end_line: end,
-        column_start,
-        column_end,
+        column_start: a,
+        column_end: b,
         kind: k,
     }
 }
@@ -151,32 +154,17 @@ pub enum Entry {
     Refused(Refusal),
 }
 
-// The entry of these words in a block of `file`, in a subsection that starts at `base` of `section`. A marker forms no sum.
-pub fn entry_of(
-    section: u16,
-    base: u32,
-    file: u32,
-    offset: u32,
-    flags: u32,
-    column_start: Column,
-    column_end: Column,
-) -> Entry
-    ensures { λ r. ⌜ toldLineEntry r ≡ entryOf section base file offset flags «column_start» «column_end» ⌝ }
+// The entry of these words, whose offset is the one in the subsection. A marker forms no sum.
+pub fn entry_of(source: LineSource, offset: u32, flags: u32, word: u32) -> Entry
+    ensures { λ r. ⌜ toldLineEntry r ≡ entryOf source offset flags (columnIf (source .columns) word) ⌝ }
 {
     if is_marker(flags) {
         return Entry::Marker;
     }
-    if LineRecord::MAX_OFFSET - base < offset {
+    if LineRecord::MAX_OFFSET - source.base < offset {
         return Entry::Refused(Refusal::OffsetTooLarge);
     }
-    Entry::Line(record_of(
-        section,
-        base + offset,
-        file,
-        flags,
-        column_start,
-        column_end,
-    ))
+    Entry::Line(record_of(source, source.base + offset, flags, word))
 }
 
 // The shorter of a length and n.

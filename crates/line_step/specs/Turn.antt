@@ -14,11 +14,13 @@ use Rattle.refusal.specs.declared.Refusal.the-variants as why
 use Rattle.area.specs.Kind.{Sort}
 use Rattle.body.specs.Lines.{lineHead, columned}
 use Rattle.find.specs.Find.{Span, bytesAt}
-use Rattle.line_record.specs.Record.{maxOffset, columnIf, startColumn, endColumn, entryOf, closedAt}
+use Rattle.line_record.specs.Record.{maxOffset, columnIf, headSource, entryOf, closedAt}
 use Rattle.line_record.specs.declared.LineRecord.{LineRecord}
+use Rattle.line_record.specs.declared.LineSource.{LineSource}
 use Rattle.lines.specs.Lines.{countLines}
 use Rattle.lines.specs.Blocks.{LineBlock, blockAt}
 use Rattle.lines.specs.Slots.{slotAt}
+use Rattle.lines.specs.Told.{toldHeader}
 use Rattle.lines.specs.Untold.{untoldHeader}
 use Rattle.lines.specs.declared.LineHeader.{LineHeader}
 use Rattle.line_step.specs.declared.Held.{Held}
@@ -33,12 +35,13 @@ LineMove = Move LineWalk LineRecord Told
 
 -- ---- a line
 
+-- what the lines at a place have in common
+abbrev pub sourceOf : Place → LineSource
+sourceOf p = headSource (toldHeader (p .head)) (p .file)
+
 -- what the entry says whose words stand at the place
 abbrev pub entryIn : List ℕ → Place → Reply LineRecord Told
-entryIn b p =
-    entryOf (p .head .section) (p .head .offset) (p .file) (u32At b (p .line)) (u32At b (p .line + 4))
-    (startColumn (columnIf (columned (p .head .flags)) (u32At b (p .column))))
-    (endColumn (columnIf (columned (p .head .flags)) (u32At b (p .column))))
+entryIn b p = entryOf (sourceOf p) (u32At b (p .line)) (u32At b (p .line + 4)) (columnIf (sourceOf p .columns) (u32At b (p .column)))
 
 unfoldable pub lineEntryAt : List ℕ → Place → Reply LineRecord Told
 lineEntryAt b p =

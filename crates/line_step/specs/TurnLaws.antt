@@ -14,9 +14,9 @@ use Rattle.refusal.specs.declared.Refusal.the-variants as why
 use Rattle.area.specs.Kind.{Sort}
 use Rattle.body.specs.Lines.{lineHead, columned}
 use Rattle.find.specs.Find.{Span, bytesAt}
-use Rattle.line_record.specs.Record.{maxOffset, columnIf, startColumn, endColumn, entryOf, closedAt}
-use Rattle.line_record.specs.declared.Column.{Column}
+use Rattle.line_record.specs.Record.{maxOffset, columnIf, entryOf, closedAt}
 use Rattle.line_record.specs.declared.LineRecord.{LineRecord}
+use Rattle.line_record.specs.declared.LineSource.{LineSource}
 use Rattle.lines.specs.Blocks.{LineBlock, blockAt}
 use Rattle.lines.specs.Slots.{slotAt}
 use Rattle.lines.specs.Told.{toldHeader}
@@ -28,7 +28,7 @@ use Rattle.line_step.specs.declared.Rest.{Rest}
 use Rattle.line_step.specs.declared.Place.{Place}
 use Rattle.line_step.specs.declared.LineWalk.{LineWalk}
 use Rattle.line_step.specs.declared.LineWalk.the-variants.{Between, Inside}
-use Rattle.line_step.specs.Turn.{LineMove, entryIn, lineEntryAt, withHeld, pastLine, holdIn, holdOf, lineOf, lineTurn, columnPlace, endIn, blockOf, blockTurn, insideTurn, placeAt, restAt, enterAt, namedOf, subTurn, finishIn, finishOf, betweenTurn, turnIn, turnOf}
+use Rattle.line_step.specs.Turn.{LineMove, sourceOf, entryIn, lineEntryAt, withHeld, pastLine, holdIn, holdOf, lineOf, lineTurn, columnPlace, endIn, blockOf, blockTurn, insideTurn, placeAt, restAt, enterAt, namedOf, subTurn, finishIn, finishOf, betweenTurn, turnIn, turnOf}
 
 -- ---- a line
 
@@ -48,13 +48,9 @@ module _ (b : List ℕ) (p : Place) where
       entry-inside = sym (simp tests)
 
       -- what was read, as code has it
-      pub entry-in : (o g w : ℕ) (c : Bool) (x y : Column) → o ≡ u32At b (p .line) → g ≡ u32At b (p .line + 4) → w ≡ u32At b (p .column)
-          → c ≡ columned (p .head .flags) → x ≡ startColumn (columnIf c w) → y ≡ endColumn (columnIf c w)
-          → entryOf (p .head .section) (p .head .offset) (p .file) o g x y ≡ lineEntryAt b p
-      entry-in o g w c x y eo eg ew ec ex ey =
-          let ex′ = ex ∙ (λ i. startColumn (columnIf (ec i) (ew i))) in
-          let ey′ = ey ∙ (λ i. endColumn (columnIf (ec i) (ew i))) in
-          (λ i. entryOf (p .head .section) (p .head .offset) (p .file) (eo i) (eg i) (ex′ i) (ey′ i)) ∙ entry-inside
+      pub entry-in : (x : LineSource) (o g w : ℕ) → x ≡ sourceOf p → o ≡ u32At b (p .line) → g ≡ u32At b (p .line + 4) → w ≡ u32At b (p .column)
+          → entryOf x o g (columnIf (x .columns) w) ≡ lineEntryAt b p
+      entry-in x o g w ex eo eg ew = (λ i. entryOf (ex i) (eo i) (eg i) (columnIf (ex i .columns) (ew i))) ∙ entry-inside
 
 -- an entry that is no refusal lies inside the body
 abbrev EntryIn : ℕ → Place → Reply LineRecord Told → Type 0

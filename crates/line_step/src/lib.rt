@@ -7,14 +7,13 @@ ghost use Prim.Native.Nat.{_+_, _*_, _≤_, _<_, _^_};
 ghost use lib.ListN.{length};
 ghost use Rattle.area.specs.Kind.{crateRule};
 ghost use Rattle.line_record.specs.Told.{toldLineEntry};
-ghost use Rattle.line_step.specs.Turn.{lineEntryAt, withHeld, pastLine, holdOf, lineTurn, columnPlace, endOf, blockTurn, insideTurn, placeAt, enterAt, subTurn, finishOf, betweenTurn, openOf, turnOf};
+ghost use Rattle.line_step.specs.Turn.{sourceOf, lineEntryAt, withHeld, pastLine, holdOf, lineTurn, columnPlace, endOf, blockTurn, insideTurn, placeAt, enterAt, subTurn, finishOf, betweenTurn, openOf, turnOf};
 ghost use Rattle.lines.specs.Lines.{countLines};
 ghost use Rattle.line_step.specs.Told.{toldTurn};
 use line_record::Entry;
 use line_record::LineRecord;
+use line_record::LineSource;
 use line_record::closed;
-use line_record::column_end;
-use line_record::column_start;
 use line_record::entry_of;
 use lines::BlockStep;
 use lines::Counted;
@@ -70,6 +69,20 @@ pub enum Turn {
     Refused(Refusal),
 }
 
+// What the lines at a place have in common.
+pub fn source_of(p: Place) -> LineSource
+    ensures { λ r. ⌜ r ≡ sourceOf p ⌝ }
+{
+    let h = p.head;
+    let columns = has_columns(h.flags);
+    LineSource {
+        section: h.section,
+        base: h.offset,
+        file: p.file,
+        columns,
+    }
+}
+
 // The entry at a place. Where it does not lie in the body it is 1; without columns `column` is the first line's place.
 fn entry_at(body: &[u8], p: Place) -> Entry
     ensures { λ r. ⌜ toldLineEntry r ≡ lineEntryAt (now (body .entry)) p ⌝ }
@@ -88,14 +101,11 @@ fn entry_at(body: &[u8], p: Place) -> Entry
     if body.len() - column < 4 {
         return Entry::Refused(Refusal::Cut);
     }
-    let h = p.head;
+    let source = source_of(p);
     let offset = u32_at(body, line);
     let flags = u32_at(body, line + 4);
     let word = u32_at(body, column);
-    let columns = has_columns(h.flags);
-    let a = column_start(columns, word);
-    let b = column_end(columns, word);
-    entry_of(h.section, h.offset, p.file, offset, flags, a, b)
+    entry_of(source, offset, flags, word)
 }
 
 fn with_held(t: Rest, held: Held) -> Rest

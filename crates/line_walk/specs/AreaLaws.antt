@@ -15,10 +15,10 @@ use Rattle.refusal.specs.Told.{Told, told}
 use Rattle.refusal.specs.declared.Refusal.the-variants as why
 use Rattle.area.specs.Kind.{Sort}
 use Rattle.body.specs.Lines.{LineHead, lineHead, columned, lineBytes, Block, blockBite, blocks}
-use Rattle.line_record.specs.declared.Column.{Column}
+use Rattle.line_record.specs.declared.LineSource.{LineSource}
 use Rattle.line_record.specs.declared.LineRecord.{LineRecord}
 use Rattle.line_record.specs.Flags.{isMarker}
-use Rattle.line_record.specs.Record.{maxOffset, startColumn, endColumn, entryOf, closedAt}
+use Rattle.line_record.specs.Record.{maxOffset, headSource, entryOf, closedAt}
 use Rattle.lines.specs.BlocksLaws.{blocks-ind}
 use Rattle.lines.specs.Lines.{countLines}
 use Rattle.order.specs.Order.{orderOf, ordered, slotsAfter, inOrder}
@@ -75,10 +75,10 @@ module _ (Q : Told → Type 0) (cut : Q (told why.Cut)) (size : Q (told why.Bloc
   EntryBy nothing = Unit {0}
   EntryBy (refused t) = Q t
 
-  entry-by : (section base file offset flags : ℕ) (a b : Column) → EntryBy (entryOf section base file offset flags a b)
+  entry-by : (source : LineSource) (offset flags : ℕ) (cs : List ℕ) → EntryBy (entryOf source offset flags cs)
   unfolding entryOf
-  entry-by section base file offset flags a b =
-      by-cases EntryBy (isMarker flags) (λ e. tt) (λ e. by-cases EntryBy (ltb maxOffset (base + offset)) (λ g. large) (λ g. tt))
+  entry-by source offset flags cs =
+      by-cases EntryBy (isMarker flags) (λ e. tt) (λ e. by-cases EntryBy (ltb maxOffset (source .base + offset)) (λ g. large) (λ g. tt))
 
   then-by : (e : Reply LineRecord Told) (l : Events) → EntryBy e → FailsBy Q l → FailsBy Q (entryThen e l)
   then-by (gave r) l f g = g
@@ -88,8 +88,8 @@ module _ (Q : Told → Type 0) (cut : Q (told why.Cut)) (size : Q (told why.Bloc
   lines-by : (h : LineHead) (f : ℕ) (ws cs : List ℕ) (l : Events) → FailsBy Q l → FailsBy Q (linesThen h f ws cs l)
   unfolding linesThen
   lines-by h f (offset ∷ flags ∷ ws) cs l g =
-      then-by (entryOf (h .section) (h .offset) f offset flags (startColumn cs) (endColumn cs)) (linesThen h f ws (behind cs) l)
-      (entry-by (h .section) (h .offset) f offset flags (startColumn cs) (endColumn cs)) (lines-by h f ws (behind cs) l g)
+      then-by (entryOf (headSource h f) offset flags cs) (linesThen h f ws (behind cs) l)
+      (entry-by (headSource h f) offset flags cs) (lines-by h f ws (behind cs) l g)
   lines-by h f (offset ∷ []) cs l g = g
   lines-by h f [] cs l g = g
 

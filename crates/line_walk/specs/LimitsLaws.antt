@@ -12,7 +12,7 @@ use Rattle.refusal.specs.Told.{Told}
 use Rattle.area.specs.Kind.{Sort}
 use Rattle.body.specs.Lines.{LineHead, lineHead, columned, Block, blocks}
 use Rattle.line_record.specs.declared.LineRecord.{LineRecord}
-use Rattle.line_record.specs.Record.{maxOffset, startColumn, endColumn, entryOf, closedAt}
+use Rattle.line_record.specs.Record.{maxOffset, headSource, entryOf, closedAt}
 use Rattle.line_record.specs.LimitsLaws.{Limits, entry-limits, close-limits}
 use Rattle.lines.specs.Slots.{listOf}
 use Rattle.line_walk.specs.Meaning.{Event, line, done, Events, entryThen, behind, linesThen, blocksThen, bodyThen, eventsOf, settleOne, settle, recordsOf}
@@ -29,8 +29,8 @@ then-limits (refused t) l f g = tt
 lines-limits : (h : LineHead) (f : ℕ) (ws cs : List ℕ) (l : Events) → Every EventIn l → Every EventIn (linesThen h f ws cs l)
 unfolding linesThen
 lines-limits h f (offset ∷ flags ∷ ws) cs l e =
-    then-limits (entryOf (h .section) (h .offset) f offset flags (startColumn cs) (endColumn cs)) (linesThen h f ws (behind cs) l)
-    (entry-limits (h .section) (h .offset) f offset flags (startColumn cs) (endColumn cs)) (lines-limits h f ws (behind cs) l e)
+    then-limits (entryOf (headSource h f) offset flags cs) (linesThen h f ws (behind cs) l)
+    (entry-limits (headSource h f) offset flags cs) (lines-limits h f ws (behind cs) l e)
 lines-limits h f (offset ∷ []) cs l e = e
 lines-limits h f [] cs l e = e
 

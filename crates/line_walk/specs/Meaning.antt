@@ -13,7 +13,7 @@ use Rattle.refusal.specs.Told.{Told, told}
 use Rattle.refusal.specs.declared.Refusal.the-variants as why
 use Rattle.area.specs.Kind.{Sort}
 use Rattle.body.specs.Lines.{LineHead, lineHead, columned, Block, blocks}
-use Rattle.line_record.specs.Record.{maxOffset, startColumn, endColumn, entryOf, closedAt}
+use Rattle.line_record.specs.Record.{maxOffset, headSource, entryOf, closedAt}
 use Rattle.line_record.specs.declared.LineRecord.{LineRecord}
 use Rattle.lines.specs.Slots.{listOf}
 use Rattle.order.specs.Order.{inOrder}
@@ -40,7 +40,7 @@ behind (w ∷ ws) = ws
 -- the lines of a block of file f, offset and flags of each, with a column word for each if there are columns; and then l
 unfoldable pub linesThen : LineHead → ℕ → List ℕ → List ℕ → Events → Events
 linesThen h f (offset ∷ flags ∷ ws) cs l =
-    entryThen (entryOf (h .section) (h .offset) f offset flags (startColumn cs) (endColumn cs)) (linesThen h f ws (behind cs) l)
+    entryThen (entryOf (headSource h f) offset flags cs) (linesThen h f ws (behind cs) l)
 linesThen h f (offset ∷ []) cs l = l
 linesThen h f [] cs l = l
 

@@ -24,7 +24,7 @@ use Rattle.area.specs.Kind.{Sort}
 use Rattle.body.specs.Words.{wordsIn}
 use Rattle.body.specs.Lines.{LineHead, lineHead, columned, columnsOf, lineBytes, blocks}
 use Rattle.find.specs.Find.{same, Span, bytesAt}
-use Rattle.line_record.specs.Record.{maxOffset, columnIf, startColumn, endColumn, entryOf, closedAt}
+use Rattle.line_record.specs.Record.{maxOffset, columnIf, headSource, entryOf, closedAt}
 use Rattle.line_record.specs.declared.LineRecord.{LineRecord}
 use Rattle.lines.specs.declared.LineHeader.{LineHeader}
 use Rattle.lines.specs.Told.{toldHeader}
@@ -62,9 +62,9 @@ words-two n s p =
 -- the first of n + 1 lines at a, their columns at k
 lines-at : (c : Bool) (h : LineHead) (f n : ℕ) (b : List ℕ) (a k : ℕ) (l : Events)
     → linesThen h f (wordsIn (2 * suc n) (drop a b)) (wordsIn (columnsOf c (suc n)) (drop k b)) l
-    ≡ entryThen (entryOf (h .section) (h .offset) f (u32At b a) (u32At b (a + 4)) (startColumn (columnIf c (u32At b k))) (endColumn (columnIf c (u32At b k))))
+    ≡ entryThen (entryOf (headSource h f) (u32At b a) (u32At b (a + 4)) (columnIf c (u32At b k)))
     (linesThen h f (wordsIn (2 * n) (drop (a + 8) b)) (wordsIn (columnsOf c n) (drop (k + 4) b)) l)
-unfolding linesThen wordsIn
+unfolding linesThen wordsIn entryOf
 lines-at true h f n b a k l = λ i. linesThen h f (words-two n b a i) (words-one n b k i) l
 lines-at false h f n b a k l = λ i. linesThen h f (words-two n b a i) [] l
 

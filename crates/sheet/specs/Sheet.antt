@@ -18,7 +18,6 @@ use Rattle.body.specs.Imports.{moduleBite, modules}
 use Rattle.line_record.specs.declared.LineKind.{LineKind}
 use Rattle.line_record.specs.declared.LineKind.the-variants as kind
 use Rattle.line_record.specs.declared.LineRecord.{LineRecord}
-use Rattle.line_record.specs.declared.Column.the-variants as column
 use Rattle.line_record.specs.Flags.{lineKind, isMarker}
 use Rattle.line_record.specs.Record.{entryOf}
 use Rattle.table.specs.Collect.{collected, ofNth}
@@ -65,7 +64,7 @@ name-word (refused t) = refusal t
 
 pub answer : Question → List ℕ
 answer (subsections s) = kinds (subsFrom crateRule s 0)
-answer (flags w) = record-lines (entryOf 1 0 0 0 w column.None column.None)
+answer (flags w) = record-lines (entryOf (record { section = 1; base = 0; file = 0; columns = false }) 0 w [])
 answer (lineBlocks c s) = block-words (blocks c s)
 answer (resolve s index) = name-word (resolveImport crateRule s index)
 

@@ -1,4 +1,4 @@
--- `line_step::entry_at` meets its contract: each way out is a case of `entryAt`.
+-- `line_step::entry_at` meets its contract: each way out is a case of `lineEntryAt`.
 -- Assumes nothing.
 use borrow.Author.Needs.{needs}
 use native.Mathlib.Omega.{arith}
@@ -9,13 +9,12 @@ use Rattle.line_step.proofs.entry_at.Tie as tie
 
 returns-5 : tie.Need-returns-5
 returns-5 c =
-    let q = c .before in
-    let k = q .before .before in
-    let j = k .before in
-    let f = j .before .before .before .before in
+    let j = c .before in
+    let k = j .before .before .before in
+    let f = k .before in
     let g = f .before .before in
     let a = g .before .before .before .args in
-    c .entry-of .ensures ∙ entry-in (a .body .now) (a .p) (omega (arith, g .if2 .left, g .before .if1 .left)) (omega (arith, f .if4 .left, f .before .if3 .left)) _ _ _ _ _ _ (j .before .before .u32-at .ensures) (j .before .u32-at2 .ensures) (j .u32-at3 .ensures) (k .has-columns .ensures) (q .before .column-start .ensures) (q .column-end .ensures)
+    c .entry-of .ensures ∙ entry-in (a .body .now) (a .p) (omega (arith, g .if2 .left, g .before .if1 .left)) (omega (arith, f .if4 .left, f .before .if3 .left)) _ _ _ _ (k .source-of .ensures) (j .before .before .u32-at .ensures) (j .before .u32-at2 .ensures) (j .u32-at3 .ensures)
 
 pub entry-at-spec : {M : Type 1} → statement M
 entry-at-spec =
@@ -28,10 +27,8 @@ entry-at-spec =
     (λ c. search needs)
     (λ c. entry-past-column _ _ (omega arith) (omega arith))
     (λ c κs. search needs)
+    (λ c κs. search needs)
     (λ c. search needs)
-    (λ c κs. search needs)
-    (λ c κs. search needs)
-    (λ c κs. search needs)
     (λ c κs. search needs)
     (λ c κs. search needs)
     (λ c κs. search needs)
