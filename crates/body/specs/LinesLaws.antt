@@ -12,9 +12,11 @@ use Rattle.word.specs.Word.{u16At, u32At, le16, le32, Bytes}
 use Rattle.word.specs.WordLaws.{le32-length, header-length, u32-first}
 use Rattle.walk.specs.Cases.{by-cases}
 use Rattle.walk.specs.Listing.{Move, item, over}
-use Rattle.refusal.specs.Told.{Told}
+use Rattle.walk.specs.FailsLaws.{StepFailsBy, FailsBy, all-by}
+use Rattle.refusal.specs.Told.{Told, told}
+use Rattle.refusal.specs.declared.Refusal.the-variants as why
 use Rattle.body.specs.Words.{wordsIn, wordBytes}
-use Rattle.body.specs.Lines.{LineHead, lineHead, Block, columnsOf, lineBytes, blockBite, lineHeadBytes, blockBytes}
+use Rattle.body.specs.Lines.{LineHead, lineHead, Block, columnsOf, lineBytes, blockHeadSize, blockBite, blocks, lineHeadBytes, blockBytes}
 use Rattle.body.specs.WordsLaws.{word-length, words-length, words-back, u16-at, u32-at, peel16, peel32, peel-words}
 use Rattle.body.specs.RunLaws.{nil-of, Sound, sound-drop, Fronts}
 
@@ -94,6 +96,22 @@ block-sound c s =
     (λ b. by-cases P (ltb (u32At s 8) 12) (λ d. tt)
     (λ d. by-cases P (ltb (length s) (u32At s 8)) (λ e. tt)
     (λ e. by-cases P (ltb (u32At s 8 - 12) (lineBytes c (u32At s 4))) (λ f. tt) (λ f. sound-drop s (u32At s 8) (omega (arith, ltb-false)) (omega (arith, ltb-false)))))))
+
+-- why a block, and the blocks of a body, can fail: 1 and 7, and nothing else
+module _ (Q : Told → Type 0) (cut : Q (told why.Cut)) (size : Q (told why.BlockSize)) where
+  block-by : (c : Bool) (s : List ℕ) → StepFailsBy Q (blockBite c s)
+  unfolding blockBite
+  block-by c s =
+      let P : Move (List ℕ) Block Told → Type 0 = StepFailsBy Q in
+      by-cases P (eqb (length s) 0) (λ e. tt)
+      (λ e. by-cases P (ltb (length s) blockHeadSize) (λ e. cut)
+      (λ e. by-cases P (ltb (u32At s 8) blockHeadSize) (λ e. size)
+      (λ e. by-cases P (ltb (length s) (u32At s 8)) (λ e. cut)
+      (λ e. by-cases P (ltb (u32At s 8 - blockHeadSize) (lineBytes c (u32At s 4))) (λ e. size) (λ e. tt)))))
+
+  pub blocks-by : (c : Bool) (s : List ℕ) → FailsBy Q (blocks c s)
+  unfolding blocks
+  blocks-by c = all-by Q (blockBite c) (block-by c) length
 
 pub block-front : (c : Bool) (s : List ℕ) → Bytes s → u32At s 8 ≡ 12 + lineBytes c (u32At s 4) → Fronts blockBytes (Filled c) s (blockBite c s)
 unfolding blockBite

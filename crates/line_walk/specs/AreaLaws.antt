@@ -1,25 +1,23 @@
 -- The walk over a list left as it was built: it gives the records of the area alone, slots behind those of the list are not read, and it is never
 -- refused for a slot.
-use Prim.Native.Nat.{ℕ, _+_, _-_}
+use Prim.Native.Nat.{ℕ, _+_}
 use mathlib.Core.Path.{_≡_, ap, _∙_}
 use mathlib.Core.List.{List, [], _∷_, _++_}
-use mathlib.Core.Bool.{Bool}
 use native.Mathlib.Omega.{arith}
 use lib.ListN.{length, drop}
-use lib.Dec.{ltb, eqb}
-use Rattle.word.specs.Word.{u32At}
+use lib.Dec.{ltb}
 use Rattle.walk.specs.Cases.{by-cases}
-use Rattle.walk.specs.Listing.{Move, item, pass, over, fail, Listing, more, ends, fails, before, onMove, Reply, gave, nothing, refused, calls, replies}
-use Rattle.walk.specs.ListingLaws.{To}
+use Rattle.walk.specs.Listing.{Listing, more, ends, fails, before, Reply, gave, nothing, refused, calls, replies}
+use Rattle.walk.specs.FailsLaws.{FailsBy}
 use Rattle.refusal.specs.Told.{Told, told}
 use Rattle.refusal.specs.declared.Refusal.the-variants as why
 use Rattle.area.specs.Kind.{Sort}
-use Rattle.body.specs.Lines.{LineHead, lineHead, columned, lineBytes, Block, blockBite, blocks}
+use Rattle.body.specs.Lines.{LineHead, lineHead, columned, Block, blocks}
+use Rattle.body.specs.LinesLaws.{blocks-by}
 use Rattle.line_record.specs.declared.LineSource.{LineSource}
 use Rattle.line_record.specs.declared.LineRecord.{LineRecord}
 use Rattle.line_record.specs.Flags.{isMarker}
 use Rattle.line_record.specs.Record.{maxOffset, headSource, entryOf, closedAt}
-use Rattle.lines.specs.BlocksLaws.{blocks-ind}
 use Rattle.lines.specs.Lines.{countLines}
 use Rattle.order.specs.Order.{orderOf, ordered, slotsAfter, inOrder}
 use Rattle.order.specs.BuiltLaws.{built-list, built}
@@ -40,36 +38,7 @@ module _ (rule : ℕ → Sort) (s : List ℕ) (n : ℕ) where
 
 -- ---- why the records of bodies can fail: 1, 7 and 8, and nothing else
 
-abbrev pub FailsBy : {B : Type 0} → (Told → Type 0) → Listing B Told → Type 0
-FailsBy Q (more b l) = FailsBy Q l
-FailsBy Q ends = Unit {0}
-FailsBy Q (fails t) = Q t
-
 module _ (Q : Told → Type 0) (cut : Q (told why.Cut)) (size : Q (told why.BlockSize)) (large : Q (told why.OffsetTooLarge)) where
-  abbrev BiteBy : Move (List ℕ) Block Told → Type 0
-  BiteBy (item k t) = Unit {0}
-  BiteBy (pass t) = Unit {0}
-  BiteBy over = Unit {0}
-  BiteBy (fail t) = Q t
-
-  bite-by : (c : Bool) (s : List ℕ) → BiteBy (blockBite c s)
-  unfolding blockBite
-  bite-by c s =
-      by-cases BiteBy (eqb (length s) 0) (λ h. tt)
-      (λ h₂. by-cases BiteBy (ltb (length s) 12) (λ h. cut)
-      (λ h₃. by-cases BiteBy (ltb (u32At s 8) 12) (λ h. size)
-      (λ h₄. by-cases BiteBy (ltb (length s) (u32At s 8)) (λ h. cut)
-      (λ h₅. by-cases BiteBy (ltb (u32At s 8 - 12) (lineBytes c (u32At s 4))) (λ h. size) (λ h₆. tt)))))
-
-  blocks-by : (c : Bool) (s : List ℕ) → FailsBy Q (blocks c s)
-  blocks-by c = blocks-ind c (λ s l. FailsBy Q l) (λ s. on (blockBite c s) (bite-by c s))
-    where
-      on : (u : Move (List ℕ) Block Told) → BiteBy u → To u (λ t. FailsBy Q (blocks c t)) → FailsBy Q (onMove (blocks c) u)
-      on (item k t) b f = f
-      on (pass t) b f = f
-      on over b f = tt
-      on (fail t) b f = b
-
   abbrev EntryBy : Reply LineRecord Told → Type 0
   EntryBy (gave r) = Unit {0}
   EntryBy nothing = Unit {0}
@@ -103,7 +72,7 @@ module _ (Q : Told → Type 0) (cut : Q (told why.Cut)) (size : Q (told why.Bloc
   unfolding bodyThen
   body-by b l g =
       by-cases (FailsBy Q) (ltb (length b) 12) (λ e. cut)
-      (λ e. blocks-then-by (lineHead b) (blocks (columned (lineHead b .flags)) (drop 12 b)) l (blocks-by (columned (lineHead b .flags)) (drop 12 b)) g)
+      (λ e. blocks-then-by (lineHead b) (blocks (columned (lineHead b .flags)) (drop 12 b)) l (blocks-by Q cut size (columned (lineHead b .flags)) (drop 12 b)) g)
 
   events-by : (bs : List (List ℕ)) → FailsBy Q (eventsOf (before bs ends))
   unfolding eventsOf

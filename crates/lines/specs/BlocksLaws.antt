@@ -146,12 +146,6 @@ cut-block c b p h =
     P : Answer ℕ LineBlock Told → Type 0
     P a = blockBite c (drop p b) ≡ cutAt c b a
 
--- what holds of each bite holds of all blocks
-pub blocks-ind : (c : Bool) (P : List ℕ → Listing Block Told → Type 0)
-    → ((s : List ℕ) → To (blockBite c s) (λ t. P t (blocks c t)) → P s (onMove (blocks c) (blockBite c s))) → (s : List ℕ) → P s (blocks c s)
-unfolding blocks
-blocks-ind c P one = all-ind (blockBite c) length (bite-falls c) P one
-
 bite-step : (c : Bool) (s : List ℕ) → blocks c s ≡ onMove (blocks c) (blockBite c s)
 unfolding blocks
 bite-step c s = all-step (blockBite c) length (bite-falls c) s

@@ -1,8 +1,8 @@
 -- Which areas are plain, and what a writer has to know of the last subsection of one. Source: document 01, "Writer and plain areas": the full
 -- reading refuses nothing, and no kind is 0x80000000; opaque lengths are divisible by 4; checksum sizes are 0, 16, 20, 32 for the kinds 0 to 3,
--- their padding zero; the signature of inlinees is 0 or 1; blocks are exactly blockFilled; each export body strictly ascendsFrom by local index.
+-- their padding zero; the signature of inlinees is 0 or 1; blocks are exactly filled; each export body strictly ascends by local index.
 -- Definitions only; a reader must believe them.
-use Prim.Native.Nat.{ℕ, _+_, _%_}
+use Prim.Native.Nat.{ℕ, _+_, _%_, _≤_}
 use mathlib.Core.Path.{_≡_}
 use mathlib.Core.List.{List}
 use mathlib.Core.Bool.{Bool, true, false, cond, _&&_}
@@ -14,6 +14,7 @@ use Rattle.walk.specs.Listing.{Move, item, pass, over, fail, Listing, more, end
 use Rattle.refusal.specs.Told.{Told, told, longest}
 use Rattle.refusal.specs.declared.Refusal.the-variants as why
 use Rattle.area.specs.Parts.{Parts, parts}
+use Rattle.area.specs.Kind.{Sort, known}
 use Rattle.body.specs.Lines.{lineHead, columned, lineBytes, Block, blockBite}
 use Rattle.body.specs.Checksums.{Checksum, checksumBite}
 use Rattle.body.specs.Inlinees.{extended, inlineeBite}
@@ -120,3 +121,7 @@ plainOf s = cond (ltb longest (length s)) none (plainFrom 0 nothing-yet (parts s
 
 abbrev pub Plain : List ℕ → Type 0
 Plain s = (l : Last) × (plainOf s ≡ some l)
+
+-- a rule for kinds that knows each kind of which a plain area has subsections: `markOf` takes no other
+abbrev pub KnowsPlain : (ℕ → Sort) → Type 0
+KnowsPlain rule = (k : ℕ) → 0xf1 ≤ k → k ≤ 0xfd → rule k ≡ known

@@ -6,7 +6,7 @@ use mathlib.Core.Path.{_≡_}
 use mathlib.Core.List.{List}
 use Rattle.walk.specs.Listing.{Reply, gave, nothing, refused}
 use Rattle.walk.specs.Pick.{failure}
-use Rattle.area.specs.Kind.{crateRule}
+use Rattle.area.specs.Kind.{Sort}
 use Rattle.lines.specs.Lines.{countLines}
 use Rattle.files.specs.Files.{filesIn}
 use Rattle.inlinees.specs.Inlinees.{inlineesIn}
@@ -19,12 +19,13 @@ NotRefused (gave b) = Unit {0}
 NotRefused nothing = Unit {0}
 NotRefused (refused r) = ⊥
 
--- the full reading refuses nothing, nor do the tests before the lines, nor any table; and a lookup in its exports never finds them unordered
-pub record Answered (s : List ℕ) : Type 0 where
-  pub items : failure (reading crateRule s) ≡ nothing
-  pub lines : NotRefused (countLines crateRule s)
-  pub files : failure (filesIn crateRule s) ≡ nothing
-  pub inlinees : failure (inlineesIn crateRule s) ≡ nothing
-  pub imports : failure (importsOf crateRule s) ≡ nothing
-  pub exports : failure (pairsOf crateRule s) ≡ nothing
-  pub lookup : (n : ℕ) → NotRefused (resolveExport crateRule s n)
+-- by a rule for kinds, the full reading refuses nothing, nor do the tests before the lines, nor any table; and a lookup in its exports never finds
+-- them unordered
+pub record Answered (rule : ℕ → Sort) (s : List ℕ) : Type 0 where
+  pub items : failure (reading rule s) ≡ nothing
+  pub lines : NotRefused (countLines rule s)
+  pub files : failure (filesIn rule s) ≡ nothing
+  pub inlinees : failure (inlineesIn rule s) ≡ nothing
+  pub imports : failure (importsOf rule s) ≡ nothing
+  pub exports : failure (pairsOf rule s) ≡ nothing
+  pub lookup : (n : ℕ) → NotRefused (resolveExport rule s n)

@@ -17,7 +17,7 @@ use Rattle.walk.specs.PickLaws.{Gives, first-holds}
 use Rattle.refusal.specs.Told.{Told, told, longest, numberOf}
 use Rattle.refusal.specs.declared.Refusal.the-variants as why
 use Rattle.area.specs.Parts.{Raw, Parts}
-use Rattle.area.specs.Kind.{Sort, onSort, crateRule, known, skipped, unknown}
+use Rattle.area.specs.Kind.{Sort, onSort, known, skipped, unknown}
 use Rattle.area.specs.Subs.{Sub, subsFrom, bodiesIn, bodies}
 use Rattle.area.specs.SubsLaws.{bodied, area-bodies}
 use Rattle.find.specs.Find.{same, is, spanOf}
@@ -33,7 +33,7 @@ use Rattle.inlinees.specs.Inlinees.{inlineeSpelt, inlineesIn}
 use Rattle.imports.specs.Imports.{moduleOf, importsOf}
 use Rattle.exports.specs.Exports.{unplaced, pairsOf, above, ascends, globalOf, lookup, resolveExport}
 use Rattle.reading.specs.Reading.{checksum, inlinee, imports, exports, Items, each, reading, opens}
-use Rattle.plain.specs.Plain.{Last, markOf, plainOf, Plain}
+use Rattle.plain.specs.Plain.{Last, markOf, plainOf, Plain, KnowsPlain}
 use Rattle.plain.specs.Plain as plain
 use Rattle.round_trip.specs.Secs.{Ascend}
 use Rattle.round_trip.specs.BackLaws.{Marked, plain-marked, ascends-list}
@@ -121,35 +121,35 @@ picked-whole (refused t) h = absurd h
 
 -- ---- so the tables are whole
 
-module _ (s : List ℕ) (h : Whole (reading crateRule s)) where
-  first-whole : (w : ℕ) → Whole (recordsIn (firstBy (begins w) (chapters (reading crateRule s))))
+module _ (rule : ℕ → Sort) (s : List ℕ) (h : Whole (reading rule s)) where
+  first-whole : (w : ℕ) → Whole (recordsIn (firstBy (begins w) (chapters (reading rule s))))
   first-whole w =
-      let l = reading crateRule s in
+      let l = reading rule s in
       picked-whole (firstBy (begins w) (chapters l)) (first-picked (begins w) (chapters l) (chapters-end l h) (chapters-whole l h))
 
-  last-whole : (w : ℕ) → Whole (recordsIn (lastBy (begins w) (chapters (reading crateRule s))))
+  last-whole : (w : ℕ) → Whole (recordsIn (lastBy (begins w) (chapters (reading rule s))))
   last-whole w =
-      let l = reading crateRule s in
+      let l = reading rule s in
       picked-whole (lastBy (begins w) (chapters l)) (last-picked (begins w) (chapters l) (chapters-end l h) (chapters-whole l h))
 
-  exports-whole : failure (pairsOf crateRule s) ≡ nothing
-  exports-whole = mapped-whole exports (pairsOf crateRule s) (ap failure (sym (exports-agree crateRule s h)) ∙ first-whole 0xf8)
+  exports-whole : failure (pairsOf rule s) ≡ nothing
+  exports-whole = mapped-whole exports (pairsOf rule s) (ap failure (sym (exports-agree rule s h)) ∙ first-whole 0xf8)
 
-  imports-whole : failure (importsOf crateRule s) ≡ nothing
+  imports-whole : failure (importsOf rule s) ≡ nothing
   imports-whole =
-      mapped-whole (moduleOf s) (importsOf crateRule s)
-      (mapped-whole imports (mapped (moduleOf s) same (importsOf crateRule s)) (ap failure (sym (imports-agree crateRule s h)) ∙ first-whole 0xf7))
+      mapped-whole (moduleOf s) (importsOf rule s)
+      (mapped-whole imports (mapped (moduleOf s) same (importsOf rule s)) (ap failure (sym (imports-agree rule s h)) ∙ first-whole 0xf7))
 
-  inlinees-whole : failure (inlineesIn crateRule s) ≡ nothing
+  inlinees-whole : failure (inlineesIn rule s) ≡ nothing
   inlinees-whole =
-      mapped-whole (inlineeSpelt s) (inlineesIn crateRule s)
-      (mapped-whole inlinee (mapped (inlineeSpelt s) same (inlineesIn crateRule s)) (ap failure (sym (inlinees-agree crateRule s h)) ∙ first-whole 0xf6))
+      mapped-whole (inlineeSpelt s) (inlineesIn rule s)
+      (mapped-whole inlinee (mapped (inlineeSpelt s) same (inlineesIn rule s)) (ap failure (sym (inlinees-agree rule s h)) ∙ first-whole 0xf6))
 
-  files-whole : failure (filesIn crateRule s) ≡ nothing
+  files-whole : failure (filesIn rule s) ≡ nothing
   files-whole =
-      mapped-whole (file.fileSpelt s) (filesIn crateRule s)
-      (mapped-whole checksum (mapped (file.fileSpelt s) same (filesIn crateRule s))
-      (ap failure (sym (files-agree crateRule s h)) ∙ whole-mapped dropped (recordsIn (lastBy (begins 0xf4) (chapters (reading crateRule s)))) (last-whole 0xf4)))
+      mapped-whole (file.fileSpelt s) (filesIn rule s)
+      (mapped-whole checksum (mapped (file.fileSpelt s) same (filesIn rule s))
+      (ap failure (sym (files-agree rule s h)) ∙ whole-mapped dropped (recordsIn (lastBy (begins 0xf4) (chapters (reading rule s)))) (last-whole 0xf4)))
 
   counted : {B : Type 0} (l : Listing B Told) → failure l ≡ nothing → NotRefused (countOf l)
   unfolding failure countOf
@@ -162,18 +162,18 @@ module _ (s : List ℕ) (h : Whole (reading crateRule s)) where
   counted ends q = tt
   counted (fails t) q = let z : _≡_ {A = ℕ} 0 1 = cc in absurd (omega arith)
 
-  lines-counted : NotRefused (countLines crateRule s)
-  lines-counted = counted (linesFrom crateRule s 0) (lines-pass crateRule s h)
+  lines-counted : NotRefused (countLines rule s)
+  lines-counted = counted (linesFrom rule s 0) (lines-pass rule s h)
 
 -- ---- each export body of a plain area ascends
 
-bodies-marked : (rs : List Raw) → Each Marked rs → Every Marked (bodiesIn crateRule (before rs ends))
+bodies-marked : (rule : ℕ → Sort) (rs : List Raw) → Each Marked rs → Every Marked (bodiesIn rule (before rs ends))
 unfolding bodiesIn
-bodies-marked [] m = tt
-bodies-marked (r ∷ rs) m = by (crateRule (r .kind)) (bodies-marked rs (m .1))
+bodies-marked rule [] m = tt
+bodies-marked rule (r ∷ rs) m = by (rule (r .kind)) (bodies-marked rule rs (m .1))
   where
-    by : (k : Sort) → Every Marked (bodiesIn crateRule (before rs ends))
-        → Every Marked (onSort k (more r (bodiesIn crateRule (before rs ends))) (bodiesIn crateRule (before rs ends)) (fails 2))
+    by : (k : Sort) → Every Marked (bodiesIn rule (before rs ends))
+        → Every Marked (onSort k (more r (bodiesIn rule (before rs ends))) (bodiesIn rule (before rs ends)) (fails 2))
     by known q = (m .0, q)
     by skipped q = q
     by unknown q = tt
@@ -222,21 +222,21 @@ pairs-marked : (b : List ℕ) (m : ℕ) → markOf 0xf8 b ≡ some m → plain.a
 unfolding markOf
 pairs-marked b m e = e
 
-module _ (s : List ℕ) (l : Last) (p : plainOf s ≡ some l) where
-  subs-marked : Every (λ (b : Sub). Marked (bodied s b)) (subsFrom crateRule s 0)
+module _ (rule : ℕ → Sort) (s : List ℕ) (l : Last) (p : plainOf s ≡ some l) where
+  subs-marked : Every (λ (b : Sub). Marked (bodied s b)) (subsFrom rule s 0)
   unfolding bodies
   subs-marked =
       let M = plain-marked s l p in
-      of-mapped s numberOf (subsFrom crateRule s 0)
-      (subst⁻¹ (Every Marked) (area-bodies crateRule s)
+      of-mapped s numberOf (subsFrom rule s 0)
+      (subst⁻¹ (Every Marked) (area-bodies rule s)
       (by-cases (Every Marked) (ltb longest (length s)) (λ e. tt)
-      (λ e. subst⁻¹ (λ (x : Parts). Every Marked (bodiesIn crateRule x)) (M .1) (bodies-marked (M .0) (M .2)))))
+      (λ e. subst⁻¹ (λ (x : Parts). Every Marked (bodiesIn rule x)) (M .1) (bodies-marked rule (M .0) (M .2)))))
 
-  exports-looked : failure (pairsOf crateRule s) ≡ nothing → (n : ℕ) → NotRefused (resolveExport crateRule s n)
+  exports-looked : failure (pairsOf rule s) ≡ nothing → (n : ℕ) → NotRefused (resolveExport rule s n)
   exports-looked w n =
-      found (firstBy (is 0xf8) (subsFrom crateRule s 0))
-      (first-holds (λ (b : Sub). Marked (bodied s b)) (is 0xf8) (subsFrom crateRule s 0) subs-marked)
-      (first-passes (is 0xf8) (subsFrom crateRule s 0)) w
+      found (firstBy (is 0xf8) (subsFrom rule s 0))
+      (first-holds (λ (b : Sub). Marked (bodied s b)) (is 0xf8) (subsFrom rule s 0) subs-marked)
+      (first-passes (is 0xf8) (subsFrom rule s 0)) w
     where
       table : Reply Sub Told → Listing Pair Told
       table x = tableOf pairs unplaced s (mapReply spanOf same x)
@@ -254,16 +254,16 @@ module _ (s : List ℕ) (l : Last) (p : plainOf s ≡ some l) where
 
 -- ---- THE THEOREM
 
-pub plain-answered : (s : List ℕ) → Bytes s → Plain s → Answered s
-plain-answered s b p =
-    let A = again s s b p (omega arith) in
-    let h : Whole (reading crateRule s) = ap failure (A .1) ∙ before-whole (A .0) in
+pub plain-answered : (rule : ℕ → Sort) → KnowsPlain rule → (s : List ℕ) → Bytes s → Plain s → Answered rule s
+plain-answered rule knows s b p =
+    let A = again rule knows s s b p (omega arith) in
+    let h : Whole (reading rule s) = ap failure (A .1) ∙ before-whole (A .0) in
     record {
       items = h;
-      lines = lines-counted s h;
-      files = files-whole s h;
-      inlinees = inlinees-whole s h;
-      imports = imports-whole s h;
-      exports = exports-whole s h;
-      lookup = exports-looked s (p .0) (p .1) (exports-whole s h);
+      lines = lines-counted rule s h;
+      files = files-whole rule s h;
+      inlinees = inlinees-whole rule s h;
+      imports = imports-whole rule s h;
+      exports = exports-whole rule s h;
+      lookup = exports-looked rule s (p .0) (p .1) (exports-whole rule s h);
     }

@@ -1,3 +1,3 @@
 pub mod Reading
-pub mod BySubsLaws
+pub mod BodiesLaws
 pub mod RefusalsLaws

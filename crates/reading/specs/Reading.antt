@@ -5,14 +5,16 @@
 use Prim.Native.Nat.{ℕ, _%_}
 use mathlib.Core.List.{List}
 use mathlib.Core.Bool.{Bool, true, false, cond}
-use lib.ListN.{length, drop}
+use lib.ListN.{length, take, drop}
 use lib.Dec.{ltb, eqb}
 use Rattle.word.specs.Word.{u32At}
-use Rattle.walk.specs.Listing.{Listing, more, ends, fails, mapped, andThen}
-use Rattle.refusal.specs.Told.{Told, told, longest}
+use Rattle.walk.specs.Listing.{Listing, more, ends, fails, mapped}
+use Rattle.walk.specs.Spread.{spread}
+use Rattle.refusal.specs.Told.{Told, told}
 use Rattle.refusal.specs.declared.Refusal.the-variants as why
-use Rattle.area.specs.Parts.{Raw, Parts, parts}
-use Rattle.area.specs.Kind.{Sort, onSort}
+use Rattle.area.specs.Parts.{Raw}
+use Rattle.area.specs.Kind.{Sort}
+use Rattle.area.specs.Subs.{Sub, subsFrom}
 use Rattle.body.specs.Lines.{LineHead, lineHead, columned, Block, blocks}
 use Rattle.body.specs.Checksums.{Checksum, checksums}
 use Rattle.body.specs.Inlinees.{Inlinee, extended, inlinees}
@@ -83,12 +85,10 @@ itemsOf r =
     (cond (eqb (r .kind) 0xf8) (exportsItems (r .body))
     (more (opaque (r .kind) (r .body)) ends)))))
 
--- the parts of an area, under a rule for kinds
-unfoldable pub itemsIn : (ℕ → Sort) → Parts → Items
-itemsIn rule (more r l) = onSort (rule (r .kind)) (andThen (itemsOf r) (itemsIn rule l)) (itemsIn rule l) (fails (told (why.UnknownKind (r .kind))))
-itemsIn rule ends = ends
-itemsIn rule (fails c) = fails (told why.Cut)
+-- the items of a subsection, whose body stands in the area s
+abbrev pub subItems : List ℕ → Sub → Items
+subItems s b = itemsOf (record { kind = b .kind; body = take (b .len) (drop (b .start) s) })
 
--- THE FULL READING
+-- THE FULL READING under a rule for kinds: the items of each subsection, one behind the other
 unfoldable pub reading : (ℕ → Sort) → List ℕ → Items
-reading rule s = cond (ltb longest (length s)) (fails (told why.TooLong)) (itemsIn rule (parts s))
+reading rule s = spread (subItems s) (subsFrom rule s 0)

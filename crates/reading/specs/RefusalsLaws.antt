@@ -1,71 +1,42 @@
 -- What a full reading refuses: the numbers 1, 2, 3, 4, 7 and 11 alone. So never 8, 9 or 19, which belong to the calls on lines and exports.
-use Prim.Native.Nat.{ℕ, zero, suc, _+_, _-_, _*_, _%_}
-use mathlib.Core.Path.{_≡_, refl}
+use Prim.Native.Nat.{ℕ, _+_, _-_, _*_, _%_}
+use mathlib.Core.Path.{_≡_, refl, subst⁻¹}
 use mathlib.Core.List.{List}
 use mathlib.Core.Bool.{Bool, true, false, _||_}
 use lib.ListN.{length, drop, getD}
 use lib.Dec.{ltb, eqb}
 use Rattle.word.specs.Word.{u32At}
 use Rattle.walk.specs.Cases.{by-cases}
-use Rattle.walk.specs.Listing.{Move, item, pass, over, fail, Listing, more, ends, fails, andThen, onMove, run, all}
-use Rattle.refusal.specs.Told.{Told, told, longest}
-use Rattle.refusal.specs.declared.Refusal.the-variants as why
-use Rattle.area.specs.Parts.{Raw, Parts, parts}
+use Rattle.walk.specs.Listing.{Move, item, pass, over, fail, Listing, all}
+use Rattle.walk.specs.FailsLaws.{StepFailsBy, FailsBy, all-by, mapped-by, spread-by}
+use Rattle.refusal.specs.Told.{Told, longest}
+use Rattle.area.specs.Parts.{Raw, Lack, bite}
 use Rattle.area.specs.Kind.{Sort, known, skipped, unknown, onSort}
-use Rattle.body.specs.Lines.{lineHead, columned, lineBytes, blockBite, blocks}
+use Rattle.area.specs.Subs.{subsFrom}
+use Rattle.area.specs.SubsLaws.{wholeAs, judged, headAt, left, subs-all, bodied}
+use Rattle.body.specs.Lines.{lineHeadSize, lineHead, columned, blocks}
+use Rattle.body.specs.LinesLaws.{blocks-by}
 use Rattle.body.specs.Checksums.{up4, checksumBite, checksums}
 use Rattle.body.specs.Inlinees.{extended, extraBite, inlineeBite, inlinees}
 use Rattle.body.specs.Imports.{moduleBite, modules}
 use Rattle.body.specs.Exports.{pairBite, pairs}
-use Rattle.reading.specs.Reading.{Item, Items, each, block, checksum, inlinee, imports, exports, linesItems, checksumsItems, inlineesItems, importsItems, exportsItems, itemsOf, itemsIn, reading}
+use Rattle.reading.specs.Reading.{Item, each, block, checksum, inlinee, imports, exports, linesItems, checksumsItems, inlineesItems, importsItems, exportsItems, itemsOf, subItems, reading}
 
 -- the numbers that a reading may refuse with
 abbrev pub among : ℕ → Bool
 among n = eqb n 1 || eqb n 2 || eqb n 3 || eqb n 4 || eqb n 7 || eqb n 11
 
--- a listing refuses with one of them, if it does
-abbrev pub Refuses : {B : Type 0} → Listing B Told → Type 0
-Refuses (more b l) = Refuses l
-Refuses ends = Unit {0}
-Refuses (fails t) = among (t .number) ≡ true
+abbrev Among : Told → Type 0
+Among t = among (t .number) ≡ true
 
--- ---- the records of a body, where each bite does
+-- a listing refuses with one of them, if it does, and so does a step
+abbrev pub Refuses : {B : Type 0} → Listing B Told → Type 0
+Refuses = FailsBy Among
 
 abbrev Bites : {S B : Type 0} → Move S B Told → Type 0
-Bites (item b t) = Unit {0}
-Bites (pass t) = Unit {0}
-Bites over = Unit {0}
-Bites (fail t) = among (t .number) ≡ true
+Bites = StepFailsBy Among
 
-module _ {S B : Type 0} (bite : S → Move S B Told) (h : (s : S) → Bites (bite s)) where
-  run-refuses : (k : ℕ) (s : S) → Refuses (run bite k s)
-  unfolding run
-  run-refuses zero s = tt
-  run-refuses (suc k) s = by (run-refuses k) (bite s) (h s)
-    where
-      by : ((t : S) → Refuses (run bite k t)) → (u : Move S B Told) → Bites u → Refuses (onMove (run bite k) u)
-      by ih (item b t) q = ih t
-      by ih (pass t) q = ih t
-      by ih over q = tt
-      by ih (fail t) q = q
-
-  all-refuses : (μ : S → ℕ) (s : S) → Refuses (all bite μ s)
-  unfolding all
-  all-refuses μ s = run-refuses (suc (μ s)) s
-
-each-refuses : {B : Type 0} (f : B → Item) (l : Listing B Told) → Refuses l → Refuses (each f l)
-each-refuses f (more b l) h = each-refuses f l h
-each-refuses f ends h = tt
-each-refuses f (fails t) h = h
-
-block-refuses : (c : Bool) (s : List ℕ) → Bites (blockBite c s)
-unfolding blockBite
-block-refuses c s =
-    by-cases Bites (eqb (length s) 0) (λ e. tt)
-    (λ e. by-cases Bites (ltb (length s) 12) (λ e. refl)
-    (λ e. by-cases Bites (ltb (u32At s 8) 12) (λ e. refl)
-    (λ e. by-cases Bites (ltb (length s) (u32At s 8)) (λ e. refl)
-    (λ e. by-cases Bites (ltb (u32At s 8 - 12) (lineBytes c (u32At s 4))) (λ e. refl) (λ e. tt)))))
+-- ---- the records of a body
 
 checksum-refuses : (s : List ℕ) → Bites (checksumBite s)
 unfolding checksumBite
@@ -98,20 +69,28 @@ pair-refuses s = by-cases Bites (eqb (length s) 0) (λ e. tt) (λ e. by-cases Bi
 
 -- ---- a subsection
 
+each-refuses : {B : Type 0} (f : B → Item) (l : Listing B Told) → Refuses l → Refuses (each f l)
+each-refuses = mapped-by Among
+
+-- the records of a body, where each bite does
+bites-refuse : {B : Type 0} (f : B → Item) (bite : List ℕ → Move (List ℕ) B Told) → ((s : List ℕ) → Bites (bite s)) → (s : List ℕ)
+    → Refuses (each f (all bite length s))
+bites-refuse f bite h s = each-refuses f (all bite length s) (all-by Among bite h length s)
+
 items-refuse : (r : Raw) → Refuses (itemsOf r)
-unfolding itemsOf linesItems checksumsItems inlineesItems importsItems exportsItems blocks checksums inlinees modules pairs
+unfolding itemsOf linesItems checksumsItems inlineesItems importsItems exportsItems checksums inlinees modules pairs
 items-refuse r =
     by-cases Refuses (eqb (r .kind) 0xf2)
-    (λ e. by-cases Refuses (ltb (length b) 12) (λ e. refl)
-    (λ e. each-refuses block (blocks c (drop 12 b)) (all-refuses (blockBite c) (block-refuses c) length (drop 12 b))))
-    (λ e. by-cases Refuses (eqb (r .kind) 0xf4) (λ e. each-refuses checksum (checksums b) (all-refuses checksumBite checksum-refuses length b))
+    (λ e. by-cases Refuses (ltb (length b) lineHeadSize) (λ e. refl)
+    (λ e. each-refuses block (blocks c (drop lineHeadSize b)) (blocks-by Among refl refl c (drop lineHeadSize b))))
+    (λ e. by-cases Refuses (eqb (r .kind) 0xf4) (λ e. bites-refuse checksum checksumBite checksum-refuses b)
     (λ e. by-cases Refuses (eqb (r .kind) 0xf6)
     (λ e. by-cases Refuses (ltb (length b) 4) (λ e. refl)
-    (λ e. each-refuses inlinee (inlinees x (drop 4 b)) (all-refuses (inlineeBite x) (inlinee-refuses x) length (drop 4 b))))
-    (λ e. by-cases Refuses (eqb (r .kind) 0xf7) (λ e. each-refuses imports (modules b) (all-refuses moduleBite module-refuses length b))
+    (λ e. bites-refuse inlinee (inlineeBite x) (inlinee-refuses x) (drop 4 b)))
+    (λ e. by-cases Refuses (eqb (r .kind) 0xf7) (λ e. bites-refuse imports moduleBite module-refuses b)
     (λ e. by-cases Refuses (eqb (r .kind) 0xf8)
     (λ e. by-cases Refuses (eqb (length b % 8) 0)
-    (λ e. each-refuses exports (pairs b) (by-cases Refuses (eqb (length b % 8) 0) (λ e. all-refuses pairBite pair-refuses length b) (λ e. refl))) (λ e. refl))
+    (λ e. each-refuses exports (pairs b) (by-cases Refuses (eqb (length b % 8) 0) (λ e. all-by Among pairBite pair-refuses length b) (λ e. refl))) (λ e. refl))
     (λ e. tt)))))
   where
     b : List ℕ
@@ -123,26 +102,33 @@ items-refuse r =
     x : Bool
     x = extended (u32At (r .body) 0)
 
--- ---- the whole
+-- ---- the subsections of an area
 
-then-refuses : (k l : Items) → Refuses k → Refuses l → Refuses (andThen k l)
-then-refuses (more i k) l p q = then-refuses k l p q
-then-refuses ends l p q = q
-then-refuses (fails t) l p q = p
+by-sort : {A : Type 0} (P : A → Type 0) (o : Sort) {x y z : A} → P x → P y → P z → P (onSort o x y z)
+by-sort P known a b c = a
+by-sort P skipped a b c = b
+by-sort P unknown a b c = c
 
-in-refuses : (rule : ℕ → Sort) (l : Parts) → Refuses (itemsIn rule l)
-unfolding itemsIn
-in-refuses rule (more r l) = by (rule (r .kind)) (in-refuses rule l)
-  where
-    by : (o : Sort) → Refuses (itemsIn rule l)
-        → Refuses (onSort o (andThen (itemsOf r) (itemsIn rule l)) (itemsIn rule l) (fails (told (why.UnknownKind (r .kind)))))
-    by known q = then-refuses (itemsOf r) (itemsIn rule l) (items-refuse r) q
-    by skipped q = q
-    by unknown q = refl
-in-refuses rule ends = tt
-in-refuses rule (fails c) = refl
+module _ (rule : ℕ → Sort) (s : List ℕ) where
+  whole-refuses : (k p n : ℕ) → Bites (wholeAs rule k p n)
+  unfolding wholeAs
+  whole-refuses k p n = by-sort Bites (rule k) tt tt refl
+
+  judged-refuses : (p : ℕ) (u : Move (List ℕ) Raw Lack) → Bites (judged rule p u)
+  judged-refuses p (item r t) = whole-refuses (r .kind) p (length (r .body))
+  judged-refuses p (pass t) = tt
+  judged-refuses p over = tt
+  judged-refuses p (fail c) = refl
+
+  head-refuses : (p : ℕ) → Bites (headAt rule s p)
+  unfolding headAt
+  head-refuses p =
+      by-cases Bites (ltb longest (length s)) (λ e. refl) (λ e. by-cases Bites (ltb (length s) p) (λ e. refl) (λ e. judged-refuses p (bite (drop p s))))
+
+  subs-refuse : (p : ℕ) → Refuses (subsFrom rule s p)
+  subs-refuse p = subst⁻¹ Refuses (subs-all rule s p) (all-by Among (headAt rule s) head-refuses (left s) p)
 
 -- THE THEOREM
 pub reading-refuses : (rule : ℕ → Sort) (s : List ℕ) → Refuses (reading rule s)
 unfolding reading
-reading-refuses rule s = by-cases Refuses (ltb longest (length s)) (λ e. refl) (λ e. in-refuses rule (parts s))
+reading-refuses rule s = spread-by Among (subItems s) (λ b. items-refuse (bodied s b)) (subsFrom rule s 0) (subs-refuse rule s 0)

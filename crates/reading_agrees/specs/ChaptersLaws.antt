@@ -1,6 +1,6 @@
 -- Where a reading refuses nothing, its subsections are those of the area, in order; and so are the first, the last and all of a kind.
 use Prim.Native.Nat.{ℕ, _%_}
-use mathlib.Core.Path.{_≡_, refl, sym, ap, _∙_}
+use mathlib.Core.Path.{_≡_, refl, ap, _∙_}
 use mathlib.Core.List.{List}
 use mathlib.Core.Bool.{true, false}
 use native.Mathlib.Omega.{arith}
@@ -25,8 +25,7 @@ use Rattle.body.specs.Checksums.{checksums}
 use Rattle.body.specs.Inlinees.{extended, inlinees}
 use Rattle.body.specs.Imports.{modules}
 use Rattle.body.specs.Exports.{pairs}
-use Rattle.reading.specs.Reading.{Item, block, checksum, inlinee, imports, exports, Items, each, linesItems, checksumsItems, inlineesItems, importsItems, exportsItems, itemsOf, reading, opens}
-use Rattle.reading.specs.BySubsLaws.{subItems, reading-subs}
+use Rattle.reading.specs.Reading.{Item, block, checksum, inlinee, imports, exports, Items, each, linesItems, checksumsItems, inlineesItems, importsItems, exportsItems, itemsOf, subItems, reading, opens}
 use Rattle.reading_agrees.specs.Chapters.{opensAs, upTo, chapters, begins}
 
 -- a reading that refuses nothing
@@ -123,9 +122,9 @@ starts k (more i m) l o h = rw (o .0)
 starts k ends l o h = absurd o
 starts k (fails t) l o h = let z : _≡_ {A = ℕ} 0 1 = cc in absurd (omega arith)
 
-module _ (rule : ℕ → Sort) (s : List ℕ) where
+module _ (s : List ℕ) where
   abbrev items : Sub → Items
-  items = subItems rule s
+  items = subItems s
 
   begin : (l : Listing Sub Told) → Whole (spread items l) → upTo (spread items l) ≡ ends
   unfolding upTo failure
@@ -159,24 +158,26 @@ module _ (rule : ℕ → Sort) (s : List ℕ) where
   each-kind w ends h = tt
   each-kind w (fails t) h = tt
 
-  -- THE THEOREMS, where the reading refuses nothing
-  module _ (h : Whole (reading rule s)) where
-    abbrev subs : Listing Sub Told
-    subs = subsFrom rule s 0
+-- THE THEOREMS, where the reading refuses nothing
+module _ (rule : ℕ → Sort) (s : List ℕ) (h : Whole (reading rule s)) where
+  abbrev subs : Listing Sub Told
+  subs = subsFrom rule s 0
 
-    pub spreads : Whole (spread items subs)
-    spreads = ap failure (reading-subs rule s) ∙ h
+  pub spreads : Whole (spread (items s) subs)
+  unfolding reading
+  spreads = h
 
-    -- the subsections of the reading are those of the area
-    pub chapters-are : chapters (reading rule s) ≡ mapped items same subs
-    chapters-are = ap chapters (sym (reading-subs rule s)) ∙ each-chapter subs spreads
+  -- the subsections of the reading are those of the area
+  pub chapters-are : chapters (reading rule s) ≡ mapped (items s) same subs
+  unfolding reading
+  chapters-are = each-chapter s subs spreads
 
-    -- so are the first, the last and all of a kind
-    pub first-chapter : (w : ℕ) → firstBy (begins w) (chapters (reading rule s)) ≡ mapReply items same (firstBy (is w) subs)
-    first-chapter w = ap (firstBy (begins w)) chapters-are ∙ first-of-map items (begins w) (is w) subs (each-kind w subs spreads)
+  -- so are the first, the last and all of a kind
+  pub first-chapter : (w : ℕ) → firstBy (begins w) (chapters (reading rule s)) ≡ mapReply (items s) same (firstBy (is w) subs)
+  first-chapter w = ap (firstBy (begins w)) chapters-are ∙ first-of-map (items s) (begins w) (is w) subs (each-kind s w subs spreads)
 
-    pub last-chapter : (w : ℕ) → lastBy (begins w) (chapters (reading rule s)) ≡ mapReply items same (lastBy (is w) subs)
-    last-chapter w = ap (lastBy (begins w)) chapters-are ∙ last-of-map items (begins w) (is w) subs (each-kind w subs spreads)
+  pub last-chapter : (w : ℕ) → lastBy (begins w) (chapters (reading rule s)) ≡ mapReply (items s) same (lastBy (is w) subs)
+  last-chapter w = ap (lastBy (begins w)) chapters-are ∙ last-of-map (items s) (begins w) (is w) subs (each-kind s w subs spreads)
 
-    pub only-chapters : (w : ℕ) → only (begins w) (chapters (reading rule s)) ≡ mapped items same (only (is w) subs)
-    only-chapters w = ap (only (begins w)) chapters-are ∙ only-of-map items (begins w) (is w) subs (each-kind w subs spreads)
+  pub only-chapters : (w : ℕ) → only (begins w) (chapters (reading rule s)) ≡ mapped (items s) same (only (is w) subs)
+  only-chapters w = ap (only (begins w)) chapters-are ∙ only-of-map (items s) (begins w) (is w) subs (each-kind s w subs spreads)

@@ -39,8 +39,7 @@ use Rattle.files.specs.FilesLaws.{files-mean}
 use Rattle.lines.specs.Lines.{headed, linesFrom, plus, countOf}
 use Rattle.order.specs.Order.{listed, lineBodies}
 use Rattle.order.specs.BuiltLaws.{map-map, line-bodies}
-use Rattle.reading.specs.Reading.{Item, openLines, block, checksum, inlinee, imports, exports, Items, each, linesItems, checksumsItems, inlineesItems, importsItems, exportsItems, itemsOf, reading}
-use Rattle.reading.specs.BySubsLaws.{subItems}
+use Rattle.reading.specs.Reading.{Item, openLines, block, checksum, inlinee, imports, exports, Items, each, linesItems, checksumsItems, inlineesItems, importsItems, exportsItems, itemsOf, subItems, reading}
 use Rattle.reading_agrees.specs.Chapters.{chapters, begins, records, recordsIn, dropped}
 use Rattle.reading_agrees.specs.ChaptersLaws.{Whole, first-chapter, last-chapter, only-chapters, whole-left, whole-right, spreads}
 
@@ -71,7 +70,7 @@ module _ {B R : Type 0} (f : B → Bool) where
 
 module _ (rule : ℕ → Sort) (s : List ℕ) (w : ℕ) (g : List ℕ → Items) (right : (b : List ℕ) → records (itemsOf (record { kind = w; body = b })) ≡ g b) where
   picked : (x : Reply Sub Told) → Gives (Passes (is w)) x
-      → recordsIn (mapReply (subItems rule s) same x) ≡ ofBody g (mapReply (bytesAt s) same (mapReply spanOf same x))
+      → recordsIn (mapReply (subItems s) same x) ≡ ofBody g (mapReply (bytesAt s) same (mapReply spanOf same x))
   picked (gave b) e =
       let body : List ℕ = take (b .len) (drop (b .start) s) in
       ap (λ (k : ℕ). records (itemsOf (record { kind = k; body = body }))) (eqb-true (b .kind) w e) ∙ right body
@@ -144,7 +143,7 @@ module _ (rule : ℕ → Sort) (s : List ℕ) (h : Whole (reading rule s)) where
   -- ---- line subsections: none has a short header
 
   abbrev items : Sub → Items
-  items = subItems rule s
+  items = subItems s
 
   abbrev Headed : Sub → Type 0
   Headed b = is 0xf2 b ≡ true → 12 ≤ b .len

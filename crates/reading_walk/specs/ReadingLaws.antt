@@ -17,9 +17,8 @@ use Rattle.area.specs.Subs.{Sub, subsFrom}
 use Rattle.area.specs.SubsLaws.{Inside, subs-inside}
 use Rattle.find.specs.Find.{same}
 use Rattle.body.specs.Lines.{lineHead}
-use Rattle.reading.specs.Reading.{Items, linesItems, checksumsItems, inlineesItems, importsItems, exportsItems, itemsOf, reading}
+use Rattle.reading.specs.Reading.{Items, linesItems, checksumsItems, inlineesItems, importsItems, exportsItems, itemsOf, subItems, reading}
 use Rattle.reading.specs.Reading as reading
-use Rattle.reading.specs.BySubsLaws.{subItems, reading-subs}
 use Rattle.reading_record.specs.Item.{itemOf}
 use Rattle.reading_record.specs.Record.{ItemAnswer}
 use Rattle.reading_record.specs.RecordsLaws.{recordsFrom, meant, firstAt, shown, records-mean}
@@ -67,7 +66,7 @@ module _ (rule : ℕ → Sort) (s : List ℕ) where
 
   -- ---- the items of all subsections are the reading
 
-  sub-means : (b : Sub) → Inside (length s) b → shown s (itemsAt rule s b) ≡ subItems rule s b
+  sub-means : (b : Sub) → Inside (length s) b → shown s (itemsAt rule s b) ≡ subItems s b
   sub-means b h =
       let body : List ℕ = take (b .len) (drop (b .start) s) in
       let n : length body ≡ b .len = length-take-le (b .len) (drop (b .start) s) (omega (arith, length-drop (b .start) s)) in
@@ -75,10 +74,10 @@ module _ (rule : ℕ → Sort) (s : List ℕ) where
 
   -- THE THEOREM: the items from the area's start on are the full reading
   pub items-read : mapped (itemOf s) same (fromSubs rule s 0) ≡ reading rule s
+  unfolding reading
   items-read =
       map-spread (itemOf s) (itemsAt rule s) (subsFrom rule s 0)
-      ∙ spread-every (Inside (length s)) (λ (b : Sub). shown s (itemsAt rule s b)) (subItems rule s) sub-means (subsFrom rule s 0) (subs-inside rule s 0)
-      ∙ reading-subs rule s
+      ∙ spread-every (Inside (length s)) (λ (b : Sub). shown s (itemsAt rule s b)) (subItems s) sub-means (subsFrom rule s 0) (subs-inside rule s 0)
 
 -- the replies that a listing asks for, under a map of its records
 replies-map : {B C R : Type 0} (f : B → C) (n : ℕ) (l : Listing B R)

@@ -1,4 +1,4 @@
--- The calls of subsections of good form, runCalls where there is room, are all accepted and make the bytes of these subsections.
+-- The calls of subsections of good form, run where there is room, are all accepted and make the bytes of these subsections.
 use Prim.Native.Nat.{ℕ, _+_, _-_, _/_, _%_, _≤_}
 use mathlib.Core.Path.{_≡_, refl, sym, ap, _∙_}
 use mathlib.Core.List.{List, [], _∷_, _++_, map, append-assoc, append-nil}
@@ -13,7 +13,7 @@ use Rattle.word.specs.WordLaws.{header-length, le32-length, put-length}
 use Rattle.walk.specs.Listing.{ends, before}
 use Rattle.refusal.specs.Told.{told, longest}
 use Rattle.refusal.specs.declared.Refusal.the-variants as why
-use Rattle.area.specs.Kind.{crateRule}
+use Rattle.area.specs.Kind.{Sort}
 use Rattle.area.specs.Join.{join}
 use Rattle.area.specs.JoinLaws.{join-append}
 use Rattle.body.specs.Lines.{columned, columnsOf, Block, lineHeadBytes, blockBytes}
@@ -25,7 +25,7 @@ use Rattle.body.specs.RunLaws.{bytesAll, Each}
 use Rattle.body.specs.LinesLaws.{Filled}
 use Rattle.body.specs.InlineesLaws.{Fits}
 use Rattle.reading.specs.Reading.{Item, openLines, block, openChecksums, checksum, openInlinees, inlinee, openImports, imports, openExports, exports, opaque, reading, opens}
-use Rattle.plain.specs.Plain.{sizeOf, Last, nothing-yet, plainOf}
+use Rattle.plain.specs.Plain.{sizeOf, Last, nothing-yet, plainOf, KnowsPlain}
 use Rattle.writer_decides.specs.Calls.{itemKind, bytesFor, blockRule, checksumRule, obeys, goes, stops, limit, place, ofKind, room, elseNotPlain, needs, onLast, act, patch}
 use Rattle.writer_decides.specs.CallLaws.{room-there, kind-same, needs-is, patch-is, act-is}
 use Rattle.round_trip.specs.Secs.{Sec, linesOf, checksumsOf, inlineesOf, importsOf, exportsOf, opaqueOf, kindSec, bodySec, rawSec, callsSec, Sized, Ascend, floorAfter, GoodSec, markSec, rawsOf, callsOf, lastOf}
@@ -240,15 +240,16 @@ secs-run (t ∷ ts) g st ss H r =
     let L = secs-run ts (g .1) (runCalls (callsSec t) st) (ss ++ (t ∷ [])) (K .holds) (rw (K .len) r₂) in
     rw (run-append (callsSec t) (callsOf ts) st, e) (keeps-on st (runCalls (callsSec t) st) (runCalls (callsOf ts) (runCalls (callsSec t) st)) (ss ++ (t ∷ [])) ((ss ++ (t ∷ [])) ++ ts) K L)
 
--- what a runCalls makes of the reading of s
-pub record Again (s : List ℕ) (b : List ℕ) (its : List Item) : Type 0 where
-  pub read : reading crateRule s ≡ before its ends
+-- what a run makes of the reading of s
+pub record Again (rule : ℕ → Sort) (s : List ℕ) (b : List ℕ) (its : List Item) : Type 0 where
+  pub read : reading rule s ≡ before its ends
   pub all : accepted its b ≡ its
   pub at : runCalls its (empty b) .at ≡ length s
   pub bytes : written its b ≡ s
 
-pub made-again : (s b : List ℕ) (l : Last) → Bytes s → plainOf s ≡ some l → length s ≤ longest → length s ≤ length b → (its : List Item) × Again s b its
-made-again s b l h q n r =
+pub made-again : (rule : ℕ → Sort) → KnowsPlain rule → (s b : List ℕ) (l : Last) → Bytes s → plainOf s ≡ some l → length s ≤ longest → length s ≤ length b
+    → (its : List Item) × Again rule s b its
+made-again rule knows s b l h q n r =
     let S = plain-back s l h q in
     let ss = S .0 in
     let j : join (rawsOf ss) ≡ s = S .1 in
@@ -256,7 +257,7 @@ made-again s b l h q n r =
     let H = K .holds in (
       callsOf ss,
       record {
-        read = ap (reading crateRule) (sym j) ∙ reads-join ss (S .2) (rw j n);
+        read = ap (reading rule) (sym j) ∙ reads-join rule knows ss (S .2) (rw j n);
         all = H .done;
         at = at-is (runCalls (callsOf ss) (empty b)) ss H ∙ ap length j;
         bytes = H .is ∙ j;

@@ -1,9 +1,10 @@
 -- DEMAND 3 on the writer. After any sequence of writer calls from an empty buffer, refused ones among them, the full reading of the bytes
 -- written is exactly the list of accepted calls, in order. Each plain area, given room, is what the writer makes from its full reading.
 --
--- To check what is said here a reader needs Run.antt of this crate (a runCalls of calls), Calls.antt of `writer` (what a call answers and leaves: the
--- contracts of its functions cite it), Reading.antt of `reading` (the full reading) and Plain.antt of `plain` (which areas are plain), and no
--- proof. The statements are the four definitions; the names below them prove them.
+-- To check what is said here a reader needs Run.antt of this crate (a run of calls), Calls.antt of `writer_decides` (what a call answers and leaves:
+-- the contracts of the writer's functions cite it), Reading.antt of `reading` (the full reading) and Plain.antt of `plain` (which areas are plain, and
+-- which rules for kinds know theirs), and no proof. The statements are the four definitions; the names below them prove them. What is said of a
+-- reading holds by every rule for kinds that knows the plain ones; the crate's is one (`crate-knows`).
 use Prim.Native.Nat.{ℕ, _≤_}
 use mathlib.Core.Path.{_≡_, refl, sym, ap, _∙_}
 use mathlib.Core.List.{List}
@@ -12,14 +13,14 @@ use mathlib.Core.Option.{none, some}
 use native.Mathlib.Omega.{arith}
 use lib.ListN.{length, drop}
 use lib.Dec.{ltb}
-use borrow.Author.Tests.{ltb-false}
+use borrow.Author.Tests.{ltb-false, le-leb}
 use Rattle.word.specs.Word.{Bytes}
 use Rattle.walk.specs.Listing.{gave, refused, ends, before}
 use Rattle.refusal.specs.Told.{Told, longest}
 use Rattle.area.specs.Parts.{parts}
-use Rattle.area.specs.Kind.{crateRule}
+use Rattle.area.specs.Kind.{Sort, crateRule}
 use Rattle.reading.specs.Reading.{Item, reading}
-use Rattle.plain.specs.Plain.{Last, nothing-yet, plainFrom, plainOf, Plain}
+use Rattle.plain.specs.Plain.{Last, nothing-yet, plainFrom, plainOf, Plain, KnowsPlain}
 use Rattle.writer_decides.specs.Calls.{answered, bufferAfter}
 use Rattle.round_trip.specs.Run.{runCalls, empty, written, accepted}
 use Rattle.round_trip.specs.RoundLaws.{round-trip, before-one}
@@ -28,17 +29,17 @@ use Rattle.round_trip.specs.EachLaws.{refused-same, behind-same, never-l
 
 -- any calls, over any buffer: what was written is read as the calls that were accepted, and refuses nothing
 abbrev pub RoundTrip : Type 0
-RoundTrip = (its : List Item) (b : List ℕ) → reading crateRule (written its b) ≡ before (accepted its b) ends
+RoundTrip = (rule : ℕ → Sort) → KnowsPlain rule → (its : List Item) (b : List ℕ) → reading rule (written its b) ≡ before (accepted its b) ends
 
 -- so the bytes determine the history: no two lists of accepted calls leave the same bytes
 abbrev pub OneHistory : Type 0
 OneHistory = (its its′ : List Item) (b b′ : List ℕ) → written its b ≡ written its′ b′ → accepted its b ≡ accepted its′ b′
 
--- a plain area s, and a buffer with room for it: its full reading is a list of calls, and their runCalls accepts each, ends behind s, and wrote s
+-- a plain area s, and a buffer with room for it: its full reading is a list of calls, and a run of them accepts each, ends behind s, and wrote s
 abbrev pub MadeAgain : Type 0
 MadeAgain =
-    (s b : List ℕ) → Bytes s → Plain s → length s ≤ length b
-    → (its : List Item) × (reading crateRule s ≡ before its ends) × (accepted its b ≡ its) × (runCalls its (empty b) .at ≡ length s) × (written its b ≡ s)
+    (rule : ℕ → Sort) → KnowsPlain rule → (s b : List ℕ) → Bytes s → Plain s → length s ≤ length b
+    → (its : List Item) × (reading rule s ≡ before its ends) × (accepted its b ≡ its) × (runCalls its (empty b) .at ≡ length s) × (written its b ≡ s)
 
 -- each call alone: one that is refused changes nothing, one that is accepted changes nothing behind the place that it answers, and none gives 11
 abbrev pub Careful : Type 0
@@ -52,8 +53,13 @@ Careful =
 pub round : RoundTrip
 round = round-trip
 
+pub crate-knows : KnowsPlain crateRule
+unfolding crateRule
+crate-knows k a b = rw (le-leb 0xf1 k a, le-leb k 0xfd b)
+
 pub one-history : OneHistory
-one-history its its′ b b′ e = before-one (accepted its b) (accepted its′ b′) (sym (round its b) ∙ ap (reading crateRule) e ∙ round its′ b′)
+one-history its its′ b b′ e =
+    before-one (accepted its b) (accepted its′ b′) (sym (round crateRule crate-knows its b) ∙ ap (reading crateRule) e ∙ round crateRule crate-knows its′ b′)
 
 plain-short : (s : List ℕ) (l : Last) → plainOf s ≡ some l → length s ≤ longest
 unfolding plainOf
@@ -64,8 +70,8 @@ plain-short s l = by (ltb longest (length s)) refl
     by false e q = ltb-false longest (length s) e
 
 pub again : MadeAgain
-again s b h p r =
-    let A = made-again s b (p .0) h (p .1) (plain-short s (p .0) (p .1)) r in
+again rule knows s b h p r =
+    let A = made-again rule knows s b (p .0) h (p .1) (plain-short s (p .0) (p .1)) r in
     let m = A .1 in
     (A .0, m .read, m .all, m .at, m .bytes)
 

@@ -1,4 +1,4 @@
--- A runCalls of calls holds subsections of good form, whose calls are those that were accepted. So the reading of what was written is these calls.
+-- A run of calls holds subsections of good form, whose calls are those that were accepted. So the reading of what was written is these calls.
 use Prim.Native.Nat.{ℕ, _+_, _-_, _≤_}
 use mathlib.Core.Path.{_≡_, refl, sym, ap, _∙_}
 use mathlib.Core.Logic.{_⊎_, ⊎-elim}
@@ -12,11 +12,11 @@ use Rattle.word.specs.Word.{le32, put, header}
 use Rattle.word.specs.WordLaws.{header-length, le32-length, put-length}
 use Rattle.walk.specs.Listing.{Listing, ends, before}
 use Rattle.refusal.specs.Told.{Told}
-use Rattle.area.specs.Kind.{crateRule}
+use Rattle.area.specs.Kind.{Sort}
 use Rattle.area.specs.Join.{join}
 use Rattle.body.specs.RunLaws.{Each, each-snoc}
 use Rattle.reading.specs.Reading.{Item, reading, opens}
-use Rattle.plain.specs.Plain.{Last, nothing-yet, plainOf}
+use Rattle.plain.specs.Plain.{Last, nothing-yet, plainOf, KnowsPlain}
 use Rattle.writer_decides.specs.Calls.{itemKind, bytesFor, obeys, Act, goes, stops, limit, place, needs, act, grown, patch, wrote, kept}
 use Rattle.writer_decides.specs.CallLaws.{place-in, needs-is, patch-is, act-is, kind-some, act-goes, Grows, grow-goes}
 use Rattle.round_trip.specs.Secs.{Sec, kindSec, bodySec, callsSec, GoodSec, markSec, rawsOf, callsOf, lastOf}
@@ -169,12 +169,15 @@ pub empty-holds : (b : List ℕ) → Holds (empty b) []
 unfolding join
 empty-holds b = record { good = tt; low = omega arith; is = refl; done = refl }
 
-pub holds-reads : (st : State) (ss : List Sec) → Holds st ss → reading crateRule (take (st .at) (st .buf)) ≡ before (st .done) ends
-holds-reads st ss H =
-    ap (reading crateRule) (H .is) ∙ reads-join ss (H .good) (omega (arith, H .low, at-is st ss H)) ∙ ap (λ (x : List Item). before x ends) (sym (H .done))
+module _ (rule : ℕ → Sort) (knows : KnowsPlain rule) where
+  holds-reads : (st : State) (ss : List Sec) → Holds st ss → reading rule (take (st .at) (st .buf)) ≡ before (st .done) ends
+  holds-reads st ss H =
+      ap (reading rule) (H .is)
+      ∙ reads-join rule knows ss (H .good) (omega (arith, H .low, at-is st ss H))
+      ∙ ap (λ (x : List Item). before x ends) (sym (H .done))
 
-pub round-trip : (its : List Item) (b : List ℕ) → reading crateRule (written its b) ≡ before (accepted its b) ends
-round-trip its b = let R = run-held its (empty b) ([], empty-holds b) in holds-reads (runCalls its (empty b)) (R .0) (R .1)
+  pub round-trip : (its : List Item) (b : List ℕ) → reading rule (written its b) ≡ before (accepted its b) ends
+  round-trip its b = let R = run-held its (empty b) ([], empty-holds b) in holds-reads (runCalls its (empty b)) (R .0) (R .1)
 
 pub before-one : (xs ys : List Item) → _≡_ {A = Listing Item Told} (before xs ends) (before ys ends) → xs ≡ ys
 before-one [] [] e = refl

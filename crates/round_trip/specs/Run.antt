@@ -1,4 +1,4 @@
--- A runCalls of the writer's calls over a buffer: each call takes the place that the last accepted one answered. Source: document 01, "Writer and
+-- A run of the writer's calls over a buffer: each call takes the place that the last accepted one answered. Source: document 01, "Writer and
 -- plain areas": a sequence starts at place 0. `answered` and `bufferAfter` are what the contracts of the calls cite.
 -- Definitions only; a reader must believe them.
 use Prim.Native.Nat.{ℕ}

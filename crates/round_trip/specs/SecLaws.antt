@@ -11,9 +11,12 @@ use lib.Dec.{leb, eqb}
 use borrow.Author.Tests.{le-ltb, le-leb, eq-eqb, ne-eqb, eqb-true, leb-true}
 use Rattle.word.specs.Word.{u16At, u32At, le16, le32}
 use Rattle.word.specs.WordLaws.{le32-length, u32-first}
-use Rattle.walk.specs.Listing.{Move, item, over, Listing, more, ends, before, andThen, all}
+use Rattle.walk.specs.Listing.{Move, item, over, Listing, more, ends, fails, before, andThen, all}
+use Rattle.walk.specs.Spread.{spread}
 use Rattle.refusal.specs.Told.{Told, longest}
-use Rattle.area.specs.Kind.{known, crateRule}
+use Rattle.area.specs.Parts.{Raw}
+use Rattle.area.specs.Kind.{Sort}
+use Rattle.area.specs.Subs.{bodiesIn, bodies}
 use Rattle.area.specs.Join.{join}
 use Rattle.area.specs.JoinLaws.{parts-whole}
 use Rattle.body.specs.Lines.{LineHead, lineHead, columned, lineBytes, Block, blockBite, blocks, lineHeadBytes, blockBytes}
@@ -28,8 +31,9 @@ use Rattle.body.specs.ChecksumsLaws.{padding, checksum-sound, checksum-ended, s
 use Rattle.body.specs.InlineesLaws.{Fits, inlinee-sound, inlinee-ended, inlinee-forth}
 use Rattle.body.specs.ImportsLaws.{Any, module-sound, module-ended, module-forth}
 use Rattle.body.specs.ExportsLaws.{pairs-length, pairs-forth}
-use Rattle.reading.specs.Reading.{Item, openLines, block, openChecksums, checksum, openInlinees, inlinee, openImports, imports, openExports, exports, each, linesItems, checksumsItems, inlineesItems, importsItems, exportsItems, itemsOf, itemsIn, reading}
-use Rattle.plain.specs.Plain.{strict, blockFilled, plainBlock, sizeOf, tidy, plainChecksum, endsWhole, wholly, ascendsFrom, marked, linesMark, inlineesMark, isOpaque, markOf, Last, nothing-yet, plainFrom, plainOf}
+use Rattle.reading.specs.Reading.{Item, openLines, block, openChecksums, checksum, openInlinees, inlinee, openImports, imports, openExports, exports, Items, each, linesItems, checksumsItems, inlineesItems, importsItems, exportsItems, itemsOf, reading}
+use Rattle.reading.specs.BodiesLaws.{numbered, reading-bodies}
+use Rattle.plain.specs.Plain.{strict, blockFilled, plainBlock, sizeOf, tidy, plainChecksum, endsWhole, wholly, ascendsFrom, marked, linesMark, inlineesMark, isOpaque, markOf, Last, nothing-yet, plainFrom, plainOf, KnowsPlain}
 use Rattle.plain.specs.RecordLaws.{padding-two}
 use Rattle.plain.specs.PlainLaws.{plain-block-sound, plain-block-ended, plain-checksum-sound, plain-checksum-ended}
 use Rattle.round_trip.specs.Secs.{Sec, linesOf, checksumsOf, inlineesOf, importsOf, exportsOf, opaqueOf, kindSec, bodySec, rawSec, callsSec, Sized, Ascend, floorAfter, GoodSec, markSec, rawsOf, callsOf, lastOf}
@@ -202,37 +206,65 @@ good-reads (opaqueOf k b) g =
     let n = opaque-kinds k (g .0) in
     rw (ne-eqb k 0xf2 (n .0), ne-eqb k 0xf4 (n .1), ne-eqb k 0xf6 (n .2), ne-eqb k 0xf7 (n .3), ne-eqb k 0xf8 (n .4))
 
-opaque-known : (k : ℕ) → isOpaque k ≡ true → crateRule k ≡ known
-unfolding isOpaque crateRule
-opaque-known k = go (eqb k 0xf1) refl (eqb k 0xf3) refl (eqb k 0xf5) refl (leb 0xf9 k) refl (leb k 0xfd) refl
-  where
-    inside : 0xf1 ≤ k → k ≤ 0xfd → crateRule k ≡ known
-    inside a b = rw (le-leb 0xf1 k a, le-leb k 0xfd b)
+-- ---- whichever rule for kinds the area is read by, if it knows the kinds of plain subsections
 
+opaque-kind : (k : ℕ) → isOpaque k ≡ true → (0xf1 ≤ k) × (k ≤ 0xfd)
+unfolding isOpaque
+opaque-kind k = go (eqb k 0xf1) refl (eqb k 0xf3) refl (eqb k 0xf5) refl (leb 0xf9 k) refl (leb k 0xfd) refl
+  where
     go : (a : Bool) → eqb k 0xf1 ≡ a → (b : Bool) → eqb k 0xf3 ≡ b → (c : Bool) → eqb k 0xf5 ≡ c → (d : Bool) → leb 0xf9 k ≡ d → (e : Bool) → leb k 0xfd ≡ e
-        → cond a true (cond b true (cond c true (d && e))) ≡ true → crateRule k ≡ known
-    go true ea b eb c ec d ed e ee q = let z = eqb-true k 0xf1 ea in inside (omega arith) (omega arith)
-    go false ea true eb c ec d ed e ee q = let z = eqb-true k 0xf3 eb in inside (omega arith) (omega arith)
-    go false ea false eb true ec d ed e ee q = let z = eqb-true k 0xf5 ec in inside (omega arith) (omega arith)
-    go false ea false eb false ec true ed true ee q = inside (omega (arith, leb-true 0xf9 k ed)) (leb-true k 0xfd ee)
+        → cond a true (cond b true (cond c true (d && e))) ≡ true → (0xf1 ≤ k) × (k ≤ 0xfd)
+    go true ea b eb c ec d ed e ee q = omega (arith, eqb-true k 0xf1 ea)
+    go false ea true eb c ec d ed e ee q = omega (arith, eqb-true k 0xf3 eb)
+    go false ea false eb true ec d ed e ee q = omega (arith, eqb-true k 0xf5 ec)
+    go false ea false eb false ec true ed true ee q = omega (arith, leb-true 0xf9 k ed, leb-true k 0xfd ee)
     go false ea false eb false ec true ed false ee q = let z : _≡_ {A = ℕ} 0 1 = cc in absurd (omega arith)
     go false ea false eb false ec false ed e ee q = let z : _≡_ {A = ℕ} 0 1 = cc in absurd (omega arith)
 
-good-known : (s : Sec) → GoodSec s → crateRule (kindSec s) ≡ known
-unfolding crateRule
-good-known (linesOf h bs) g = refl
-good-known (checksumsOf cs) g = refl
-good-known (inlineesOf n es) g = refl
-good-known (importsOf ms) g = refl
-good-known (exportsOf ps) g = refl
-good-known (opaqueOf k b) g = opaque-known k (g .0)
+good-kind : (s : Sec) → GoodSec s → (0xf1 ≤ kindSec s) × (kindSec s ≤ 0xfd)
+good-kind (linesOf h bs) g = omega arith
+good-kind (checksumsOf cs) g = omega arith
+good-kind (inlineesOf n es) g = omega arith
+good-kind (importsOf ms) g = omega arith
+good-kind (exportsOf ps) g = omega arith
+good-kind (opaqueOf k b) g = opaque-kind k (g .0)
 
-pub reads-from : (ss : List Sec) → Each GoodSec ss → itemsIn crateRule (before (rawsOf ss) ends) ≡ before (callsOf ss) ends
-unfolding itemsIn
+-- calls as a listing, with refusals as numbers
+numbered-before : (xs : List Item) → numbered (before xs ends) ≡ before xs ends
+numbered-before [] = refl
+numbered-before (x ∷ xs) = ap (more x) (numbered-before xs)
+
+before-numbered : (l : Items) (xs : List Item) → numbered l ≡ before xs ends → l ≡ before xs ends
+before-numbered (more i l) (x ∷ xs) e =
+    let ei : i ≡ x = cc in
+    let el : numbered l ≡ before xs ends = cc in
+    let r = before-numbered l xs el in
+    λ j. more (ei j) (r j)
+before-numbered (more i l) [] e = let z : _≡_ {A = ℕ} 0 1 = cc in absurd (omega arith)
+before-numbered ends [] e = refl
+before-numbered ends (x ∷ xs) e = let z : _≡_ {A = ℕ} 0 1 = cc in absurd (omega arith)
+before-numbered (fails t) [] e = let z : _≡_ {A = ℕ} 0 1 = cc in absurd (omega arith)
+before-numbered (fails t) (x ∷ xs) e = let z : _≡_ {A = ℕ} 0 1 = cc in absurd (omega arith)
+
+reads-from : (ss : List Sec) → Each GoodSec ss → spread (λ (r : Raw). numbered (itemsOf r)) (before (rawsOf ss) ends) ≡ before (callsOf ss) ends
 reads-from [] g = refl
 reads-from (s ∷ ss) g =
-    rw (good-known s (g .0), good-reads s (g .0), reads-from ss (g .1)) (then-before (callsSec s) (before (callsOf ss) ends) ∙ sym (before-append (callsSec s) (callsOf ss) ends))
+    (λ i. andThen ((ap numbered (good-reads s (g .0)) ∙ numbered-before (callsSec s)) i) (reads-from ss (g .1) i))
+    ∙ then-before (callsSec s) (before (callsOf ss) ends) ∙ sym (before-append (callsSec s) (callsOf ss) ends)
 
-pub reads-join : (ss : List Sec) → Each GoodSec ss → length (join (rawsOf ss)) ≤ longest → reading crateRule (join (rawsOf ss)) ≡ before (callsOf ss) ends
-unfolding reading
-reads-join ss g l = rw (le-ltb longest (length (join (rawsOf ss))) l, parts-whole (rawsOf ss)) (reads-from ss g)
+module _ (rule : ℕ → Sort) (knows : KnowsPlain rule) where
+  bodies-from : (ss : List Sec) → Each GoodSec ss → bodiesIn rule (before (rawsOf ss) ends) ≡ before (rawsOf ss) ends
+  unfolding bodiesIn
+  bodies-from [] g = refl
+  bodies-from (s ∷ ss) g =
+      let k = good-kind s (g .0) in
+      rw (knows (kindSec s) (k .0) (k .1)) (ap (more (rawSec s)) (bodies-from ss (g .1)))
+
+  bodies-join : (ss : List Sec) → Each GoodSec ss → length (join (rawsOf ss)) ≤ longest → bodies rule (join (rawsOf ss)) ≡ before (rawsOf ss) ends
+  unfolding bodies
+  bodies-join ss g l = rw (le-ltb longest (length (join (rawsOf ss))) l, parts-whole (rawsOf ss)) (bodies-from ss g)
+
+  pub reads-join : (ss : List Sec) → Each GoodSec ss → length (join (rawsOf ss)) ≤ longest → reading rule (join (rawsOf ss)) ≡ before (callsOf ss) ends
+  reads-join ss g l =
+      before-numbered (reading rule (join (rawsOf ss))) (callsOf ss)
+      (reading-bodies rule (join (rawsOf ss)) ∙ ap (spread (λ (r : Raw). numbered (itemsOf r))) (bodies-join ss g l) ∙ reads-from ss g)
