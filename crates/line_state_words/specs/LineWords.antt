@@ -1,13 +1,13 @@
--- A line record in 12 words, and a state of the line walk in 27: its tag (0 new, 1 between two subsections, 2 inside one); the next slot, how many
+-- A line record in words, and a state of the line walk: its tag (0 new, 1 between two subsections, 2 inside one); the next slot, how many
 -- subsections are left, how far the area has been searched, 1 and the record held back or 0; and of the place the header's four fields, its end,
 -- the next block, the file, the lines left, the next line and the next column. Where a state lacks a part its words are 0.
 -- Read back, a word too large for its field counts modulo the field's size, and a tag above the last is the last.
 -- Source: docs/DECISIONS.md, 32.
 -- Definitions only; a reader must believe them.
-use Prim.Native.Nat.{ℕ, _%_}
+use Prim.Native.Nat.{ℕ, _+_, _%_}
 use mathlib.Core.List.{List, [], _∷_, _++_}
 use mathlib.Core.Bool.{cond}
-use lib.ListN.{getD}
+use lib.ListN.{getD, replicate}
 use lib.Dec.{eqb}
 use Rattle.line_record.specs.declared.Length.{Length}
 use Rattle.line_record.specs.declared.Length.the-variants as length
@@ -23,6 +23,29 @@ use Rattle.line_step.specs.declared.Rest.{Rest}
 use Rattle.line_step.specs.declared.Place.{Place}
 use Rattle.line_step.specs.declared.LineWalk.{LineWalk}
 use Rattle.line_step.specs.declared.LineWalk.the-variants as walk
+
+-- ---- how many words
+
+abbrev pub recordSize : ℕ
+recordSize = 12
+
+-- where in a state it says whether a record is held back; that record stands behind the word
+abbrev pub heldAt : ℕ
+heldAt = 4
+
+-- a state without its place, which stands behind the rest
+abbrev pub restSize : ℕ
+restSize = heldAt + 1 + recordSize
+
+abbrev pub placeSize : ℕ
+placeSize = 10
+
+abbrev pub stateSize : ℕ
+stateSize = restSize + placeSize
+
+-- a step is the next state, and the record
+abbrev pub stepSize : ℕ
+stepSize = stateSize + recordSize
 
 -- ---- a record
 
@@ -66,7 +89,7 @@ columnOf t n = cond (eqb t 0) column.None (column.At (u32Of n))
 abbrev pub kindIn : ℕ → LineKind
 kindIn t = cond (eqb t 0) kind.Expression kind.Statement
 
--- the record that is held stands behind four words
+-- the record that is held back
 abbrev pub recordIn : List ℕ → LineRecord
 recordIn o =
     record {
@@ -82,7 +105,7 @@ recordIn o =
     }
 
 unfoldable pub heldIn : List ℕ → Held
-heldIn o = cond (eqb (getD o 4 0) 0) held.Nothing (held.One (recordIn o))
+heldIn o = cond (eqb (getD o heldAt 0) 0) held.Nothing (held.One (recordIn o))
 
 abbrev pub restIn : List ℕ → Rest
 restIn o = record { slot = getD o 1 0; left = getD o 2 0; scan = getD o 3 0; held = heldIn o }
@@ -111,7 +134,7 @@ lineWalkIn o =
 -- ---- put
 
 abbrev noRecord : List ℕ
-noRecord = 0 ∷ 0 ∷ 0 ∷ 0 ∷ 0 ∷ 0 ∷ 0 ∷ 0 ∷ 0 ∷ 0 ∷ 0 ∷ 0 ∷ []
+noRecord = replicate recordSize 0
 
 abbrev pub heldWords : Held → List ℕ
 heldWords held.Nothing = 0 ∷ noRecord
@@ -135,7 +158,7 @@ placeWords p =
     ∷ []
 
 abbrev pub noPlace : List ℕ
-noPlace = 0 ∷ 0 ∷ 0 ∷ 0 ∷ 0 ∷ 0 ∷ 0 ∷ 0 ∷ 0 ∷ 0 ∷ []
+noPlace = replicate placeSize 0
 
 abbrev pub lineWalkWords : LineWalk → List ℕ
 lineWalkWords walk.New = 0 ∷ 0 ∷ 0 ∷ 0 ∷ 0 ∷ (noRecord ++ noPlace)

@@ -18,18 +18,20 @@ use Rattle.line_step.specs.declared.LineWalk.{LineWalk}
 use Rattle.line_step.specs.declared.LineWalk.the-variants as walk
 use Rattle.word.specs.Word.{put, store}
 use Rattle.word.specs.WordLaws.{store-put}
-use Rattle.line_state_words.specs.LineWords.{lengthWords, columnWords, kindWord, recordWords, heldWords, restWords, lineWalkWords, lineWords, recordIn, heldIn, restIn, placeIn, lineWalkIn}
+use Rattle.line_state_words.specs.LineWords.{recordSize, heldAt, restSize, stateSize, stepSize}
+use Rattle.line_state_words.specs.LineWords.{lengthWords, columnWords, kindWord, recordWords, heldWords, restWords, lineWalkWords, lineWords}
+use Rattle.line_state_words.specs.LineWords.{recordIn, heldIn, restIn, placeIn, lineWalkIn}
 
 -- ---- read back
 
-module _ (o : List ℕ) (n : ℕ) (e : n ≡ getD o 4 0) where
+module _ (o : List ℕ) (n : ℕ) (e : n ≡ getD o heldAt 0) where
   pub held-nothing : n ≡ 0 → held.Nothing ≡ heldIn o
   unfolding heldIn
-  held-nothing z = rw (eq-eqb (getD o 4 0) 0 (sym e ∙ z))
+  held-nothing z = rw (eq-eqb (getD o heldAt 0) 0 (sym e ∙ z))
 
   pub held-one : (n ≡ 0 → ⊥) → (r : LineRecord) → r ≡ recordIn o → held.One r ≡ heldIn o
   unfolding heldIn
-  held-one z r q = ap held.One q ∙ rw (ne-eqb (getD o 4 0) 0 (λ h. z (e ∙ h)))
+  held-one z r q = ap held.One q ∙ rw (ne-eqb (getD o heldAt 0) 0 (λ h. z (e ∙ h)))
 
 module _ (o : List ℕ) (n : ℕ) (e : n ≡ getD o 0 0) where
   pub walk-new : n ≡ 0 → walk.New ≡ lineWalkIn o
@@ -55,23 +57,23 @@ two-column : (l : Column) → length (columnWords l) ≡ 2
 two-column col.None = refl
 two-column (col.At n) = refl
 
-pub record-length : (r : LineRecord) → length (recordWords r) ≡ 12
+pub record-length : (r : LineRecord) → length (recordWords r) ≡ recordSize
 record-length r =
     simp length-append (omega (arith, two-length (r .length), two-column (r .«column_start»), two-column (r .«column_end»)))
 
-held-length : (h : Held) → length (heldWords h) ≡ 13
+held-length : (h : Held) → length (heldWords h) ≡ 1 + recordSize
 held-length held.Nothing = refl
 held-length (held.One r) = omega (arith, record-length r)
 
-pub rest-length : (tag : ℕ) (t : Rest) → length (tag ∷ restWords t) ≡ 17
+pub rest-length : (tag : ℕ) (t : Rest) → length (tag ∷ restWords t) ≡ restSize
 rest-length tag t = omega (arith, held-length (t .held))
 
-pub walk-length : (w : LineWalk) → length (lineWalkWords w) ≡ 27
+pub walk-length : (w : LineWalk) → length (lineWalkWords w) ≡ stateSize
 walk-length walk.New = refl
 walk-length (walk.Between t) = simp length-append (omega (arith, held-length (t .held)))
 walk-length (walk.Inside p t) = simp length-append (omega (arith, held-length (t .held)))
 
-pub line-length : (r : LineRecord) (w : LineWalk) → length (lineWords r w) ≡ 39
+pub line-length : (r : LineRecord) (w : LineWalk) → length (lineWords r w) ≡ stepSize
 line-length r w = length-append (lineWalkWords w) (recordWords r) ∙ omega (arith, walk-length w, record-length r)
 
 -- ---- put
@@ -84,5 +86,6 @@ record-words r l s e k =
     λ i. r .section ∷ r .offset ∷ (l i ++ (r .file ∷ r .«start_line» ∷ r .«end_line» ∷ (s i ++ (e i ++ (k i ∷ [])))))
 
 -- a record that fits
-pub record-is : (o left : List ℕ) (at : ℕ) (r : LineRecord) → left ≡ store o at (recordWords r) → at + 12 ≤ length o → left ≡ put o at (recordWords r)
-record-is o left at r e h = e ∙ sym (store-put o at (recordWords r) 12 (record-length r) h)
+pub record-is : (o left : List ℕ) (at : ℕ) (r : LineRecord) → left ≡ store o at (recordWords r) → at + recordSize ≤ length o
+    → left ≡ put o at (recordWords r)
+record-is o left at r e h = e ∙ sym (store-put o at (recordWords r) recordSize (record-length r) h)

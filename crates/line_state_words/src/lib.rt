@@ -5,6 +5,7 @@ ghost use Prim.Native.Nat.{_≤_};
 ghost use lib.ListN.{length, getD};
 ghost use Rattle.word.specs.Word.{put, store};
 ghost use Rattle.answer_words.specs.Given.{given, Gives};
+ghost use Rattle.line_state_words.specs.LineWords.{heldAt, restSize, stateSize};
 ghost use Rattle.line_state_words.specs.LineWords.{u16Of, u32Of, lengthOf, columnOf, kindIn, recordIn, heldIn, restIn, headIn, placeIn, lineWalkIn};
 ghost use Rattle.line_state_words.specs.LineWords.{lengthWords, columnWords, kindWord, recordWords, heldWords, restWords, placeWords, lineWalkWords, lineWords};
 use answer_words::GIVEN;
@@ -19,6 +20,25 @@ use line_step::LineWalk;
 use line_step::Place;
 use line_step::Rest;
 use lines::LineHeader;
+
+// The words of a line record.
+pub const RECORD_WORDS: usize = 12;
+
+// Where in a state it says whether a record is held back, and where behind that word the record stands.
+const HELD_AT: usize = 4;
+
+const HELD_RECORD: usize = HELD_AT + 1;
+
+// The words of a state without its place, and behind them those of the place.
+const REST_WORDS: usize = HELD_RECORD + RECORD_WORDS;
+
+const PLACE_WORDS: usize = 10;
+
+// The words of a state.
+pub const STATE_WORDS: usize = REST_WORDS + PLACE_WORDS;
+
+// The words of a step: the next state, and behind it the record.
+pub const STEP_WORDS: usize = STATE_WORDS + RECORD_WORDS;
 
 // ---- read back
 
@@ -87,7 +107,7 @@ fn record_in(out: &[u64]) -> LineRecord
 fn held_in(out: &[u64]) -> Held
     ensures { λ r. ⌜ r ≡ heldIn (now (out .entry)) ⌝ }
 {
-    if state_word(out, 4) == 0 {
+    if state_word(out, HELD_AT) == 0 {
         return Held::Nothing;
     }
     Held::One(record_in(out))
@@ -131,7 +151,7 @@ fn place_in(out: &[u64]) -> Place
     }
 }
 
-// The state of a line walk that the first 27 words say.
+// The state of a line walk that the first `STATE_WORDS` words say.
 pub fn line_walk_in(out: &[u64]) -> LineWalk
     ensures { λ r. ⌜ r ≡ lineWalkIn (now (out .entry)) ⌝ }
 {
@@ -177,11 +197,6 @@ fn kind_word(k: LineKind) -> u64
     }
 }
 
-// A state takes 27 words, and a step 39: the state's, and behind them 12 of the record. Pieces are put one behind the other.
-const STATE: usize = 27;
-
-const STEP: usize = 39;
-
 // A record at a place. Where its words do not fit nothing is put.
 pub fn put_record(out: &mut [u64], at: usize, r: LineRecord)
     ensures { λ _. ⌜ now (out .exit) ≡ store (now (out .entry)) at (recordWords r) ⌝ }
@@ -216,22 +231,22 @@ pub fn put_record(out: &mut [u64], at: usize, r: LineRecord)
 }
 
 fn put_held(out: &mut [u64], h: Held)
-    requires { ⌜ 27 ≤ length (now out) ⌝ }
-    ensures { λ _. ⌜ now (out .exit) ≡ put (now (out .entry)) 4 (heldWords h) ⌝ }
+    requires { ⌜ stateSize ≤ length (now out) ⌝ }
+    ensures { λ _. ⌜ now (out .exit) ≡ put (now (out .entry)) heldAt (heldWords h) ⌝ }
 {
     match h {
         Held::Nothing => {
-            answer_words::put(out, 4, &[0; 13], GIVEN);
+            answer_words::put(out, HELD_AT, &[0; 1 + RECORD_WORDS], GIVEN);
         }
         Held::One(r) => {
-            answer_words::put(out, 4, &[1], GIVEN);
-            put_record(out, 5, r);
+            answer_words::put(out, HELD_AT, &[1], GIVEN);
+            put_record(out, HELD_RECORD, r);
         }
     }
 }
 
 fn put_rest(out: &mut [u64], tag: u64, t: Rest)
-    requires { ⌜ 27 ≤ length (now out) ⌝ }
+    requires { ⌜ stateSize ≤ length (now out) ⌝ }
     ensures { λ _. ⌜ now (out .exit) ≡ put (now (out .entry)) 0 (tag ∷ restWords t) ⌝ }
 {
     answer_words::put(
@@ -245,13 +260,13 @@ fn put_rest(out: &mut [u64], tag: u64, t: Rest)
 }
 
 fn put_place(out: &mut [u64], p: Place)
-    requires { ⌜ 27 ≤ length (now out) ⌝ }
-    ensures { λ _. ⌜ now (out .exit) ≡ put (now (out .entry)) 17 (placeWords p) ⌝ }
+    requires { ⌜ stateSize ≤ length (now out) ⌝ }
+    ensures { λ _. ⌜ now (out .exit) ≡ put (now (out .entry)) restSize (placeWords p) ⌝ }
 {
     let head = p.head;
     answer_words::put(
         out,
-        17,
+        REST_WORDS,
         &[
             head.offset as u64,
             head.section as u64,
@@ -269,16 +284,16 @@ fn put_place(out: &mut [u64], p: Place)
 }
 
 fn put_walk(out: &mut [u64], w: LineWalk)
-    requires { ⌜ 27 ≤ length (now out) ⌝ }
+    requires { ⌜ stateSize ≤ length (now out) ⌝ }
     ensures { λ _. ⌜ now (out .exit) ≡ put (now (out .entry)) 0 (lineWalkWords w) ⌝ }
 {
     match w {
         LineWalk::New => {
-            answer_words::put(out, 0, &[0; 27], GIVEN);
+            answer_words::put(out, 0, &[0; STATE_WORDS], GIVEN);
         }
         LineWalk::Between(t) => {
             put_rest(out, 1, t);
-            answer_words::put(out, 17, &[0; 10], GIVEN);
+            answer_words::put(out, REST_WORDS, &[0; PLACE_WORDS], GIVEN);
         }
         LineWalk::Inside(p, t) => {
             put_rest(out, 2, t);
@@ -291,7 +306,7 @@ fn put_walk(out: &mut [u64], w: LineWalk)
 pub fn put_line_walk(out: &mut [u64], w: LineWalk) -> u32
     ensures { λ q. ⌜ Gives (now (out .entry)) (given 1 0 (lineWalkWords w)) q (now (out .exit)) ⌝ }
 {
-    if out.len() < STATE {
+    if out.len() < STATE_WORDS {
         return TOO_SHORT;
     }
     put_walk(out, w);
@@ -302,10 +317,10 @@ pub fn put_line_walk(out: &mut [u64], w: LineWalk) -> u32
 pub fn put_line(out: &mut [u64], r: LineRecord, w: LineWalk) -> u32
     ensures { λ q. ⌜ Gives (now (out .entry)) (given 1 0 (lineWords r w)) q (now (out .exit)) ⌝ }
 {
-    if out.len() < STEP {
+    if out.len() < STEP_WORDS {
         return TOO_SHORT;
     }
     put_walk(out, w);
-    put_record(out, 27, r);
+    put_record(out, STATE_WORDS, r);
     GIVEN
 }

@@ -3,6 +3,7 @@
 use borrow.Author.Needs.{needs}
 use native.Mathlib.Omega.{arith}
 use Rattle.answer_words.specs.PiecesLaws.{gives-is}
+use Rattle.line_state_words.specs.LineWords.{restSize}
 use Rattle.line_state_words.proofs.put_place.Statement.{statement}
 use Rattle.line_state_words.proofs.put_place.Tie as tie
 
@@ -18,4 +19,4 @@ put-place-spec =
     (λ c. search needs)
     (λ c κs. search needs)
     (λ c. search needs)
-    (λ c. gives-is 1 17 _ (c .before .before .put .ensures) (omega arith)))
+    (λ c. gives-is 1 restSize _ (c .before .before .put .ensures) (omega arith)))

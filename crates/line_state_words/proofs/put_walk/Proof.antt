@@ -6,7 +6,7 @@ use mathlib.Core.List.{_∷_}
 use mathlib.Core.Path.{sym, ap, _∙_}
 use Rattle.line_step.specs.declared.LineWalk.{LineWalk}
 use Rattle.word.specs.Word.{put}
-use Rattle.line_state_words.specs.LineWords.{restWords, placeWords, noPlace, lineWalkWords}
+use Rattle.line_state_words.specs.LineWords.{restSize, restWords, placeWords, noPlace, lineWalkWords}
 use Rattle.answer_words.specs.PiecesLaws.{gives-is, two-pieces}
 use Rattle.line_state_words.specs.LineWordsLaws.{rest-length}
 use Rattle.line_state_words.proofs.put_walk.Statement.{statement}
@@ -24,8 +24,8 @@ returns-2 c =
     let g = h .before .before .before in
     let o = g .before .before .before .args .out .now in
     let t = g .w .given .0 .0 in
-    let q = gives-is 1 17 noPlace (c .before .before .put2 .ensures) (omega arith) in
-    two-pieces o _ _ 0 17 (1 ∷ restWords t) noPlace (h .put-rest .ensures) q (omega (arith, rest-length 1 t)) (omega (arith, rest-length 1 t))
+    let q = gives-is 1 restSize noPlace (c .before .before .put2 .ensures) (omega arith) in
+    two-pieces o _ _ 0 restSize (1 ∷ restWords t) noPlace (h .put-rest .ensures) q (omega (arith, rest-length 1 t)) (omega (arith, rest-length 1 t))
     ∙ ap (λ (x : LineWalk). put o 0 (lineWalkWords x)) (sym (g .w .given .1))
 
 returns-3 : tie.Need-returns-3
@@ -35,7 +35,7 @@ returns-3 c =
     let o = g .before .before .before .args .out .now in
     let p = g .w2 .given .0 .0 in
     let t = g .w2 .given .0 .1 .0 in
-    two-pieces o _ _ 0 17 (2 ∷ restWords t) (placeWords p) (h .put-rest2 .ensures) (c .before .before .put-place .ensures) (omega (arith, rest-length 2 t)) (omega (arith, rest-length 2 t))
+    two-pieces o _ _ 0 restSize (2 ∷ restWords t) (placeWords p) (h .put-rest2 .ensures) (c .before .before .put-place .ensures) (omega (arith, rest-length 2 t)) (omega (arith, rest-length 2 t))
     ∙ ap (λ (x : LineWalk). put o 0 (lineWalkWords x)) (sym (g .w2 .given .1))
 
 pub put-walk-spec : {M : Type 1} → statement M
