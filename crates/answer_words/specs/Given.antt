@@ -36,6 +36,9 @@ noneGiven = given 0 0 []
 abbrev pub refusalWords : Told → List ℕ
 refusalWords t = numberOf t ∷ carriedOf t ∷ []
 
+abbrev pub refusalSize : ℕ
+refusalSize = 2
+
 abbrev pub refusalGiven : ℕ → Told → Given
 refusalGiven k t = given 2 k (refusalWords t)
 

@@ -16,7 +16,7 @@ use Rattle.word.specs.Word.{put, store}
 use Rattle.word.specs.WordLaws.{put-before, put-behind}
 use Rattle.walk.specs.Listing.{Reply, gave, nothing, refused}
 use Rattle.refusal.specs.Told.{Told}
-use Rattle.answer_words.specs.Given.{Given, given, Gives, statusIn, noneGiven, one, replyGiven, ifRoom, shortGiven}
+use Rattle.answer_words.specs.Given.{Given, given, Gives, statusIn, noneGiven, refusalSize, one, replyGiven, ifRoom, shortGiven}
 
 module _ (o : List ℕ) (g : Given) where
   -- words that fit are put
@@ -102,10 +102,10 @@ Still (refused t) m n = n ≡ m
 
 -- THE LAW for a call of one answer
 pub room-careful : {M : Type 0} (o : List ℕ) (x : Reply ℕ Told) (m n : M) {r : ℕ} {left : List ℕ}
-    → Still x m n → Gives o (ifRoom 2 o (replyGiven one x) shortGiven) r left → (r ≡ 1 → ⊥) → ifRoom 2 o n m ≡ m
-room-careful o x m n h g z = room-still 2 o (replyGiven one x) m n (by x h) g z
+    → Still x m n → Gives o (ifRoom refusalSize o (replyGiven one x) shortGiven) r left → (r ≡ 1 → ⊥) → ifRoom refusalSize o n m ≡ m
+room-careful o x m n h g z = room-still refusalSize o (replyGiven one x) m n (by x h) g z
   where
-    by : (y : Reply ℕ Told) → Still y m n → 2 ≤ length o → (statusIn o (replyGiven one y) ≡ 1) ⊎ (n ≡ m)
+    by : (y : Reply ℕ Told) → Still y m n → refusalSize ≤ length o → (statusIn o (replyGiven one y) ≡ 1) ⊎ (n ≡ m)
     by (gave k) q l = inl (sym (gives-put o (given 1 0 (one k)) (omega arith) .status))
     by nothing q l = inr q
     by (refused t) q l = inr q

@@ -1,4 +1,4 @@
--- A walk over a table in four words: 0 and whatever behind it for a new one; else any other number, where the body starts, how long it is, and
+-- A walk over a table in words: 0 and whatever behind it for a new one; else any other number, where the body starts, how long it is, and
 -- the place in it. A word that is not there is 0. Source: docs/DECISIONS.md, 32.
 -- Definitions only; a reader must believe them.
 use Prim.Native.Nat.{ℕ}
@@ -8,6 +8,9 @@ use lib.ListN.{getD}
 use lib.Dec.{eqb}
 use Rattle.table.specs.declared.TableWalk.{TableWalk}
 use Rattle.table.specs.declared.TableWalk.the-variants as walk
+
+abbrev pub tableStateSize : ℕ
+tableStateSize = 4
 
 unfoldable pub walkIn : List ℕ → TableWalk
 walkIn o = cond (eqb (getD o 0 0) 0) walk.New (walk.In (getD o 1 0) (getD o 2 0) (getD o 3 0))

@@ -8,7 +8,7 @@ use Rattle.table.specs.declared.TableWalk.{TableWalk}
 use Rattle.table.specs.declared.TableWalk.the-variants as walk
 use Rattle.answer_words.specs.Given.{given, Gives}
 use Rattle.answer_words.specs.GivenLaws.{gives-as}
-use Rattle.answer_words.specs.TableWords.{walkIn, walkWords, tableWords}
+use Rattle.answer_words.specs.TableWords.{tableStateSize, walkIn, walkWords, tableWords}
 
 module _ (o : List ℕ) (n : ℕ) (e : n ≡ getD o 0 0) where
   pub walk-new : n ≡ 0 → walk.New ≡ walkIn o
@@ -19,14 +19,14 @@ module _ (o : List ℕ) (n : ℕ) (e : n ≡ getD o 0 0) where
   unfolding walkIn
   walk-goes z a b d ea eb ed = rw (ne-eqb (getD o 0 0) 0 (λ q. z (e ∙ q)), ea, eb, ed)
 
-pub walk-length : (w : TableWalk) → length (walkWords w) ≡ 4
+pub walk-length : (w : TableWalk) → length (walkWords w) ≡ tableStateSize
 walk-length walk.New = refl
 walk-length (walk.In start len at) = refl
 
 pub walk-is : {w v : TableWalk} → w ≡ v → walkWords w ≡ walkWords v
 walk-is e = ap walkWords e
 
--- the words of a step: four of the walk, and those of the record
+-- the words of a step: those of the walk, and those of the record
 pub gives-table : {B : Type 0} (f : B → List ℕ) (b : B) (w : TableWalk) {o left ws : List ℕ} {r i j k l : ℕ}
     → walkWords w ≡ i ∷ j ∷ k ∷ l ∷ [] → f b ≡ ws → Gives o (given 1 0 (i ∷ j ∷ k ∷ l ∷ ws)) r left → Gives o (given 1 0 (tableWords f b w)) r left
 gives-table f b w {ws = ws} e q h = gives-as (given 1 0) (ap (λ x. x ++ ws) (sym e) ∙ ap (λ x. walkWords w ++ x) (sym q)) h

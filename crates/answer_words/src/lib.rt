@@ -20,7 +20,10 @@ pub const REFUSED: u32 = 2;
 pub const TOO_SHORT: u32 = 3;
 
 // The words that a refusal takes. A call that changes other lent memory too asks for as many before it does anything.
-pub const LEAST: usize = 2;
+pub const REFUSAL_WORDS: usize = 2;
+
+// The words of a walk over a table.
+pub const TABLE_STATE_WORDS: usize = 4;
 
 // Puts the words of an answer, and answers its status.
 pub fn put(out: &mut [u64], at: usize, words: &[u64], status: u32) -> u32
@@ -55,7 +58,7 @@ pub fn state_word(out: &[u64], i: usize) -> u64
     if i < out.len() { out[i] } else { 0 }
 }
 
-// The walk over a table that the first four words say.
+// The walk over a table that the first `TABLE_STATE_WORDS` words say.
 pub fn walk_in(out: &[u64]) -> TableWalk
     ensures { λ r. ⌜ r ≡ walkIn (now (out .entry)) ⌝ }
 {
@@ -69,7 +72,7 @@ pub fn walk_in(out: &[u64]) -> TableWalk
     }
 }
 
-// Such a walk in four words.
+// The words of a walk over a table.
 pub struct Four(pub u64, pub u64, pub u64, pub u64);
 
 pub fn walk_words(walk: TableWalk) -> Four

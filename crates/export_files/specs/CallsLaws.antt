@@ -5,7 +5,7 @@ use mathlib.Core.List.{List}
 use lib.ListN.{length}
 use Rattle.area.specs.Kind.{crateRule}
 use Rattle.answer_words.specs.Given.{Gives}
-use Rattle.answer_words.specs.TableWords.{walkIn, walkWords}
+use Rattle.answer_words.specs.TableWords.{tableStateSize, walkIn, walkWords}
 use Rattle.answer_words.specs.TableWordsLaws.{walk-length}
 use Rattle.answer_words.specs.FillGivenLaws.{fill-careful}
 use Rattle.many_files.specs.FileWords.{fileWords}
@@ -14,4 +14,4 @@ use Rattle.export_files.specs.Calls.{filesGiven, filesLeft}
 
 -- THE LAW: with any status but 1 the words lent for records are as they were
 pub files-careful : (s x o : List ℕ) {r : ℕ} {left : List ℕ} → Gives o (filesGiven s (length x) o) r left → (r ≡ 1 → ⊥) → filesLeft s x o ≡ x
-files-careful s x o = fill-careful 4 walkWords fileWords o x (filesOf crateRule s (length x) (walkIn o)) walk-length
+files-careful s x o = fill-careful tableStateSize walkWords fileWords o x (filesOf crateRule s (length x) (walkIn o)) walk-length

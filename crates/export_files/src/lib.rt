@@ -6,6 +6,8 @@ ghost use Rattle.answer_words.specs.Given.{Gives};
 ghost use Rattle.export_files.specs.Calls.{fileGiven, filesGiven, filesLeft, infoGiven};
 use answer_words::GIVEN;
 use answer_words::NONE;
+use answer_words::REFUSAL_WORDS;
+use answer_words::TABLE_STATE_WORDS;
 use answer_words::TOO_SHORT;
 use answer_words::put;
 use answer_words::put_refusal;
@@ -18,9 +20,9 @@ use many_files::FilesStep;
 use many_files::next_files;
 
 // The words of `out` that a call for many files asks for: a walk's state, and those of a refusal.
-const ASKED: usize = 6;
+const ASKED: usize = TABLE_STATE_WORDS + REFUSAL_WORDS;
 
-// The next file. State: four words. Words: its index, its name, its checksum's kind, and the place and the length of the bytes.
+// The next file. State: of a walk over a table. Words: its index, its name, its checksum's kind, and the place and the length of the bytes.
 pub fn next_file(area: &[u8], out: &mut [u64]) -> u32
     ensures { λ r. ⌜ Gives (now (out .entry)) (fileGiven (now (area .entry)) (now (out .entry))) r (now (out .exit)) ⌝ }
 {
@@ -53,11 +55,11 @@ pub fn next_file(area: &[u8], out: &mut [u64]) -> u32
             )
         }
         FileStep::None => NONE,
-        FileStep::Refused(why) => put_refusal(out, 4, why),
+        FileStep::Refused(why) => put_refusal(out, TABLE_STATE_WORDS, why),
     }
 }
 
-// The files from the walk in `out` on, 5 words each, into `records`. Words: the next state, and how many files there are. Where there is none to give the
+// The files from the walk in `out` on, into `records`. Words: the next state, and how many files there are. Where there is none to give the
 // answer is that of `next_file`; without room for one it is number 10.
 pub fn files(area: &[u8], records: &mut [u64], out: &mut [u64]) -> u32
     ensures { λ r. ⌜ Gives (now (out .entry)) (filesGiven (now (area .entry)) (length (now (records .entry))) (now (out .entry))) r (now (out .exit)) ⌝ }
@@ -72,7 +74,7 @@ pub fn files(area: &[u8], records: &mut [u64], out: &mut [u64]) -> u32
             put(out, 0, &[w.0, w.1, w.2, w.3, count as u64], GIVEN)
         }
         FilesStep::None => NONE,
-        FilesStep::Refused(why) => put_refusal(out, 4, why),
+        FilesStep::Refused(why) => put_refusal(out, TABLE_STATE_WORDS, why),
     }
 }
 

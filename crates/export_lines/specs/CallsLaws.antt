@@ -14,9 +14,10 @@ use Rattle.export_lines.specs.Calls.{orderGiven, slotsLeft, linesGiven, 
 use Rattle.word.specs.Word.{put}
 use Rattle.word.specs.WordLaws.{put-length, store-put}
 use Rattle.answer_words.specs.PiecesLaws.{put-join}
+use Rattle.answer_words.specs.FillGiven.{askedSize}
 use Rattle.answer_words.specs.FillGivenLaws.{fill-careful}
 use Rattle.line_step.specs.declared.LineWalk.{LineWalk}
-use Rattle.line_state_words.specs.LineWords.{lineWalkIn, lineWalkWords, recordWords}
+use Rattle.line_state_words.specs.LineWords.{stateSize, lineWalkIn, lineWalkWords, recordWords}
 use Rattle.line_state_words.specs.LineWordsLaws.{walk-length}
 use Rattle.many_lines.specs.Lines.{linesOf}
 
@@ -29,23 +30,23 @@ order-careful s v o g z = room-careful o (ordered crateRule s (length v)) v (slo
     still nothing = refl
     still (refused t) = refl
 
-module _ (o p q : List ℕ) (w : LineWalk) (n r k : ℕ) (room : 29 ≤ length o) where
+module _ (o p q : List ℕ) (w : LineWalk) (n r k : ℕ) (room : askedSize stateSize ≤ length o) where
   -- p behind the state, and q behind the number
-  pub gives-count : Gives o (given 1 0 (lineWalkWords w)) k p → Gives p (given 1 27 (n ∷ [])) r q → Gives o (given 1 0 (lineWalkWords w ++ (n ∷ []))) r q
+  pub gives-count : Gives o (given 1 0 (lineWalkWords w)) k p → Gives p (given 1 stateSize (n ∷ [])) r q → Gives o (given 1 0 (lineWalkWords w ++ (n ∷ []))) r q
   gives-count f g =
       let l = walk-length w in
       let fits : 0 + length (lineWalkWords w) ≤ length o = omega arith in
-      let ep : p ≡ put o 0 (lineWalkWords w) = f .words ∙ sym (store-put o 0 (lineWalkWords w) 27 l (omega arith)) in
+      let ep : p ≡ put o 0 (lineWalkWords w) = f .words ∙ sym (store-put o 0 (lineWalkWords w) stateSize l (omega arith)) in
       let lp : length p ≡ length o = ap length ep ∙ put-length o 0 (lineWalkWords w) fits in
-      let eq : q ≡ put p 27 (n ∷ []) = g .words ∙ sym (store-put p 27 (n ∷ []) 1 (omega arith) (omega arith)) in
-      let at : 27 ≡ 0 + length (lineWalkWords w) = omega arith in
+      let eq : q ≡ put p stateSize (n ∷ []) = g .words ∙ sym (store-put p stateSize (n ∷ []) 1 (omega arith) (omega arith)) in
+      let at : stateSize ≡ 0 + length (lineWalkWords w) = omega arith in
       let e : q ≡ put o 0 (lineWalkWords w ++ (n ∷ [])) = eq ∙ (λ i. put (ep i) (at i) (n ∷ [])) ∙ put-join o 0 (lineWalkWords w) (n ∷ []) fits in
-      let m : length (lineWalkWords w ++ (n ∷ [])) ≡ 28 = length-append (lineWalkWords w) (n ∷ []) ∙ (let z : length (lineWalkWords w) + 1 ≡ 28 = omega arith in z) in
-      let z : Gives p (given 1 27 (n ∷ [])) 1 (put p 27 (n ∷ [])) = gives-put p (given 1 27 (n ∷ [])) (omega arith) in
+      let m : length (lineWalkWords w ++ (n ∷ [])) ≡ stateSize + 1 = length-append (lineWalkWords w) (n ∷ []) ∙ (let z : length (lineWalkWords w) + 1 ≡ stateSize + 1 = omega arith in z) in
+      let z : Gives p (given 1 stateSize (n ∷ [])) 1 (put p stateSize (n ∷ [])) = gives-put p (given 1 stateSize (n ∷ [])) (omega arith) in
       let s : r ≡ 1 = g .status ∙ sym (z .status) in
       subst⁻¹ (λ (x : ℕ). Gives o (given 1 0 (lineWalkWords w ++ (n ∷ []))) x q) s
       (subst⁻¹ (λ (x : List ℕ). Gives o (given 1 0 (lineWalkWords w ++ (n ∷ []))) 1 x) e (gives-put o (given 1 0 (lineWalkWords w ++ (n ∷ []))) (omega arith)))
 
 -- THE LAW: with any status but 1 the words lent for records are as they were
 pub lines-careful : (s v x o : List ℕ) {r : ℕ} {left : List ℕ} → Gives o (linesGiven s v (length x) o) r left → (r ≡ 1 → ⊥) → recordsLeft s v x o ≡ x
-lines-careful s v x o = fill-careful 27 lineWalkWords recordWords o x (linesOf crateRule s v (length x) (lineWalkIn o)) walk-length
+lines-careful s v x o = fill-careful stateSize lineWalkWords recordWords o x (linesOf crateRule s v (length x) (lineWalkIn o)) walk-length

@@ -5,14 +5,16 @@ ghost use lib.ListN.{length};
 ghost use mathlib.Core.List.{[], _∷_, _++_};
 ghost use Prim.Native.Nat.{_≤_};
 ghost use Rattle.answer_words.specs.Given.{Gives, given};
+ghost use Rattle.answer_words.specs.FillGiven.{askedSize};
 ghost use Rattle.export_lines.specs.Calls.{orderGiven, slotsLeft, lineGiven, symbolGiven, linesGiven, recordsLeft};
-ghost use Rattle.line_state_words.specs.LineWords.{lineWalkWords};
+ghost use Rattle.line_state_words.specs.LineWords.{stateSize, lineWalkWords};
 use answer_words::GIVEN;
-use answer_words::LEAST;
 use answer_words::NONE;
+use answer_words::REFUSAL_WORDS;
 use answer_words::TOO_SHORT;
 use answer_words::put;
 use answer_words::put_refusal;
+use line_state_words::STATE_WORDS;
 use line_state_words::line_walk_in;
 use line_state_words::put_line;
 use line_state_words::put_line_walk;
@@ -23,12 +25,15 @@ use many_lines::next_lines;
 use order::Ordered;
 use symbol_lines::SymbolLines;
 
+// The words of `out` that a call for many records asks for: a walk's state, and those of a refusal.
+const ASKED: usize = STATE_WORDS + REFUSAL_WORDS;
+
 // The order list of the line subsections, into lent slots. Word: how many slots it takes.
 pub fn order_list(area: &[u8], slots: &mut [u32], out: &mut [u64]) -> u32
     ensures { λ r. ⌜ Gives (now (out .entry)) (orderGiven (now (area .entry)) (length (now (slots .entry))) (now (out .entry))) r (now (out .exit)) ⌝ }
     ensures { λ _. ⌜ now (slots .exit) ≡ slotsLeft (now (area .entry)) (now (slots .entry)) (now (out .entry)) ⌝ }
 {
-    if out.len() < LEAST {
+    if out.len() < REFUSAL_WORDS {
         return TOO_SHORT;
     }
     match order::order_list(area, slots) {
@@ -44,7 +49,7 @@ pub fn next_line(area: &[u8], slots: &[u32], out: &mut [u64]) -> u32
     match line_walk::next_line(area, slots, line_walk_in(out)) {
         LineStep::Line(record, next) => put_line(out, record, next),
         LineStep::None => NONE,
-        LineStep::Refused(why) => put_refusal(out, 27, why),
+        LineStep::Refused(why) => put_refusal(out, STATE_WORDS, why),
     }
 }
 
@@ -64,19 +69,16 @@ pub fn lines_for_symbol(
     }
 }
 
-// The words of `out` that the call asks for: a walk's state, and those of a refusal.
-const ASKED: usize = 29;
-
 // The next state, and behind it how many records there are.
 fn put_lines(out: &mut [u64], count: usize, next: LineWalk) -> u32
-    requires { ⌜ 29 ≤ length (now out) ⌝ }
+    requires { ⌜ askedSize stateSize ≤ length (now out) ⌝ }
     ensures { λ r. ⌜ Gives (now (out .entry)) (given 1 0 (lineWalkWords next ++ (count ∷ []))) r (now (out .exit)) ⌝ }
 {
     put_line_walk(out, next);
-    put(out, 27, &[count as u64], GIVEN)
+    put(out, STATE_WORDS, &[count as u64], GIVEN)
 }
 
-// The records from the walk in `out` on, 12 words each, into `records`. Words: the next state, and how many records there are. Where there is none to
+// The records from the walk in `out` on, into `records`. Words: the next state, and how many records there are. Where there is none to
 // give the answer is that of `next_line`; without room for one it is number 10.
 pub fn lines(area: &[u8], slots: &[u32], records: &mut [u64], out: &mut [u64]) -> u32
     ensures { λ r. ⌜ Gives (now (out .entry)) (linesGiven (now (area .entry)) (now (slots .entry)) (length (now (records .entry))) (now (out .entry))) r (now (out .exit)) ⌝ }
@@ -88,6 +90,6 @@ pub fn lines(area: &[u8], slots: &[u32], records: &mut [u64], out: &mut [u64]) -
     match next_lines(area, slots, line_walk_in(out), records) {
         LinesStep::Lines { count, next } => put_lines(out, count, next),
         LinesStep::None => NONE,
-        LinesStep::Refused(why) => put_refusal(out, 27, why),
+        LinesStep::Refused(why) => put_refusal(out, STATE_WORDS, why),
     }
 }

@@ -9,10 +9,10 @@ use Rattle.area.specs.Subs.{stepAt}
 use Rattle.strings.specs.Strings.{namesOf, nameAt}
 use Rattle.modi.specs.Modi.{moduleSymbols, linesSpan, tablesSpan}
 use Rattle.answer_words.specs.Given.{Given, stepGiven, replyGiven}
-use Rattle.export_parts.specs.Words.{subWords, yes, spanWords, outcomeGiven}
+use Rattle.export_parts.specs.Words.{subStateSize, subWords, yes, spanWords, outcomeGiven}
 
 abbrev pub subGiven : List ℕ → List ℕ → Given
-subGiven s o = stepGiven 1 subWords (stepAt crateRule s (getD o 0 0))
+subGiven s o = stepGiven subStateSize subWords (stepAt crateRule s (getD o 0 0))
 
 abbrev pub namesGiven : List ℕ → Given
 namesGiven s = outcomeGiven (namesOf s)

@@ -7,6 +7,10 @@ use Rattle.strings.specs.Strings.{Outcome, part, refused}
 use Rattle.answer_words.specs.Given.{Given, given, refusalGiven}
 use Rattle.find.specs.Find.{Span}
 
+-- the state of a walk over subsections is a place
+abbrev pub subStateSize : ℕ
+subStateSize = 1
+
 -- the place behind a subsection; its kind, and where its body stands
 abbrev pub subWords : Sub → ℕ → List ℕ
 subWords b next = next ∷ b .kind ∷ b .start ∷ b .len ∷ []

@@ -16,6 +16,9 @@ use strings::NameAnswer;
 use strings::TableAnswer;
 use strings::name_at;
 
+// The words of a walk over subsections: its place.
+const SUB_STATE_WORDS: usize = 1;
+
 // The next subsection of an area. State: the place. Words: the place behind it, its kind, and where its body starts and how long it is.
 pub fn next_sub(area: &[u8], out: &mut [u64]) -> u32
     ensures { λ r. ⌜ Gives (now (out .entry)) (subGiven (now (area .entry)) (now (out .entry))) r (now (out .exit)) ⌝ }
@@ -33,7 +36,7 @@ pub fn next_sub(area: &[u8], out: &mut [u64]) -> u32
             GIVEN,
         ),
         SubStep::None => NONE,
-        SubStep::Refused(why) => put_refusal(out, 1, why),
+        SubStep::Refused(why) => put_refusal(out, SUB_STATE_WORDS, why),
     }
 }
 

@@ -8,6 +8,7 @@ ghost use Rattle.export_tables.specs.Words.{exportWords};
 ghost use Rattle.export_tables.specs.Calls.{wordGiven, inlineeGiven, moduleGiven, refGiven, exportGiven, countGiven, globalGiven};
 use answer_words::GIVEN;
 use answer_words::NONE;
+use answer_words::TABLE_STATE_WORDS;
 use answer_words::put;
 use answer_words::put_refusal;
 use answer_words::walk_in;
@@ -33,7 +34,7 @@ pub fn word(area: &[u8], words: usize, count: usize, i: usize, out: &mut [u64]) 
     }
 }
 
-// The next inlinee. State: four words. Words: the inlinee, its file and line, the place of its extra files, their number.
+// The next inlinee. State: of a walk over a table. Words: the inlinee, its file and line, the place of its extra files, their number.
 pub fn next_inlinee(area: &[u8], out: &mut [u64]) -> u32
     ensures { λ r. ⌜ Gives (now (out .entry)) (inlineeGiven (now (area .entry)) (now (out .entry))) r (now (out .exit)) ⌝ }
 {
@@ -65,11 +66,11 @@ pub fn next_inlinee(area: &[u8], out: &mut [u64]) -> u32
             )
         }
         InlineeStep::None => NONE,
-        InlineeStep::Refused(why) => put_refusal(out, 4, why),
+        InlineeStep::Refused(why) => put_refusal(out, TABLE_STATE_WORDS, why),
     }
 }
 
-// The next module of the imports. State: four words. Words: its name, the place of its words, their number.
+// The next module of the imports. State: of a walk over a table. Words: its name, the place of its words, their number.
 pub fn next_import(area: &[u8], out: &mut [u64]) -> u32
     ensures { λ r. ⌜ Gives (now (out .entry)) (moduleGiven (now (area .entry)) (now (out .entry))) r (now (out .exit)) ⌝ }
 {
@@ -89,7 +90,7 @@ pub fn next_import(area: &[u8], out: &mut [u64]) -> u32
             )
         }
         ImportStep::None => NONE,
-        ImportStep::Refused(why) => put_refusal(out, 4, why),
+        ImportStep::Refused(why) => put_refusal(out, TABLE_STATE_WORDS, why),
     }
 }
 
@@ -116,7 +117,7 @@ fn export_words(export: CrossModuleExport) -> Three
     }
 }
 
-// The next export. State: four words. Words: 0 for a type or 1 for an id, the local and the global index.
+// The next export. State: of a walk over a table. Words: 0 for a type or 1 for an id, the local and the global index.
 pub fn next_export(area: &[u8], out: &mut [u64]) -> u32
     ensures { λ r. ⌜ Gives (now (out .entry)) (exportGiven (now (area .entry)) (now (out .entry))) r (now (out .exit)) ⌝ }
 {
@@ -127,7 +128,7 @@ pub fn next_export(area: &[u8], out: &mut [u64]) -> u32
             put(out, 0, &[w.0, w.1, w.2, w.3, e.0, e.1, e.2], GIVEN)
         }
         ExportStep::None => NONE,
-        ExportStep::Refused(why) => put_refusal(out, 4, why),
+        ExportStep::Refused(why) => put_refusal(out, TABLE_STATE_WORDS, why),
     }
 }
 

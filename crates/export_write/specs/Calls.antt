@@ -1,5 +1,5 @@
 -- What each writer call gives, and the buffer bufferAfter it. The call is an item of the full reading, b the buffer, w the place behind what is written, and o
--- the lent words. A call changes the buffer only with two words to answer into.
+-- the lent words. A call changes the buffer only with room for a refusal in o.
 -- Source: docs/DECISIONS.md, 32.
 -- Definitions only; a reader must believe them.
 use Prim.Native.Nat.{ℕ}
@@ -8,14 +8,14 @@ use mathlib.Core.Option.{Option, none, some}
 use Rattle.reading.specs.Reading.{Item}
 use Rattle.plain.specs.Plain.{Last, plainOf}
 use Rattle.writer_decides.specs.Calls.{answered, bufferAfter}
-use Rattle.answer_words.specs.Given.{Given, given, noneGiven, one, replyGiven, ifRoom, shortGiven}
+use Rattle.answer_words.specs.Given.{Given, given, noneGiven, refusalSize, one, replyGiven, ifRoom, shortGiven}
 
 -- the place behind what is written then
 unfoldable pub wroteGiven : Item → List ℕ → ℕ → List ℕ → Given
-wroteGiven it b w o = ifRoom 2 o (replyGiven one (answered it b w)) shortGiven
+wroteGiven it b w o = ifRoom refusalSize o (replyGiven one (answered it b w)) shortGiven
 
 unfoldable pub bufferLeft : Item → List ℕ → ℕ → List ℕ → List ℕ
-bufferLeft it b w o = ifRoom 2 o (bufferAfter it b w) b
+bufferLeft it b w o = ifRoom refusalSize o (bufferAfter it b w) b
 
 -- what is last in a plain area: its header's place, its kind and its mark, all 0 where there is none; an area that is not plain has no words
 abbrev pub lastGiven : Option Last → Given

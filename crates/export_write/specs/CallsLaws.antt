@@ -7,19 +7,19 @@ use Rattle.walk.specs.Listing.{Reply}
 use Rattle.refusal.specs.Told.{Told}
 use Rattle.reading.specs.Reading.{Item}
 use Rattle.writer_decides.specs.Calls.{Act, goes, stops, act, patch, wrote, kept, answered, bufferAfter}
-use Rattle.answer_words.specs.Given.{Gives, one, replyGiven}
+use Rattle.answer_words.specs.Given.{Gives, refusalSize, one, replyGiven}
 use Rattle.answer_words.specs.GivenLaws.{gives-as, room-changes, room-keeps, Still, room-careful}
 use Rattle.export_write.specs.Calls.{wroteGiven, bufferLeft}
 
 module _ (it : Item) (b : List ℕ) (w : ℕ) (o : List ℕ) where
-  pub writer-keeps : length o < 2 → Gives o (wroteGiven it b w o) 3 o × (b ≡ bufferLeft it b w o)
+  pub writer-keeps : length o < refusalSize → Gives o (wroteGiven it b w o) 3 o × (b ≡ bufferLeft it b w o)
   unfolding wroteGiven bufferLeft
-  writer-keeps h = room-keeps 2 o (replyGiven one (answered it b w)) b (bufferAfter it b w) h
+  writer-keeps h = room-keeps refusalSize o (replyGiven one (answered it b w)) b (bufferAfter it b w) h
 
-  pub writer-goes : {x : Reply ℕ Told} {y left : List ℕ} {r : ℕ} → 2 ≤ length o → (x ≡ answered it b w) × (y ≡ bufferAfter it b w) → Gives o (replyGiven one x) r left
+  pub writer-goes : {x : Reply ℕ Told} {y left : List ℕ} {r : ℕ} → refusalSize ≤ length o → (x ≡ answered it b w) × (y ≡ bufferAfter it b w) → Gives o (replyGiven one x) r left
       → Gives o (wroteGiven it b w o) r left × (y ≡ bufferLeft it b w o)
   unfolding wroteGiven bufferLeft
-  writer-goes h e g = room-changes 2 o (replyGiven one (answered it b w)) b (bufferAfter it b w) h (gives-as (replyGiven one) (e .0) g) (e .1)
+  writer-goes h e g = room-changes refusalSize o (replyGiven one (answered it b w)) b (bufferAfter it b w) h (gives-as (replyGiven one) (e .0) g) (e .1)
 
   -- THE LAW: with any status but 1 the buffer is as it was
   pub writer-careful : {r : ℕ} {left : List ℕ} → Gives o (wroteGiven it b w o) r left → (r ≡ 1 → ⊥) → bufferLeft it b w o ≡ b

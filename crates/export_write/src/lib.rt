@@ -1,5 +1,5 @@
 // The writer calls, for programs in other languages, and the test whether an area is plain. Each writer call takes the buffer and the place behind what is
-// written; its word is the place behind what is written then. It asks for two words to answer into before it does anything. The crate `c13` gives each
+// written; its word is the place behind what is written then. It asks for room for a refusal before it does anything. The crate `c13` gives each
 // its C name.
 ghost use mathlib.Core.Path.{_≡_};
 ghost use Rattle.reading.specs.Reading.{openChecksums, openInlinees, openImports, openExports, opaque};
@@ -8,8 +8,8 @@ ghost use Rattle.writer.specs.Told.{toldWrote};
 ghost use Rattle.answer_words.specs.Given.{Gives, one, replyGiven};
 ghost use Rattle.export_write.specs.Calls.{wroteGiven, bufferLeft, plainGiven};
 use answer_words::GIVEN;
-use answer_words::LEAST;
 use answer_words::NONE;
+use answer_words::REFUSAL_WORDS;
 use answer_words::TOO_SHORT;
 use answer_words::put;
 use answer_words::put_refusal;
@@ -50,7 +50,7 @@ pub fn open_lines(
     ensures { λ r. ⌜ Gives (now (out .entry)) (wroteGiven (callLines offset section flags code) (now (buf .entry)) place (now (out .entry))) r (now (out .exit)) ⌝ }
     ensures { λ _. ⌜ now (buf .exit) ≡ bufferLeft (callLines offset section flags code) (now (buf .entry)) place (now (out .entry)) ⌝ }
 {
-    if out.len() < LEAST {
+    if out.len() < REFUSAL_WORDS {
         return TOO_SHORT;
     }
     put_wrote(
@@ -70,7 +70,7 @@ pub fn add_block(
     ensures { λ r. ⌜ Gives (now (out .entry)) (wroteGiven (callBlock file (now (lines .entry)) (now (columns .entry))) (now (buf .entry)) place (now (out .entry))) r (now (out .exit)) ⌝ }
     ensures { λ _. ⌜ now (buf .exit) ≡ bufferLeft (callBlock file (now (lines .entry)) (now (columns .entry))) (now (buf .entry)) place (now (out .entry)) ⌝ }
 {
-    if out.len() < LEAST {
+    if out.len() < REFUSAL_WORDS {
         return TOO_SHORT;
     }
     put_wrote(out, writer::add_block(buf, place, file, lines, columns))
@@ -80,7 +80,7 @@ pub fn open_checksums(buf: &mut [u8], place: usize, out: &mut [u64]) -> u32
     ensures { λ r. ⌜ Gives (now (out .entry)) (wroteGiven openChecksums (now (buf .entry)) place (now (out .entry))) r (now (out .exit)) ⌝ }
     ensures { λ _. ⌜ now (buf .exit) ≡ bufferLeft openChecksums (now (buf .entry)) place (now (out .entry)) ⌝ }
 {
-    if out.len() < LEAST {
+    if out.len() < REFUSAL_WORDS {
         return TOO_SHORT;
     }
     put_wrote(out, writer::open_checksums(buf, place))
@@ -97,7 +97,7 @@ pub fn add_entry(
     ensures { λ r. ⌜ Gives (now (out .entry)) (wroteGiven (callChecksum name kind (now (bytes .entry))) (now (buf .entry)) place (now (out .entry))) r (now (out .exit)) ⌝ }
     ensures { λ _. ⌜ now (buf .exit) ≡ bufferLeft (callChecksum name kind (now (bytes .entry))) (now (buf .entry)) place (now (out .entry)) ⌝ }
 {
-    if out.len() < LEAST {
+    if out.len() < REFUSAL_WORDS {
         return TOO_SHORT;
     }
     put_wrote(out, writer::add_checksum(buf, place, name, kind, bytes))
@@ -107,7 +107,7 @@ pub fn open_inlinees(buf: &mut [u8], place: usize, signature: u32, out: &mut [u6
     ensures { λ r. ⌜ Gives (now (out .entry)) (wroteGiven (openInlinees signature) (now (buf .entry)) place (now (out .entry))) r (now (out .exit)) ⌝ }
     ensures { λ _. ⌜ now (buf .exit) ≡ bufferLeft (openInlinees signature) (now (buf .entry)) place (now (out .entry)) ⌝ }
 {
-    if out.len() < LEAST {
+    if out.len() < REFUSAL_WORDS {
         return TOO_SHORT;
     }
     put_wrote(out, writer::open_inlinees(buf, place, signature))
@@ -125,7 +125,7 @@ pub fn add_inlinee(
     ensures { λ r. ⌜ Gives (now (out .entry)) (wroteGiven (callInlinee inlinee file line (now (extra .entry))) (now (buf .entry)) place (now (out .entry))) r (now (out .exit)) ⌝ }
     ensures { λ _. ⌜ now (buf .exit) ≡ bufferLeft (callInlinee inlinee file line (now (extra .entry))) (now (buf .entry)) place (now (out .entry)) ⌝ }
 {
-    if out.len() < LEAST {
+    if out.len() < REFUSAL_WORDS {
         return TOO_SHORT;
     }
     put_wrote(
@@ -138,7 +138,7 @@ pub fn open_imports(buf: &mut [u8], place: usize, out: &mut [u64]) -> u32
     ensures { λ r. ⌜ Gives (now (out .entry)) (wroteGiven openImports (now (buf .entry)) place (now (out .entry))) r (now (out .exit)) ⌝ }
     ensures { λ _. ⌜ now (buf .exit) ≡ bufferLeft openImports (now (buf .entry)) place (now (out .entry)) ⌝ }
 {
-    if out.len() < LEAST {
+    if out.len() < REFUSAL_WORDS {
         return TOO_SHORT;
     }
     put_wrote(out, writer::open_imports(buf, place))
@@ -148,7 +148,7 @@ pub fn add_module(buf: &mut [u8], place: usize, name: u32, words: &[u32], out: &
     ensures { λ r. ⌜ Gives (now (out .entry)) (wroteGiven (callModule name (now (words .entry))) (now (buf .entry)) place (now (out .entry))) r (now (out .exit)) ⌝ }
     ensures { λ _. ⌜ now (buf .exit) ≡ bufferLeft (callModule name (now (words .entry))) (now (buf .entry)) place (now (out .entry)) ⌝ }
 {
-    if out.len() < LEAST {
+    if out.len() < REFUSAL_WORDS {
         return TOO_SHORT;
     }
     put_wrote(out, writer::add_module(buf, place, name, words))
@@ -158,7 +158,7 @@ pub fn open_exports(buf: &mut [u8], place: usize, out: &mut [u64]) -> u32
     ensures { λ r. ⌜ Gives (now (out .entry)) (wroteGiven openExports (now (buf .entry)) place (now (out .entry))) r (now (out .exit)) ⌝ }
     ensures { λ _. ⌜ now (buf .exit) ≡ bufferLeft openExports (now (buf .entry)) place (now (out .entry)) ⌝ }
 {
-    if out.len() < LEAST {
+    if out.len() < REFUSAL_WORDS {
         return TOO_SHORT;
     }
     put_wrote(out, writer::open_exports(buf, place))
@@ -168,7 +168,7 @@ pub fn add_pair(buf: &mut [u8], place: usize, local: u32, global: u32, out: &mut
     ensures { λ r. ⌜ Gives (now (out .entry)) (wroteGiven (callPair local global) (now (buf .entry)) place (now (out .entry))) r (now (out .exit)) ⌝ }
     ensures { λ _. ⌜ now (buf .exit) ≡ bufferLeft (callPair local global) (now (buf .entry)) place (now (out .entry)) ⌝ }
 {
-    if out.len() < LEAST {
+    if out.len() < REFUSAL_WORDS {
         return TOO_SHORT;
     }
     put_wrote(out, writer::add_pair(buf, place, local, global))
@@ -178,7 +178,7 @@ pub fn add_opaque(buf: &mut [u8], place: usize, kind: u32, body: &[u8], out: &mu
     ensures { λ r. ⌜ Gives (now (out .entry)) (wroteGiven (opaque kind (now (body .entry))) (now (buf .entry)) place (now (out .entry))) r (now (out .exit)) ⌝ }
     ensures { λ _. ⌜ now (buf .exit) ≡ bufferLeft (opaque kind (now (body .entry))) (now (buf .entry)) place (now (out .entry)) ⌝ }
 {
-    if out.len() < LEAST {
+    if out.len() < REFUSAL_WORDS {
         return TOO_SHORT;
     }
     put_wrote(out, writer::add_opaque(buf, place, kind, body))

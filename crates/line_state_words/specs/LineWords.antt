@@ -161,7 +161,7 @@ abbrev pub noPlace : List ℕ
 noPlace = replicate placeSize 0
 
 abbrev pub lineWalkWords : LineWalk → List ℕ
-lineWalkWords walk.New = 0 ∷ 0 ∷ 0 ∷ 0 ∷ 0 ∷ (noRecord ++ noPlace)
+lineWalkWords walk.New = replicate stateSize 0
 lineWalkWords (walk.Between t) = 1 ∷ (restWords t ++ noPlace)
 lineWalkWords (walk.Inside p t) = 2 ∷ (restWords t ++ placeWords p)
 

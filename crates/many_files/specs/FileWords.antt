@@ -1,8 +1,14 @@
 -- A file in words. Source: docs/DECISIONS.md, 32.
 -- Definitions only; a reader must believe them.
-use Prim.Native.Nat.{ℕ}
+use Prim.Native.Nat.{ℕ, _+_}
 use mathlib.Core.List.{List, [], _∷_}
 use Rattle.files.specs.Files.{Info, File}
+
+abbrev pub infoSize : ℕ
+infoSize = 4
+
+abbrev pub fileSize : ℕ
+fileSize = 1 + infoSize
 
 -- what is known of it: its name, its checksum's kind, and the place and the length of the bytes; in front of these its index
 abbrev pub infoWords : Info → List ℕ

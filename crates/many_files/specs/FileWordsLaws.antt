@@ -4,9 +4,9 @@ use mathlib.Core.Path.{_≡_, refl, sym, ap}
 use mathlib.Core.List.{List, [], _∷_}
 use lib.ListN.{length}
 use Rattle.files.specs.Files.{File}
-use Rattle.many_files.specs.FileWords.{infoWords, fileWords}
+use Rattle.many_files.specs.FileWords.{fileSize, infoWords, fileWords}
 
-pub file-length : (f : File) → length (fileWords f) ≡ 5
+pub file-length : (f : File) → length (fileWords f) ≡ fileSize
 file-length f = refl
 
 -- j is the number of the checksum's kind k

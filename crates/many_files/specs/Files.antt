@@ -1,4 +1,4 @@
--- Many files of an area at once, in words: as many as the lent words have room for, 5 words each, at their start. Where the first step gives no file
+-- Many files of an area at once, in words: as many as the lent words have room for, at their start. Where the first step gives no file
 -- the answer is that step's, and nothing is put. Where there is a file and no room for one it is refused with 10. Source: docs/DECISIONS.md, 36.
 -- Definitions only; a reader must believe them.
 use Prim.Native.Nat.{ℕ}
@@ -9,7 +9,8 @@ use Rattle.area.specs.Kind.{Sort}
 use Rattle.table.specs.declared.TableWalk.{TableWalk}
 use Rattle.files.specs.Files.{File, fileStep}
 use Rattle.answer_words.specs.Fill.{fillOf}
+use Rattle.many_files.specs.FileWords.{fileSize}
 
 -- with n words lent
 abbrev pub filesOf : (ℕ → Sort) → List ℕ → ℕ → TableWalk → Answer TableWalk (List File) Told
-filesOf rule s n w = fillOf 5 (fileStep rule s) n w
+filesOf rule s n w = fillOf fileSize (fileStep rule s) n w

@@ -17,20 +17,23 @@ use Rattle.files.specs.FilesLaws.{files-walk}
 use Rattle.answer_words.specs.Given.{given, Gives}
 use Rattle.answer_words.specs.FillLaws.{Filling, fill-stored}
 use Rattle.answer_words.specs.PiecesLaws.{put-part}
-use Rattle.many_files.specs.FileWords.{fileWords}
+use Rattle.many_files.specs.FileWords.{fileSize, fileWords}
 use Rattle.many_files.specs.FileWordsLaws.{file-length}
 
 module _ (rule : ℕ → Sort) (s : List ℕ) (w₀ : TableWalk) (o₀ : List ℕ) where
   -- n files are put into o, and the walk behind them is w
   abbrev pub Put : ℕ → TableWalk → List ℕ → Type 0
-  Put n w o = Filling 5 fileWords file-length (fileStep rule s) w₀ o₀ n w w o
+  Put n w o = Filling fileSize fileWords file-length (fileStep rule s) w₀ o₀ n w w o
 
   -- a turn: its words are put as a part of their own, whose length is known
   pub put-file : {n : ℕ} {w : TableWalk} {o : List ℕ} → Put n w o → (f : File) (t : TableWalk) {y ws : List ℕ} {status r : ℕ} → gives f t ≡ fileStep rule s w
-      → n < length o₀ / 5 → fileWords f ≡ ws → Gives (take (5 * n + 5 - 5 * n) (drop (5 * n) o)) (given status 0 ws) r y → Put (n + 1) t (putMid (5 * n) (5 * n + 5 - 5 * n) o y)
+      → n < length o₀ / fileSize → fileWords f ≡ ws
+      → Gives (take (fileSize * n + fileSize - fileSize * n) (drop (fileSize * n) o)) (given status 0 ws) r y
+      → Put (n + 1) t (putMid (fileSize * n) (fileSize * n + fileSize - fileSize * n) o y)
   put-file {n} {w} {o} h f t {y} {ws} e l q g =
-      fill-stored 5 fileWords file-length (fileStep rule s) w₀ o₀ h f t (putMid (5 * n) (5 * n + 5 - 5 * n) o y) e l
-      (put-part o y ws (5 * n) 5 (ap length (sym q) ∙ file-length f) (omega (arith, h .size)) (g .words) ∙ ap (store o (5 * n)) (sym q))
+      let at = fileSize * n in
+      fill-stored fileSize fileWords file-length (fileStep rule s) w₀ o₀ h f t (putMid at (at + fileSize - at) o y) e l
+      (put-part o y ws at fileSize (ap length (sym q) ∙ file-length f) (omega (arith, h .size)) (g .words) ∙ ap (store o at) (sym q))
 
 -- THE LAW: k files at once, and j steps behind them, answer what the files of the area ask
 pub many-files : (rule : ℕ → Sort) (s : List ℕ) (k j : ℕ)

@@ -8,7 +8,7 @@ ghost use lib.ListN.{length};
 ghost use Rattle.area.specs.Kind.{crateRule};
 ghost use Rattle.files.specs.Told.{toldFile};
 ghost use Rattle.answer_words.specs.Fill.{noRoom, counted, filled};
-ghost use Rattle.many_files.specs.FileWords.{fileWords};
+ghost use Rattle.many_files.specs.FileWords.{fileSize, fileWords};
 ghost use Rattle.many_files.specs.Files.{filesOf};
 ghost use Rattle.many_files.specs.Told.{toldFiles};
 use answer_words::GIVEN;
@@ -20,7 +20,7 @@ use refusal::Refusal;
 use table::TableWalk;
 
 // The words of a file.
-pub const FILE: usize = 5;
+pub const FILE_WORDS: usize = 5;
 
 pub enum FilesStep {
     Files { count: usize, next: TableWalk },
@@ -48,11 +48,11 @@ fn no_room(step: FileStep) -> FilesStep
 
 // Step after step; `w` is the walk behind the last file.
 fn fill(area: &[u8], walk: TableWalk, out: &mut [u64]) -> FilesStep
-    requires { ⌜ 5 ≤ length (now out) ⌝ }
+    requires { ⌜ fileSize ≤ length (now out) ⌝ }
     ensures { λ r. ⌜ toldFiles r ≡ counted (filesOf crateRule (now (area .entry)) (length (now (out .entry))) walk) ⌝ }
     ensures { λ _. ⌜ now (out .exit) ≡ filled fileWords (now (out .entry)) (filesOf crateRule (now (area .entry)) (length (now (out .entry))) walk) ⌝ }
 {
-    let room = out.len() / FILE;
+    let room = out.len() / FILE_WORDS;
     let mut n: usize = 0;
     let mut w = walk;
     while n < room {
@@ -66,9 +66,9 @@ fn fill(area: &[u8], walk: TableWalk, out: &mut [u64]) -> FilesStep
                 next,
             } => {
                 let k = number(kind) as u64;
-                let at = FILE * n;
+                let at = FILE_WORDS * n;
                 put(
-                    &mut out[at..at + FILE],
+                    &mut out[at..at + FILE_WORDS],
                     0,
                     &[index as u64, name as u64, k, start as u64, len as u64],
                     GIVEN,
@@ -93,12 +93,12 @@ fn fill(area: &[u8], walk: TableWalk, out: &mut [u64]) -> FilesStep
     FilesStep::Files { count: n, next: w }
 }
 
-// The files from a walk on, as many as `out` has room for, 5 words each.
+// The files from a walk on, as many as `out` has room for.
 pub fn next_files(area: &[u8], walk: TableWalk, out: &mut [u64]) -> FilesStep
     ensures { λ r. ⌜ toldFiles r ≡ counted (filesOf crateRule (now (area .entry)) (length (now (out .entry))) walk) ⌝ }
     ensures { λ _. ⌜ now (out .exit) ≡ filled fileWords (now (out .entry)) (filesOf crateRule (now (area .entry)) (length (now (out .entry))) walk) ⌝ }
 {
-    if out.len() < FILE {
+    if out.len() < FILE_WORDS {
         return no_room(next_file(area, walk));
     }
     fill(area, walk, out)

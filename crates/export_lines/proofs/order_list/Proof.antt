@@ -5,25 +5,25 @@ use borrow.Author.Needs.{needs}
 use mathlib.Core.Path.{sym, ap, _∙_}
 use native.Mathlib.Omega.{arith}
 use Rattle.order.specs.Told.{toldOrdered}
-use Rattle.answer_words.specs.Given.{one, replyGiven}
+use Rattle.answer_words.specs.Given.{refusalSize, one, replyGiven}
 use Rattle.answer_words.specs.GivenLaws.{gives-as, room-changes, room-keeps}
 use Rattle.export_lines.proofs.order_list.Statement.{statement}
 use Rattle.export_lines.proofs.order_list.Tie as tie
 
 returns : tie.Need-returns
-returns c = room-keeps 2 _ _ _ _ (omega arith)
+returns c = room-keeps refusalSize _ _ _ _ (omega arith)
 
 returns-2 : tie.Need-returns-2
 returns-2 c =
     let h = c .before .before .before .before .before .before in
     let l = h .before .before .before .before .order-list .ensures in
-    room-changes 2 _ _ _ _ (omega arith) (gives-as (replyGiven one) (ap toldOrdered (sym (h .n .given .1)) ∙ l .0) (c .before .before .put .ensures)) (l .1)
+    room-changes refusalSize _ _ _ _ (omega arith) (gives-as (replyGiven one) (ap toldOrdered (sym (h .n .given .1)) ∙ l .0) (c .before .before .put .ensures)) (l .1)
 
 returns-3 : tie.Need-returns-3
 returns-3 c =
     let h = c .before .before .before .before .before in
     let l = h .before .before .before .before .order-list .ensures in
-    room-changes 2 _ _ _ _ (omega arith) (gives-as (replyGiven one) (ap toldOrdered (sym (h .why .given .1)) ∙ l .0) (c .before .before .put-refusal .ensures)) (l .1)
+    room-changes refusalSize _ _ _ _ (omega arith) (gives-as (replyGiven one) (ap toldOrdered (sym (h .why .given .1)) ∙ l .0) (c .before .before .put-refusal .ensures)) (l .1)
 
 pub order-list-spec : {M : Type 1} → statement M
 order-list-spec =

@@ -10,20 +10,20 @@ use Rattle.walk.specs.Listing.{none, refuses}
 use Rattle.files.specs.Files.{fileStep}
 use Rattle.files.specs.Told.{toldFile}
 use Rattle.answer_words.specs.FillLaws.{fill-start, fill-full, fill-stop, fill-none}
-use Rattle.many_files.specs.FileWords.{fileWords}
+use Rattle.many_files.specs.FileWords.{fileSize, fileWords}
 use Rattle.many_files.specs.FileWordsLaws.{file-length, file-words}
 use Rattle.many_files.specs.FilesLaws.{Put, put-file}
 use Rattle.many_files.proofs.fill.Statement.{statement}
 use Rattle.many_files.proofs.fill.Tie as tie
 
 abbrev Inv-loop : tie.InvT-loop
-Inv-loop area out₀ room n₀ w₀ out n w = Put crateRule area w₀ out₀ n w out × (room ≡ length out₀ / 5)
+Inv-loop area out₀ room n₀ w₀ out n w = Put crateRule area w₀ out₀ n w out × (room ≡ length out₀ / fileSize)
 
 abbrev μ-loop : tie.MeasureT-loop
 μ-loop area out₀ room n₀ w₀ out n w = room - n
 
 loop-holds : tie.Need-loop-holds Inv-loop μ-loop
-loop-holds c = (fill-start 5 fileWords file-length (fileStep crateRule _) _ _, refl)
+loop-holds c = (fill-start fileSize fileWords file-length (fileStep crateRule _) _ _, refl)
 
 add-put : tie.Need-add-put Inv-loop μ-loop
 add-put c = let l = c .before .before .before .before .before .before .loop in omega (arith, l .inv .0 .size, l .inv .1)
@@ -50,28 +50,28 @@ returns : tie.Need-returns Inv-loop μ-loop
 returns c =
     let h = c .before .before .before in
     let e = ap toldFile (sym (c .before .enum-told .given .1)) ∙ h .next-file .ensures in
-    fill-none 5 fileWords file-length (fileStep crateRule _) _ _ (h .before .before .loop .inv .0) (omega arith) none e tt (c .if1 .taken)
+    fill-none fileSize fileWords file-length (fileStep crateRule _) _ _ (h .before .before .loop .inv .0) (omega arith) none e tt (c .if1 .taken)
 
 returns-2 : tie.Need-returns-2 Inv-loop μ-loop
 returns-2 c =
     let h = c .before .before .before in
     let e = ap toldFile (sym (c .before .enum-told .given .1)) ∙ h .next-file .ensures in
-    fill-stop 5 fileWords file-length (fileStep crateRule _) _ _ (h .before .before .loop .inv .0) (omega arith) none e tt (c .if1 .left)
+    fill-stop fileSize fileWords file-length (fileStep crateRule _) _ _ (h .before .before .loop .inv .0) (omega arith) none e tt (c .if1 .left)
 
 returns-3 : tie.Need-returns-3 Inv-loop μ-loop
 returns-3 c =
     let h = c .before .before .before .before in
     let e = ap toldFile (sym (c .before .before .why .given .1)) ∙ h .next-file .ensures in
-    fill-none 5 fileWords file-length (fileStep crateRule _) _ _ (h .before .before .loop .inv .0) (omega arith) (refuses _) e tt (c .if2 .taken)
+    fill-none fileSize fileWords file-length (fileStep crateRule _) _ _ (h .before .before .loop .inv .0) (omega arith) (refuses _) e tt (c .if2 .taken)
 
 returns-4 : tie.Need-returns-4 Inv-loop μ-loop
 returns-4 c =
     let h = c .before .before .before .before in
     let e = ap toldFile (sym (c .before .before .why .given .1)) ∙ h .next-file .ensures in
-    fill-stop 5 fileWords file-length (fileStep crateRule _) _ _ (h .before .before .loop .inv .0) (omega arith) (refuses _) e tt (c .if2 .left)
+    fill-stop fileSize fileWords file-length (fileStep crateRule _) _ _ (h .before .before .loop .inv .0) (omega arith) (refuses _) e tt (c .if2 .left)
 
 returns-5 : tie.Need-returns-5 Inv-loop μ-loop
-returns-5 c = fill-full 5 fileWords file-length (fileStep crateRule _) _ _ (c .before .loop .inv .0) (omega arith) (omega arith) (omega arith)
+returns-5 c = fill-full fileSize fileWords file-length (fileStep crateRule _) _ _ (c .before .loop .inv .0) (omega arith) (omega arith) (omega arith)
 
 pub fill-spec : {M : Type 1} → statement M
 fill-spec =

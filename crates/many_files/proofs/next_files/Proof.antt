@@ -6,7 +6,7 @@ use mathlib.Core.Path.{_∙_}
 use Rattle.area.specs.Kind.{crateRule}
 use Rattle.files.specs.Files.{fileStep}
 use Rattle.answer_words.specs.FillLaws.{fill-no-room}
-use Rattle.many_files.specs.FileWords.{fileWords}
+use Rattle.many_files.specs.FileWords.{fileSize, fileWords}
 use Rattle.many_files.specs.FileWordsLaws.{file-length}
 use Rattle.many_files.proofs.next_files.Statement.{statement}
 use Rattle.many_files.proofs.next_files.Tie as tie
@@ -14,7 +14,7 @@ use Rattle.many_files.proofs.next_files.Tie as tie
 returns : tie.Need-returns
 returns c =
     let a = c .before .before .before .before .before .args in
-    let q = fill-no-room 5 fileWords file-length (fileStep crateRule _) _ (a .out .now) (omega arith) _ (c .before .next-file .ensures) in
+    let q = fill-no-room fileSize fileWords file-length (fileStep crateRule _) _ (a .out .now) (omega arith) _ (c .before .next-file .ensures) in
     (c .no-room .ensures ∙ q .0, q .1)
 
 pub next-files-spec : {M : Type 1} → statement M
