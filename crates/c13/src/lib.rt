@@ -3,12 +3,13 @@
 //
 // A call answers a status and puts its words into `out`, its last slice. 0: none. 1: an answer. 2: a refusal; its words are the number of document 01 and
 // what is carried, or 0. 3: the words do not fit, and nothing is changed. A walk's state is the first words of `out`, all 0 for a new walk, and a refusal
-// is put behind it. A call that changes other lent memory than `out` asks for two words there, behind the state if it steps a walk, before it does
-// anything. A slice is two C parameters: its pointer and its length.
+// is put behind it. A call that changes other lent memory than `out` asks there for room for a refusal, behind the state if it steps a walk, before it
+// does anything. A slice is two C parameters: its pointer and its length.
 ghost use mathlib.Core.Path.{_≡_};
 ghost use lib.ListN.{length};
 ghost use Rattle.reading.specs.Reading.{openChecksums, openInlinees, openImports, openExports, opaque};
 ghost use Rattle.writer_decides.specs.Calls.{callLines, callBlock, callChecksum, callInlinee, callModule, callPair};
+ghost use Rattle.area.specs.Kind.{crateRule};
 ghost use Rattle.answer_words.specs.Given.{Gives};
 ghost use Rattle.export_parts.specs.Calls.{subGiven, namesGiven, nameGiven, symbolsGiven, linesPartGiven, tablesPartGiven};
 ghost use Rattle.export_files.specs.Calls.{fileGiven, filesGiven, filesLeft, infoGiven};
@@ -19,29 +20,31 @@ ghost use Rattle.export_write.specs.Calls.{wroteGiven, bufferLeft, plainGiven};
 
 #[no_mangle]
 pub extern "C" fn c13_next_sub(area: &[u8], out: &mut [u64]) -> u32
-    ensures { λ r. ⌜ Gives (now (out .entry)) (subGiven (now (area .entry)) (now (out .entry))) r (now (out .exit)) ⌝ }
+    ensures { λ r. ⌜ Gives (now (out .entry)) (subGiven crateRule (now (area .entry)) (now (out .entry))) r (now (out .exit)) ⌝ }
 {
     export_parts::next_sub(area, out)
 }
 
 #[no_mangle]
 pub extern "C" fn c13_next_file(area: &[u8], out: &mut [u64]) -> u32
-    ensures { λ r. ⌜ Gives (now (out .entry)) (fileGiven (now (area .entry)) (now (out .entry))) r (now (out .exit)) ⌝ }
+    ensures { λ r. ⌜ Gives (now (out .entry)) (fileGiven crateRule (now (area .entry)) (now (out .entry))) r (now (out .exit)) ⌝ }
 {
     export_files::next_file(area, out)
 }
 
 #[no_mangle]
 pub extern "C" fn c13_files(area: &[u8], records: &mut [u64], out: &mut [u64]) -> u32
-    ensures { λ r. ⌜ Gives (now (out .entry)) (filesGiven (now (area .entry)) (length (now (records .entry))) (now (out .entry))) r (now (out .exit)) ⌝ }
-    ensures { λ _. ⌜ now (records .exit) ≡ filesLeft (now (area .entry)) (now (records .entry)) (now (out .entry)) ⌝ }
+    ensures { λ r. ⌜ Gives (now (out .entry))
+        (filesGiven crateRule (now (area .entry)) (length (now (records .entry))) (now (out .entry)))
+        r (now (out .exit)) ⌝ }
+    ensures { λ _. ⌜ now (records .exit) ≡ filesLeft crateRule (now (area .entry)) (now (records .entry)) (now (out .entry)) ⌝ }
 {
     export_files::files(area, records, out)
 }
 
 #[no_mangle]
 pub extern "C" fn c13_file_at(area: &[u8], index: u32, out: &mut [u64]) -> u32
-    ensures { λ r. ⌜ Gives (now (out .entry)) (infoGiven (now (area .entry)) index) r (now (out .exit)) ⌝ }
+    ensures { λ r. ⌜ Gives (now (out .entry)) (infoGiven crateRule (now (area .entry)) index) r (now (out .exit)) ⌝ }
 {
     export_files::file_at(area, index, out)
 }
@@ -61,42 +64,42 @@ pub extern "C" fn c13_word(
 
 #[no_mangle]
 pub extern "C" fn c13_next_inlinee(area: &[u8], out: &mut [u64]) -> u32
-    ensures { λ r. ⌜ Gives (now (out .entry)) (inlineeGiven (now (area .entry)) (now (out .entry))) r (now (out .exit)) ⌝ }
+    ensures { λ r. ⌜ Gives (now (out .entry)) (inlineeGiven crateRule (now (area .entry)) (now (out .entry))) r (now (out .exit)) ⌝ }
 {
     export_tables::next_inlinee(area, out)
 }
 
 #[no_mangle]
 pub extern "C" fn c13_next_import(area: &[u8], out: &mut [u64]) -> u32
-    ensures { λ r. ⌜ Gives (now (out .entry)) (moduleGiven (now (area .entry)) (now (out .entry))) r (now (out .exit)) ⌝ }
+    ensures { λ r. ⌜ Gives (now (out .entry)) (moduleGiven crateRule (now (area .entry)) (now (out .entry))) r (now (out .exit)) ⌝ }
 {
     export_tables::next_import(area, out)
 }
 
 #[no_mangle]
 pub extern "C" fn c13_resolve_import(area: &[u8], index: u32, out: &mut [u64]) -> u32
-    ensures { λ r. ⌜ Gives (now (out .entry)) (refGiven (now (area .entry)) index) r (now (out .exit)) ⌝ }
+    ensures { λ r. ⌜ Gives (now (out .entry)) (refGiven crateRule (now (area .entry)) index) r (now (out .exit)) ⌝ }
 {
     export_tables::resolve_import(area, index, out)
 }
 
 #[no_mangle]
 pub extern "C" fn c13_next_export(area: &[u8], out: &mut [u64]) -> u32
-    ensures { λ r. ⌜ Gives (now (out .entry)) (exportGiven (now (area .entry)) (now (out .entry))) r (now (out .exit)) ⌝ }
+    ensures { λ r. ⌜ Gives (now (out .entry)) (exportGiven crateRule (now (area .entry)) (now (out .entry))) r (now (out .exit)) ⌝ }
 {
     export_tables::next_export(area, out)
 }
 
 #[no_mangle]
 pub extern "C" fn c13_export_count(area: &[u8], out: &mut [u64]) -> u32
-    ensures { λ r. ⌜ Gives (now (out .entry)) (countGiven (now (area .entry))) r (now (out .exit)) ⌝ }
+    ensures { λ r. ⌜ Gives (now (out .entry)) (countGiven crateRule (now (area .entry))) r (now (out .exit)) ⌝ }
 {
     export_tables::export_count(area, out)
 }
 
 #[no_mangle]
 pub extern "C" fn c13_resolve_export(area: &[u8], local: u32, out: &mut [u64]) -> u32
-    ensures { λ r. ⌜ Gives (now (out .entry)) (globalGiven (now (area .entry)) local) r (now (out .exit)) ⌝ }
+    ensures { λ r. ⌜ Gives (now (out .entry)) (globalGiven crateRule (now (area .entry)) local) r (now (out .exit)) ⌝ }
 {
     export_tables::resolve_export(area, local, out)
 }
@@ -156,23 +159,27 @@ pub extern "C" fn c13_tables_part(
 
 #[no_mangle]
 pub extern "C" fn c13_order_list(area: &[u8], slots: &mut [u32], out: &mut [u64]) -> u32
-    ensures { λ r. ⌜ Gives (now (out .entry)) (orderGiven (now (area .entry)) (length (now (slots .entry))) (now (out .entry))) r (now (out .exit)) ⌝ }
-    ensures { λ _. ⌜ now (slots .exit) ≡ slotsLeft (now (area .entry)) (now (slots .entry)) (now (out .entry)) ⌝ }
+    ensures { λ r. ⌜ Gives (now (out .entry))
+        (orderGiven crateRule (now (area .entry)) (length (now (slots .entry))) (now (out .entry)))
+        r (now (out .exit)) ⌝ }
+    ensures { λ _. ⌜ now (slots .exit) ≡ slotsLeft crateRule (now (area .entry)) (now (slots .entry)) (now (out .entry)) ⌝ }
 {
     export_lines::order_list(area, slots, out)
 }
 
 #[no_mangle]
 pub extern "C" fn c13_next_line(area: &[u8], slots: &[u32], out: &mut [u64]) -> u32
-    ensures { λ r. ⌜ Gives (now (out .entry)) (lineGiven (now (area .entry)) (now (slots .entry)) (now (out .entry))) r (now (out .exit)) ⌝ }
+    ensures { λ r. ⌜ Gives (now (out .entry)) (lineGiven crateRule (now (area .entry)) (now (slots .entry)) (now (out .entry))) r (now (out .exit)) ⌝ }
 {
     export_lines::next_line(area, slots, out)
 }
 
 #[no_mangle]
 pub extern "C" fn c13_lines(area: &[u8], slots: &[u32], records: &mut [u64], out: &mut [u64]) -> u32
-    ensures { λ r. ⌜ Gives (now (out .entry)) (linesGiven (now (area .entry)) (now (slots .entry)) (length (now (records .entry))) (now (out .entry))) r (now (out .exit)) ⌝ }
-    ensures { λ _. ⌜ now (records .exit) ≡ recordsLeft (now (area .entry)) (now (slots .entry)) (now (records .entry)) (now (out .entry)) ⌝ }
+    ensures { λ r. ⌜ Gives (now (out .entry))
+        (linesGiven crateRule (now (area .entry)) (now (slots .entry)) (length (now (records .entry))) (now (out .entry)))
+        r (now (out .exit)) ⌝ }
+    ensures { λ _. ⌜ now (records .exit) ≡ recordsLeft crateRule (now (area .entry)) (now (slots .entry)) (now (records .entry)) (now (out .entry)) ⌝ }
 {
     export_lines::lines(area, slots, records, out)
 }
@@ -185,7 +192,7 @@ pub extern "C" fn c13_lines_for_symbol(
     offset: u32,
     out: &mut [u64],
 ) -> u32
-    ensures { λ r. ⌜ Gives (now (out .entry)) (symbolGiven (now (area .entry)) (now (slots .entry)) section offset) r (now (out .exit)) ⌝ }
+    ensures { λ r. ⌜ Gives (now (out .entry)) (symbolGiven crateRule (now (area .entry)) (now (slots .entry)) section offset) r (now (out .exit)) ⌝ }
 {
     export_lines::lines_for_symbol(area, slots, section, offset, out)
 }
@@ -207,7 +214,9 @@ pub extern "C" fn c13_open_lines(
     code: u32,
     out: &mut [u64],
 ) -> u32
-    ensures { λ r. ⌜ Gives (now (out .entry)) (wroteGiven (callLines offset section flags code) (now (buf .entry)) place (now (out .entry))) r (now (out .exit)) ⌝ }
+    ensures { λ r. ⌜ Gives (now (out .entry))
+        (wroteGiven (callLines offset section flags code) (now (buf .entry)) place (now (out .entry)))
+        r (now (out .exit)) ⌝ }
     ensures { λ _. ⌜ now (buf .exit) ≡ bufferLeft (callLines offset section flags code) (now (buf .entry)) place (now (out .entry)) ⌝ }
 {
     export_write::open_lines(buf, place, offset, section, flags, code, out)
@@ -222,7 +231,9 @@ pub extern "C" fn c13_add_block(
     columns: &[u32],
     out: &mut [u64],
 ) -> u32
-    ensures { λ r. ⌜ Gives (now (out .entry)) (wroteGiven (callBlock file (now (lines .entry)) (now (columns .entry))) (now (buf .entry)) place (now (out .entry))) r (now (out .exit)) ⌝ }
+    ensures { λ r. ⌜ Gives (now (out .entry))
+        (wroteGiven (callBlock file (now (lines .entry)) (now (columns .entry))) (now (buf .entry)) place (now (out .entry)))
+        r (now (out .exit)) ⌝ }
     ensures { λ _. ⌜ now (buf .exit) ≡ bufferLeft (callBlock file (now (lines .entry)) (now (columns .entry))) (now (buf .entry)) place (now (out .entry)) ⌝ }
 {
     export_write::add_block(buf, place, file, lines, columns, out)
@@ -245,7 +256,9 @@ pub extern "C" fn c13_add_entry(
     bytes: &[u8],
     out: &mut [u64],
 ) -> u32
-    ensures { λ r. ⌜ Gives (now (out .entry)) (wroteGiven (callChecksum name kind (now (bytes .entry))) (now (buf .entry)) place (now (out .entry))) r (now (out .exit)) ⌝ }
+    ensures { λ r. ⌜ Gives (now (out .entry))
+        (wroteGiven (callChecksum name kind (now (bytes .entry))) (now (buf .entry)) place (now (out .entry)))
+        r (now (out .exit)) ⌝ }
     ensures { λ _. ⌜ now (buf .exit) ≡ bufferLeft (callChecksum name kind (now (bytes .entry))) (now (buf .entry)) place (now (out .entry)) ⌝ }
 {
     export_write::add_entry(buf, place, name, kind, bytes, out)
@@ -274,7 +287,9 @@ pub extern "C" fn c13_add_inlinee(
     extra: &[u32],
     out: &mut [u64],
 ) -> u32
-    ensures { λ r. ⌜ Gives (now (out .entry)) (wroteGiven (callInlinee inlinee file line (now (extra .entry))) (now (buf .entry)) place (now (out .entry))) r (now (out .exit)) ⌝ }
+    ensures { λ r. ⌜ Gives (now (out .entry))
+        (wroteGiven (callInlinee inlinee file line (now (extra .entry))) (now (buf .entry)) place (now (out .entry)))
+        r (now (out .exit)) ⌝ }
     ensures { λ _. ⌜ now (buf .exit) ≡ bufferLeft (callInlinee inlinee file line (now (extra .entry))) (now (buf .entry)) place (now (out .entry)) ⌝ }
 {
     export_write::add_inlinee(buf, place, inlinee, file, line, extra, out)
@@ -296,7 +311,9 @@ pub extern "C" fn c13_add_module(
     words: &[u32],
     out: &mut [u64],
 ) -> u32
-    ensures { λ r. ⌜ Gives (now (out .entry)) (wroteGiven (callModule name (now (words .entry))) (now (buf .entry)) place (now (out .entry))) r (now (out .exit)) ⌝ }
+    ensures { λ r. ⌜ Gives (now (out .entry))
+        (wroteGiven (callModule name (now (words .entry))) (now (buf .entry)) place (now (out .entry)))
+        r (now (out .exit)) ⌝ }
     ensures { λ _. ⌜ now (buf .exit) ≡ bufferLeft (callModule name (now (words .entry))) (now (buf .entry)) place (now (out .entry)) ⌝ }
 {
     export_write::add_module(buf, place, name, words, out)

@@ -1,9 +1,9 @@
--- What each call on files gives. s is the area, and o the lent words, whose first are a walk's state. Source: docs/DECISIONS.md, 32.
+-- What each call on files gives, by the rule of kinds. s is the area, and o the lent words, whose first are a walk's state. Source: docs/DECISIONS.md, 32.
 -- Definitions only; a reader must believe them.
 use Prim.Native.Nat.{ℕ}
 use mathlib.Core.List.{List}
 use lib.ListN.{length}
-use Rattle.area.specs.Kind.{crateRule}
+use Rattle.area.specs.Kind.{Sort}
 use Rattle.files.specs.Files.{fileStep, fileAt}
 use Rattle.answer_words.specs.Given.{Given, stepGiven, replyGiven}
 use Rattle.answer_words.specs.TableWords.{tableStateSize, walkIn, walkWords, tableWords}
@@ -11,16 +11,16 @@ use Rattle.answer_words.specs.FillGiven.{fillGiven, fillLeft}
 use Rattle.many_files.specs.FileWords.{infoWords, fileWords}
 use Rattle.many_files.specs.Files.{filesOf}
 
-abbrev pub fileGiven : List ℕ → List ℕ → Given
-fileGiven s o = stepGiven tableStateSize (tableWords fileWords) (fileStep crateRule s (walkIn o))
+abbrev pub fileGiven : (ℕ → Sort) → List ℕ → List ℕ → Given
+fileGiven rule s o = stepGiven tableStateSize (tableWords fileWords) (fileStep rule s (walkIn o))
 
 -- with n words lent for records
-abbrev pub filesGiven : List ℕ → ℕ → List ℕ → Given
-filesGiven s n o = fillGiven tableStateSize walkWords o (filesOf crateRule s n (walkIn o))
+abbrev pub filesGiven : (ℕ → Sort) → List ℕ → ℕ → List ℕ → Given
+filesGiven rule s n o = fillGiven tableStateSize walkWords o (filesOf rule s n (walkIn o))
 
 -- the words x lent for records, after it
-abbrev pub filesLeft : List ℕ → List ℕ → List ℕ → List ℕ
-filesLeft s x o = fillLeft tableStateSize fileWords o x (filesOf crateRule s (length x) (walkIn o))
+abbrev pub filesLeft : (ℕ → Sort) → List ℕ → List ℕ → List ℕ → List ℕ
+filesLeft rule s x o = fillLeft tableStateSize fileWords o x (filesOf rule s (length x) (walkIn o))
 
-abbrev pub infoGiven : List ℕ → ℕ → Given
-infoGiven s index = replyGiven infoWords (fileAt crateRule s index)
+abbrev pub infoGiven : (ℕ → Sort) → List ℕ → ℕ → Given
+infoGiven rule s index = replyGiven infoWords (fileAt rule s index)

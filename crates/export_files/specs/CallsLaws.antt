@@ -3,7 +3,7 @@ use Prim.Native.Nat.{ℕ}
 use mathlib.Core.Path.{_≡_}
 use mathlib.Core.List.{List}
 use lib.ListN.{length}
-use Rattle.area.specs.Kind.{crateRule}
+use Rattle.area.specs.Kind.{Sort}
 use Rattle.answer_words.specs.Given.{Gives}
 use Rattle.answer_words.specs.TableWords.{tableStateSize, walkIn, walkWords}
 use Rattle.answer_words.specs.TableWordsLaws.{walk-length}
@@ -13,5 +13,6 @@ use Rattle.many_files.specs.Files.{filesOf}
 use Rattle.export_files.specs.Calls.{filesGiven, filesLeft}
 
 -- THE LAW: with any status but 1 the words lent for records are as they were
-pub files-careful : (s x o : List ℕ) {r : ℕ} {left : List ℕ} → Gives o (filesGiven s (length x) o) r left → (r ≡ 1 → ⊥) → filesLeft s x o ≡ x
-files-careful s x o = fill-careful tableStateSize walkWords fileWords o x (filesOf crateRule s (length x) (walkIn o)) walk-length
+pub files-careful : (rule : ℕ → Sort) (s x o : List ℕ) {r : ℕ} {left : List ℕ} → Gives o (filesGiven rule s (length x) o) r left → (r ≡ 1 → ⊥)
+    → filesLeft rule s x o ≡ x
+files-careful rule s x o = fill-careful tableStateSize walkWords fileWords o x (filesOf rule s (length x) (walkIn o)) walk-length

@@ -2,6 +2,7 @@
 // status, and the words of the answer as the crate `answer_words` puts them. The crate `c13` gives each its C name.
 ghost use mathlib.Core.Path.{_≡_};
 ghost use lib.ListN.{length};
+ghost use Rattle.area.specs.Kind.{crateRule};
 ghost use Rattle.answer_words.specs.Given.{Gives};
 ghost use Rattle.export_files.specs.Calls.{fileGiven, filesGiven, filesLeft, infoGiven};
 use answer_words::GIVEN;
@@ -24,7 +25,7 @@ const ASKED: usize = TABLE_STATE_WORDS + REFUSAL_WORDS;
 
 // The next file. State: of a walk over a table. Words: its index, its name, its checksum's kind, and the place and the length of the bytes.
 pub fn next_file(area: &[u8], out: &mut [u64]) -> u32
-    ensures { λ r. ⌜ Gives (now (out .entry)) (fileGiven (now (area .entry)) (now (out .entry))) r (now (out .exit)) ⌝ }
+    ensures { λ r. ⌜ Gives (now (out .entry)) (fileGiven crateRule (now (area .entry)) (now (out .entry))) r (now (out .exit)) ⌝ }
 {
     match files::next_file(area, walk_in(out)) {
         FileStep::File {
@@ -62,8 +63,10 @@ pub fn next_file(area: &[u8], out: &mut [u64]) -> u32
 // The files from the walk in `out` on, into `records`. Words: the next state, and how many files there are. Where there is none to give the
 // answer is that of `next_file`; without room for one it is number 10.
 pub fn files(area: &[u8], records: &mut [u64], out: &mut [u64]) -> u32
-    ensures { λ r. ⌜ Gives (now (out .entry)) (filesGiven (now (area .entry)) (length (now (records .entry))) (now (out .entry))) r (now (out .exit)) ⌝ }
-    ensures { λ _. ⌜ now (records .exit) ≡ filesLeft (now (area .entry)) (now (records .entry)) (now (out .entry)) ⌝ }
+    ensures { λ r. ⌜ Gives (now (out .entry))
+        (filesGiven crateRule (now (area .entry)) (length (now (records .entry))) (now (out .entry)))
+        r (now (out .exit)) ⌝ }
+    ensures { λ _. ⌜ now (records .exit) ≡ filesLeft crateRule (now (area .entry)) (now (records .entry)) (now (out .entry)) ⌝ }
 {
     if out.len() < ASKED {
         return TOO_SHORT;
@@ -80,7 +83,7 @@ pub fn files(area: &[u8], records: &mut [u64], out: &mut [u64]) -> u32
 
 // The file at an index. Words: as of the next file, without the index.
 pub fn file_at(area: &[u8], index: u32, out: &mut [u64]) -> u32
-    ensures { λ r. ⌜ Gives (now (out .entry)) (infoGiven (now (area .entry)) index) r (now (out .exit)) ⌝ }
+    ensures { λ r. ⌜ Gives (now (out .entry)) (infoGiven crateRule (now (area .entry)) index) r (now (out .exit)) ⌝ }
 {
     match files::file_at(area, index) {
         FileAnswer::File {

@@ -6,7 +6,7 @@ use lib.ListN.{length, length-append}
 use native.Mathlib.Omega.{arith}
 use Rattle.walk.specs.Listing.{Reply, gave, nothing, refused}
 use Rattle.refusal.specs.Told.{Told}
-use Rattle.area.specs.Kind.{crateRule}
+use Rattle.area.specs.Kind.{Sort}
 use Rattle.order.specs.Order.{ordered, slotsBy, slotsAfter}
 use Rattle.answer_words.specs.Given.{Gives, given}
 use Rattle.answer_words.specs.GivenLaws.{Still, room-careful, gives-put}
@@ -22,10 +22,11 @@ use Rattle.line_state_words.specs.LineWordsLaws.{walk-length}
 use Rattle.many_lines.specs.Lines.{linesOf}
 
 -- THE LAW: with any status but 1 the slots are as they were
-pub order-careful : (s v o : List ℕ) {r : ℕ} {left : List ℕ} → Gives o (orderGiven s (length v) o) r left → (r ≡ 1 → ⊥) → slotsLeft s v o ≡ v
-order-careful s v o g z = room-careful o (ordered crateRule s (length v)) v (slotsAfter crateRule s v) (still (ordered crateRule s (length v))) g z
+pub order-careful : (rule : ℕ → Sort) (s v o : List ℕ) {r : ℕ} {left : List ℕ} → Gives o (orderGiven rule s (length v) o) r left → (r ≡ 1 → ⊥)
+    → slotsLeft rule s v o ≡ v
+order-careful rule s v o g z = room-careful o (ordered rule s (length v)) v (slotsAfter rule s v) (still (ordered rule s (length v))) g z
   where
-    still : (x : Reply ℕ Told) → Still x v (slotsBy crateRule s v x)
+    still : (x : Reply ℕ Told) → Still x v (slotsBy rule s v x)
     still (gave n) = tt
     still nothing = refl
     still (refused t) = refl
@@ -48,5 +49,6 @@ module _ (o p q : List ℕ) (w : LineWalk) (n r k : ℕ) (room : askedSize state
       (subst⁻¹ (λ (x : List ℕ). Gives o (given 1 0 (lineWalkWords w ++ (n ∷ []))) 1 x) e (gives-put o (given 1 0 (lineWalkWords w ++ (n ∷ []))) (omega arith)))
 
 -- THE LAW: with any status but 1 the words lent for records are as they were
-pub lines-careful : (s v x o : List ℕ) {r : ℕ} {left : List ℕ} → Gives o (linesGiven s v (length x) o) r left → (r ≡ 1 → ⊥) → recordsLeft s v x o ≡ x
-lines-careful s v x o = fill-careful stateSize lineWalkWords recordWords o x (linesOf crateRule s v (length x) (lineWalkIn o)) walk-length
+pub lines-careful : (rule : ℕ → Sort) (s v x o : List ℕ) {r : ℕ} {left : List ℕ} → Gives o (linesGiven rule s v (length x) o) r left → (r ≡ 1 → ⊥)
+    → recordsLeft rule s v x o ≡ x
+lines-careful rule s v x o = fill-careful stateSize lineWalkWords recordWords o x (linesOf rule s v (length x) (lineWalkIn o)) walk-length

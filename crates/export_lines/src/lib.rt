@@ -4,6 +4,7 @@ ghost use mathlib.Core.Path.{_≡_};
 ghost use lib.ListN.{length};
 ghost use mathlib.Core.List.{[], _∷_, _++_};
 ghost use Prim.Native.Nat.{_≤_};
+ghost use Rattle.area.specs.Kind.{crateRule};
 ghost use Rattle.answer_words.specs.Given.{Gives, given};
 ghost use Rattle.answer_words.specs.FillGiven.{askedSize};
 ghost use Rattle.export_lines.specs.Calls.{orderGiven, slotsLeft, lineGiven, symbolGiven, linesGiven, recordsLeft};
@@ -30,8 +31,10 @@ const ASKED: usize = STATE_WORDS + REFUSAL_WORDS;
 
 // The order list of the line subsections, into lent slots. Word: how many slots it takes.
 pub fn order_list(area: &[u8], slots: &mut [u32], out: &mut [u64]) -> u32
-    ensures { λ r. ⌜ Gives (now (out .entry)) (orderGiven (now (area .entry)) (length (now (slots .entry))) (now (out .entry))) r (now (out .exit)) ⌝ }
-    ensures { λ _. ⌜ now (slots .exit) ≡ slotsLeft (now (area .entry)) (now (slots .entry)) (now (out .entry)) ⌝ }
+    ensures { λ r. ⌜ Gives (now (out .entry))
+        (orderGiven crateRule (now (area .entry)) (length (now (slots .entry))) (now (out .entry)))
+        r (now (out .exit)) ⌝ }
+    ensures { λ _. ⌜ now (slots .exit) ≡ slotsLeft crateRule (now (area .entry)) (now (slots .entry)) (now (out .entry)) ⌝ }
 {
     if out.len() < REFUSAL_WORDS {
         return TOO_SHORT;
@@ -44,7 +47,7 @@ pub fn order_list(area: &[u8], slots: &mut [u32], out: &mut [u64]) -> u32
 
 // The next record of the line walk over a list in slots. State and words are those of the crate `line_state_words`.
 pub fn next_line(area: &[u8], slots: &[u32], out: &mut [u64]) -> u32
-    ensures { λ r. ⌜ Gives (now (out .entry)) (lineGiven (now (area .entry)) (now (slots .entry)) (now (out .entry))) r (now (out .exit)) ⌝ }
+    ensures { λ r. ⌜ Gives (now (out .entry)) (lineGiven crateRule (now (area .entry)) (now (slots .entry)) (now (out .entry))) r (now (out .exit)) ⌝ }
 {
     match line_walk::next_line(area, slots, line_walk_in(out)) {
         LineStep::Line(record, next) => put_line(out, record, next),
@@ -61,7 +64,7 @@ pub fn lines_for_symbol(
     offset: u32,
     out: &mut [u64],
 ) -> u32
-    ensures { λ r. ⌜ Gives (now (out .entry)) (symbolGiven (now (area .entry)) (now (slots .entry)) section offset) r (now (out .exit)) ⌝ }
+    ensures { λ r. ⌜ Gives (now (out .entry)) (symbolGiven crateRule (now (area .entry)) (now (slots .entry)) section offset) r (now (out .exit)) ⌝ }
 {
     match symbol_lines::lines_for_symbol(area, slots, section, offset) {
         SymbolLines::Lines(walk) => put_line_walk(out, walk),
@@ -81,8 +84,10 @@ fn put_lines(out: &mut [u64], count: usize, next: LineWalk) -> u32
 // The records from the walk in `out` on, into `records`. Words: the next state, and how many records there are. Where there is none to
 // give the answer is that of `next_line`; without room for one it is number 10.
 pub fn lines(area: &[u8], slots: &[u32], records: &mut [u64], out: &mut [u64]) -> u32
-    ensures { λ r. ⌜ Gives (now (out .entry)) (linesGiven (now (area .entry)) (now (slots .entry)) (length (now (records .entry))) (now (out .entry))) r (now (out .exit)) ⌝ }
-    ensures { λ _. ⌜ now (records .exit) ≡ recordsLeft (now (area .entry)) (now (slots .entry)) (now (records .entry)) (now (out .entry)) ⌝ }
+    ensures { λ r. ⌜ Gives (now (out .entry))
+        (linesGiven crateRule (now (area .entry)) (now (slots .entry)) (length (now (records .entry))) (now (out .entry)))
+        r (now (out .exit)) ⌝ }
+    ensures { λ _. ⌜ now (records .exit) ≡ recordsLeft crateRule (now (area .entry)) (now (slots .entry)) (now (records .entry)) (now (out .entry)) ⌝ }
 {
     if out.len() < ASKED {
         return TOO_SHORT;

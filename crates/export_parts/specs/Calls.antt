@@ -1,18 +1,18 @@
--- What each call on parts gives. s is the area or the stream, and o the lent words, whose first is the place of the next subsection.
+-- What each call on parts gives, by the rule of kinds. s is the area or the stream, and o the lent words, whose first is the place of the next subsection.
 -- Source: docs/DECISIONS.md, 32.
 -- Definitions only; a reader must believe them.
 use Prim.Native.Nat.{ℕ}
 use mathlib.Core.List.{List}
 use lib.ListN.{getD}
-use Rattle.area.specs.Kind.{crateRule}
+use Rattle.area.specs.Kind.{Sort}
 use Rattle.area.specs.Subs.{stepAt}
 use Rattle.strings.specs.Strings.{namesOf, nameAt}
 use Rattle.modi.specs.Modi.{moduleSymbols, linesSpan, tablesSpan}
 use Rattle.answer_words.specs.Given.{Given, stepGiven, replyGiven}
 use Rattle.export_parts.specs.Words.{subStateSize, subWords, yes, spanWords, outcomeGiven}
 
-abbrev pub subGiven : List ℕ → List ℕ → Given
-subGiven s o = stepGiven subStateSize subWords (stepAt crateRule s (getD o 0 0))
+abbrev pub subGiven : (ℕ → Sort) → List ℕ → List ℕ → Given
+subGiven rule s o = stepGiven subStateSize subWords (stepAt rule s (getD o 0 0))
 
 abbrev pub namesGiven : List ℕ → Given
 namesGiven s = outcomeGiven (namesOf s)

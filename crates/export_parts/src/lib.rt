@@ -1,5 +1,6 @@
 // Where the parts of areas and streams stand, for programs in other languages: the subsections of an area, the names of a string table, and the parts of a
 // module's stream. A call answers a status, and the words of the answer as the crate `answer_words` puts them. The crate `c13` gives each its C name.
+ghost use Rattle.area.specs.Kind.{crateRule};
 ghost use Rattle.answer_words.specs.Given.{Gives};
 ghost use Rattle.export_parts.specs.Calls.{subGiven, namesGiven, nameGiven, symbolsGiven, linesPartGiven, tablesPartGiven};
 use answer_words::GIVEN;
@@ -21,7 +22,7 @@ const SUB_STATE_WORDS: usize = 1;
 
 // The next subsection of an area. State: the place. Words: the place behind it, its kind, and where its body starts and how long it is.
 pub fn next_sub(area: &[u8], out: &mut [u64]) -> u32
-    ensures { λ r. ⌜ Gives (now (out .entry)) (subGiven (now (area .entry)) (now (out .entry))) r (now (out .exit)) ⌝ }
+    ensures { λ r. ⌜ Gives (now (out .entry)) (subGiven crateRule (now (area .entry)) (now (out .entry))) r (now (out .exit)) ⌝ }
 {
     match sub_at(area, state_word(out, 0) as usize) {
         SubStep::Sub {

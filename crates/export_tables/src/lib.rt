@@ -3,6 +3,7 @@
 ghost use mathlib.Core.Path.{_≡_};
 ghost use mathlib.Core.List.{[], _∷_};
 ghost use Rattle.exports.specs.Told.{toldExport};
+ghost use Rattle.area.specs.Kind.{crateRule};
 ghost use Rattle.answer_words.specs.Given.{Gives};
 ghost use Rattle.export_tables.specs.Words.{exportWords};
 ghost use Rattle.export_tables.specs.Calls.{wordGiven, inlineeGiven, moduleGiven, refGiven, exportGiven, countGiven, globalGiven};
@@ -36,7 +37,7 @@ pub fn word(area: &[u8], words: usize, count: usize, i: usize, out: &mut [u64]) 
 
 // The next inlinee. State: of a walk over a table. Words: the inlinee, its file and line, the place of its extra files, their number.
 pub fn next_inlinee(area: &[u8], out: &mut [u64]) -> u32
-    ensures { λ r. ⌜ Gives (now (out .entry)) (inlineeGiven (now (area .entry)) (now (out .entry))) r (now (out .exit)) ⌝ }
+    ensures { λ r. ⌜ Gives (now (out .entry)) (inlineeGiven crateRule (now (area .entry)) (now (out .entry))) r (now (out .exit)) ⌝ }
 {
     match inlinees::next_inlinee(area, walk_in(out)) {
         InlineeStep::Inlinee {
@@ -72,7 +73,7 @@ pub fn next_inlinee(area: &[u8], out: &mut [u64]) -> u32
 
 // The next module of the imports. State: of a walk over a table. Words: its name, the place of its words, their number.
 pub fn next_import(area: &[u8], out: &mut [u64]) -> u32
-    ensures { λ r. ⌜ Gives (now (out .entry)) (moduleGiven (now (area .entry)) (now (out .entry))) r (now (out .exit)) ⌝ }
+    ensures { λ r. ⌜ Gives (now (out .entry)) (moduleGiven crateRule (now (area .entry)) (now (out .entry))) r (now (out .exit)) ⌝ }
 {
     match imports::next_import(area, walk_in(out)) {
         ImportStep::Module {
@@ -96,7 +97,7 @@ pub fn next_import(area: &[u8], out: &mut [u64]) -> u32
 
 // A reference resolved. Words: the name of its module, and its word there.
 pub fn resolve_import(area: &[u8], index: u32, out: &mut [u64]) -> u32
-    ensures { λ r. ⌜ Gives (now (out .entry)) (refGiven (now (area .entry)) index) r (now (out .exit)) ⌝ }
+    ensures { λ r. ⌜ Gives (now (out .entry)) (refGiven crateRule (now (area .entry)) index) r (now (out .exit)) ⌝ }
 {
     match imports::resolve_import(area, index) {
         Resolved::Ref { name, word } => put(out, 0, &[name as u64, word as u64], GIVEN),
@@ -119,7 +120,7 @@ fn export_words(export: CrossModuleExport) -> Three
 
 // The next export. State: of a walk over a table. Words: 0 for a type or 1 for an id, the local and the global index.
 pub fn next_export(area: &[u8], out: &mut [u64]) -> u32
-    ensures { λ r. ⌜ Gives (now (out .entry)) (exportGiven (now (area .entry)) (now (out .entry))) r (now (out .exit)) ⌝ }
+    ensures { λ r. ⌜ Gives (now (out .entry)) (exportGiven crateRule (now (area .entry)) (now (out .entry))) r (now (out .exit)) ⌝ }
 {
     match exports::next_export(area, walk_in(out)) {
         ExportStep::Export { export, next } => {
@@ -134,7 +135,7 @@ pub fn next_export(area: &[u8], out: &mut [u64]) -> u32
 
 // The number of exports.
 pub fn export_count(area: &[u8], out: &mut [u64]) -> u32
-    ensures { λ r. ⌜ Gives (now (out .entry)) (countGiven (now (area .entry))) r (now (out .exit)) ⌝ }
+    ensures { λ r. ⌜ Gives (now (out .entry)) (countGiven crateRule (now (area .entry))) r (now (out .exit)) ⌝ }
 {
     match exports::export_count(area) {
         Count::Exports(n) => put(out, 0, &[n as u64], GIVEN),
@@ -144,7 +145,7 @@ pub fn export_count(area: &[u8], out: &mut [u64]) -> u32
 
 // The global index of a local one.
 pub fn resolve_export(area: &[u8], local: u32, out: &mut [u64]) -> u32
-    ensures { λ r. ⌜ Gives (now (out .entry)) (globalGiven (now (area .entry)) local) r (now (out .exit)) ⌝ }
+    ensures { λ r. ⌜ Gives (now (out .entry)) (globalGiven crateRule (now (area .entry)) local) r (now (out .exit)) ⌝ }
 {
     match exports::resolve_export(area, local) {
         Lookup::Global(global) => put(out, 0, &[global as u64], GIVEN),

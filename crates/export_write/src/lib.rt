@@ -47,7 +47,9 @@ pub fn open_lines(
     code: u32,
     out: &mut [u64],
 ) -> u32
-    ensures { λ r. ⌜ Gives (now (out .entry)) (wroteGiven (callLines offset section flags code) (now (buf .entry)) place (now (out .entry))) r (now (out .exit)) ⌝ }
+    ensures { λ r. ⌜ Gives (now (out .entry))
+        (wroteGiven (callLines offset section flags code) (now (buf .entry)) place (now (out .entry)))
+        r (now (out .exit)) ⌝ }
     ensures { λ _. ⌜ now (buf .exit) ≡ bufferLeft (callLines offset section flags code) (now (buf .entry)) place (now (out .entry)) ⌝ }
 {
     if out.len() < REFUSAL_WORDS {
@@ -67,7 +69,9 @@ pub fn add_block(
     columns: &[u32],
     out: &mut [u64],
 ) -> u32
-    ensures { λ r. ⌜ Gives (now (out .entry)) (wroteGiven (callBlock file (now (lines .entry)) (now (columns .entry))) (now (buf .entry)) place (now (out .entry))) r (now (out .exit)) ⌝ }
+    ensures { λ r. ⌜ Gives (now (out .entry))
+        (wroteGiven (callBlock file (now (lines .entry)) (now (columns .entry))) (now (buf .entry)) place (now (out .entry)))
+        r (now (out .exit)) ⌝ }
     ensures { λ _. ⌜ now (buf .exit) ≡ bufferLeft (callBlock file (now (lines .entry)) (now (columns .entry))) (now (buf .entry)) place (now (out .entry)) ⌝ }
 {
     if out.len() < REFUSAL_WORDS {
@@ -94,7 +98,9 @@ pub fn add_entry(
     bytes: &[u8],
     out: &mut [u64],
 ) -> u32
-    ensures { λ r. ⌜ Gives (now (out .entry)) (wroteGiven (callChecksum name kind (now (bytes .entry))) (now (buf .entry)) place (now (out .entry))) r (now (out .exit)) ⌝ }
+    ensures { λ r. ⌜ Gives (now (out .entry))
+        (wroteGiven (callChecksum name kind (now (bytes .entry))) (now (buf .entry)) place (now (out .entry)))
+        r (now (out .exit)) ⌝ }
     ensures { λ _. ⌜ now (buf .exit) ≡ bufferLeft (callChecksum name kind (now (bytes .entry))) (now (buf .entry)) place (now (out .entry)) ⌝ }
 {
     if out.len() < REFUSAL_WORDS {
@@ -122,7 +128,9 @@ pub fn add_inlinee(
     extra: &[u32],
     out: &mut [u64],
 ) -> u32
-    ensures { λ r. ⌜ Gives (now (out .entry)) (wroteGiven (callInlinee inlinee file line (now (extra .entry))) (now (buf .entry)) place (now (out .entry))) r (now (out .exit)) ⌝ }
+    ensures { λ r. ⌜ Gives (now (out .entry))
+        (wroteGiven (callInlinee inlinee file line (now (extra .entry))) (now (buf .entry)) place (now (out .entry)))
+        r (now (out .exit)) ⌝ }
     ensures { λ _. ⌜ now (buf .exit) ≡ bufferLeft (callInlinee inlinee file line (now (extra .entry))) (now (buf .entry)) place (now (out .entry)) ⌝ }
 {
     if out.len() < REFUSAL_WORDS {
@@ -145,7 +153,9 @@ pub fn open_imports(buf: &mut [u8], place: usize, out: &mut [u64]) -> u32
 }
 
 pub fn add_module(buf: &mut [u8], place: usize, name: u32, words: &[u32], out: &mut [u64]) -> u32
-    ensures { λ r. ⌜ Gives (now (out .entry)) (wroteGiven (callModule name (now (words .entry))) (now (buf .entry)) place (now (out .entry))) r (now (out .exit)) ⌝ }
+    ensures { λ r. ⌜ Gives (now (out .entry))
+        (wroteGiven (callModule name (now (words .entry))) (now (buf .entry)) place (now (out .entry)))
+        r (now (out .exit)) ⌝ }
     ensures { λ _. ⌜ now (buf .exit) ≡ bufferLeft (callModule name (now (words .entry))) (now (buf .entry)) place (now (out .entry)) ⌝ }
 {
     if out.len() < REFUSAL_WORDS {

@@ -77,7 +77,8 @@ pub fn put_file(
     kind: ChecksumKind,
     bytes: &[u8],
 ) -> Place
-    ensures { λ r. ⌜ page (now (buf .exit)) (toldPlace r) ≡ writtenAll (fileLine at name (toldKind kind) (now (bytes .entry))) (page (now (buf .entry)) (toldPlace place)) ⌝ }
+    ensures { λ r. ⌜ page (now (buf .exit)) (toldPlace r)
+        ≡ writtenAll (fileLine at name (toldKind kind) (now (bytes .entry))) (page (now (buf .entry)) (toldPlace place)) ⌝ }
 {
     let a = put_count(buf, place, b"file ", at as u64);
     let b = put_count(buf, a, b" name ", name as u64);
