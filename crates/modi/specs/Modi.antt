@@ -8,7 +8,7 @@ use mathlib.Core.Bool.{cond}
 use lib.ListN.{length}
 use lib.Dec.{ltb, eqb}
 use Rattle.word.specs.Word.{u32At}
-use Rattle.walk.specs.Listing.{Answer, none, refuses, Reply, gave, nothing, refused}
+use Rattle.walk.specs.Listing.{Reply, gave, nothing, refused}
 use Rattle.walk.specs.Pick.{orElse, mapReply}
 use Rattle.refusal.specs.Told.{Told, told, longest}
 use Rattle.refusal.specs.declared.Refusal.the-variants as why
@@ -46,9 +46,3 @@ tablesArea z s = mapReply (bytesAt s) same (tablesSpan z s)
 
 abbrev pub linesArea : ModuleSizes → List ℕ → Reply (List ℕ) Told
 linesArea z s = mapReply (bytesAt s) same (linesSpan z s)
-
--- a step of a walk over a table of such an area
-abbrev pub stepInPart : {S B : Type 0} → (List ℕ → Answer S B Told) → Reply (List ℕ) Told → Answer S B Told
-stepInPart f (gave a) = f a
-stepInPart f nothing = none
-stepInPart f (refused t) = refuses t

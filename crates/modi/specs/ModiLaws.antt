@@ -1,6 +1,6 @@
--- Laws of a module's stream: a law for each way out of the code, where a part lies, and calls on it.
+-- Laws of a module's stream: a law for each way out of the code, where a part lies, and what is lent to a call on it.
 use Prim.Native.Nat.{ℕ, _+_, _-_, _<_, _≤_}
-use mathlib.Core.Path.{_≡_, refl, sym, ap, _∙_, subst⁻¹}
+use mathlib.Core.Path.{_≡_, sym, ap, _∙_, subst⁻¹}
 use mathlib.Core.List.{List, []}
 use native.Mathlib.Omega.{arith}
 use native.Mathlib.Nat.{add-sub-cancel-left}
@@ -9,20 +9,18 @@ use lib.Dec.{ltb}
 use borrow.Author.Tests.{ltb-false}
 use Rattle.word.specs.Word.{u32At}
 use Rattle.walk.specs.Cases.{tests, by-cases}
-use Rattle.walk.specs.Listing.{Listing, ends, fails, Answer, none, refuses, Reply, gave, nothing, refused, calls, replies}
-use Rattle.walk.specs.ListingLaws.{calls-are}
+use Rattle.walk.specs.Listing.{Reply, gave, nothing, refused}
 use Rattle.walk.specs.Pick.{orElse, mapReply}
 use Rattle.walk.specs.PickLaws.{Gives}
 use Rattle.refusal.specs.Told.{Told, told, longest}
 use Rattle.refusal.specs.declared.Refusal.{Refusal}
 use Rattle.refusal.specs.declared.Refusal.the-variants as why
 use Rattle.find.specs.Find.{same, Span, bytesAt}
-use Rattle.table.specs.Whole.{ofBody}
 use Rattle.modi.specs.declared.ModuleSizes.{ModuleSizes}
 use Rattle.modi.specs.declared.Part.{Part}
 use Rattle.modi.specs.declared.Part.the-variants as part
 use Rattle.modi.specs.Told.{toldPart}
-use Rattle.modi.specs.Modi.{moduleSymbols, moduleSpan, tablesSpan, linesSpan, tablesArea, linesArea, stepInPart}
+use Rattle.modi.specs.Modi.{moduleSymbols, moduleSpan, tablesSpan, linesSpan, tablesArea, linesArea}
 
 module _ (z : ModuleSizes) (s : List ℕ) where
   -- ---- the tests of `module_symbols`
@@ -112,15 +110,21 @@ module _ (z : ModuleSizes) (s : List ℕ) (x : Reply Span Told) (e : x ≡ modul
   pub lines-of : orElse x (refused (told why.OldFormat)) ≡ linesSpan z s
   lines-of = ap (λ (y : Reply Span Told). orElse y (refused (told why.OldFormat))) e
 
--- ---- the areas as the sizes have them: so each call is its definition on that part of the stream
+-- ---- the areas as the sizes have them
 
 module _ (z : ModuleSizes) (s : List ℕ) (h₀ : length s ≤ longest) where
-  module _ (h₁ : z .c11 ≤ 0) (h₂ : z .symbols + z .c13 ≤ length s) where
-    pub tables-c13 : gave (take (z .c13) (drop (z .symbols) s)) ≡ tablesArea z s
-    tables-c13 = ap (mapReply (bytesAt s) same) (tables-of z s _ (span-inside z s h₀ h₁ h₂))
+  module _ (h₁ : z .c11 ≤ 0) where
+    pub tables-c13 : z .symbols + z .c13 ≤ length s → gave (take (z .c13) (drop (z .symbols) s)) ≡ tablesArea z s
+    tables-c13 h = ap (mapReply (bytesAt s) same) (tables-of z s _ (span-inside z s h₀ h₁ h))
 
-    pub lines-c13 : gave (take (z .c13) (drop (z .symbols) s)) ≡ linesArea z s
-    lines-c13 = ap (mapReply (bytesAt s) same) (lines-of z s _ (span-inside z s h₀ h₁ h₂))
+    pub lines-c13 : z .symbols + z .c13 ≤ length s → gave (take (z .c13) (drop (z .symbols) s)) ≡ linesArea z s
+    lines-c13 h = ap (mapReply (bytesAt s) same) (lines-of z s _ (span-inside z s h₀ h₁ h))
+
+    pub tables-past : length s < z .symbols + z .c13 → refused (told why.ModuleSizes) ≡ tablesArea z s
+    tables-past h = ap (mapReply (bytesAt s) same) (tables-of z s _ (span-past z s h₀ h₁ h))
+
+    pub lines-past : length s < z .symbols + z .c13 → refused (told why.ModuleSizes) ≡ linesArea z s
+    lines-past h = ap (mapReply (bytesAt s) same) (lines-of z s _ (span-past z s h₀ h₁ h))
 
   pub tables-c11 : 0 < z .c11 → gave [] ≡ tablesArea z s
   tables-c11 h = ap (mapReply (bytesAt s) same) (tables-of z s _ (span-c11 z s h₀ h))
@@ -128,23 +132,26 @@ module _ (z : ModuleSizes) (s : List ℕ) (h₀ : length s ≤ longest) where
   pub lines-c11 : 0 < z .c11 → refused (told why.OldFormat) ≡ linesArea z s
   lines-c11 h = ap (mapReply (bytesAt s) same) (lines-of z s _ (span-c11 z s h₀ h))
 
--- ---- THE LAW of every call on a part: y is the answer that says where the part is, and g what the call makes of its bytes. The part is lent from
--- its start on
+-- ---- THE LAW of a call on a module: y is what `tables_part` or `lines_part` answers. The bytes that are lent, from the part's start on, are the
+-- definition's area, and a refused part is the definition's refusal: so the area's own call on that part is the call on the module
 
-module _ {A : Type 0} (g : Reply (List ℕ) Told → A) (s : List ℕ) (x : Reply Span Told) where
-  pub of-part : {y : Part} {start len : ℕ} → y ≡ part.At start len → toldPart y ≡ x → g (gave (take (start + len - start) (drop start s))) ≡ g (mapReply (bytesAt s) same x)
-  of-part {y} {start} {len} h e =
-      ap (λ (k : ℕ). g (gave (take k (drop start s)))) (add-sub-cancel-left start len)
-      ∙ ap (λ (v : Reply Span Told). g (mapReply (bytesAt s) same v)) (ap toldPart (sym h) ∙ e)
+module _ (s : List ℕ) (x : Reply Span Told) where
+  lent : {y : Part} {start len : ℕ} → y ≡ part.At start len → toldPart y ≡ x → gave (take (start + len - start) (drop start s)) ≡ mapReply (bytesAt s) same x
+  lent {y} {start} {len} h e =
+      ap (λ (k : ℕ). gave (take k (drop start s))) (add-sub-cancel-left start len) ∙ ap (mapReply (bytesAt s) same) (ap toldPart (sym h) ∙ e)
 
-  pub of-refused : {y : Part} {r : Refusal} → y ≡ part.Refused r → toldPart y ≡ x → g (refused (told r)) ≡ g (mapReply (bytesAt s) same x)
-  of-refused h e = ap (λ (v : Reply Span Told). g (mapReply (bytesAt s) same v)) (ap toldPart (sym h) ∙ e)
+  not-lent : {y : Part} {r : Refusal} → y ≡ part.Refused r → toldPart y ≡ x → refused (told r) ≡ mapReply (bytesAt s) same x
+  not-lent h e = ap (mapReply (bytesAt s) same) (ap toldPart (sym h) ∙ e)
 
--- ---- the walk of a module's table is the walk of its area's: `right` says so of each area
+module _ (z : ModuleSizes) (s : List ℕ) {y : Part} where
+  pub tables-lent : {start len : ℕ} → y ≡ part.At start len → toldPart y ≡ tablesSpan z s → gave (take (start + len - start) (drop start s)) ≡ tablesArea z s
+  tables-lent = lent s (tablesSpan z s)
 
-module _ {S B : Type 0} (f : List ℕ → S → Answer S B Told) (l : List ℕ → Listing B Told) (w : S) (n : ℕ)
-    (right : (a : List ℕ) → calls (f a) n w ≡ replies n (l a)) where
-  pub walk-in : (x : Reply (List ℕ) Told) → calls (λ (v : S). stepInPart (λ (a : List ℕ). f a v) x) n w ≡ replies n (ofBody l x)
-  walk-in (gave a) = right a
-  walk-in nothing = calls-are (λ (v : S). none) (λ (v : S). ends) (λ v. refl) n w
-  walk-in (refused t) = calls-are (λ (v : S). refuses t) (λ (v : S). fails t) (λ v. refl) n w
+  pub tables-refused : {r : Refusal} → y ≡ part.Refused r → toldPart y ≡ tablesSpan z s → refused (told r) ≡ tablesArea z s
+  tables-refused = not-lent s (tablesSpan z s)
+
+  pub lines-lent : {start len : ℕ} → y ≡ part.At start len → toldPart y ≡ linesSpan z s → gave (take (start + len - start) (drop start s)) ≡ linesArea z s
+  lines-lent = lent s (linesSpan z s)
+
+  pub lines-refused : {r : Refusal} → y ≡ part.Refused r → toldPart y ≡ linesSpan z s → refused (told r) ≡ linesArea z s
+  lines-refused = not-lent s (linesSpan z s)

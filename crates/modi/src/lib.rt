@@ -1,8 +1,10 @@
 // A module's stream and its three sizes: symbols, then C11 lines or a C13 area (crate: `ModuleInfo`).
 //
 // The C13 area is the part of the stream behind the symbols; places in the answers of calls on it count from the area's start. A module with C11
-// lines has no area: its tables are empty and its lines are refused. Every call tests number 11 first, of the stream.
+// lines has no area: its tables are empty and its lines are refused. So a call on a module is the area's own call on the part that `tables_part` or
+// `lines_part` names. Every call tests number 11 first, of the stream.
 ghost use mathlib.Core.Path.{_≡_};
+ghost use Rattle.walk.specs.Pick.{orElse};
 ghost use Rattle.find.specs.Find.{heldSpan, HandsSpan};
 ghost use Rattle.find.specs.Told.{toldFound};
 ghost use Rattle.modi.specs.Modi.{moduleSpan, moduleSymbols, tablesSpan, linesSpan};
@@ -90,24 +92,30 @@ pub enum Part {
     Refused(Refusal),
 }
 
+// The part that is the area; the given one with C11 lines, where there is no area.
+fn part_of(area: Found, otherwise: Part) -> Part
+    ensures { λ r. ⌜ toldPart r ≡ orElse (toldFound area) (toldPart otherwise) ⌝ }
+{
+    match area {
+        Found::At { start, len } => Part::At { start, len },
+        Found::None => otherwise,
+        Found::Refused(why) => Part::Refused(why),
+    }
+}
+
 // For the tables: an empty part with C11 lines.
 pub fn tables_part(stream: &[u8], sizes: ModuleSizes) -> Part
     ensures { λ r. ⌜ toldPart r ≡ tablesSpan sizes (now (stream .entry)) ⌝ }
 {
-    match module_area(stream, sizes) {
-        Found::At { start, len } => Part::At { start, len },
-        Found::None => Part::At { start: 0, len: 0 },
-        Found::Refused(why) => Part::Refused(why),
-    }
+    part_of(module_area(stream, sizes), Part::At { start: 0, len: 0 })
 }
 
 // For lines and files: C11 lines are refused.
 pub fn lines_part(stream: &[u8], sizes: ModuleSizes) -> Part
     ensures { λ r. ⌜ toldPart r ≡ linesSpan sizes (now (stream .entry)) ⌝ }
 {
-    match module_area(stream, sizes) {
-        Found::At { start, len } => Part::At { start, len },
-        Found::None => Part::Refused(Refusal::OldFormat),
-        Found::Refused(why) => Part::Refused(why),
-    }
+    part_of(
+        module_area(stream, sizes),
+        Part::Refused(Refusal::OldFormat),
+    )
 }

@@ -14,11 +14,20 @@ use exports::Count;
 use exports::CrossModuleExport;
 use exports::ExportStep;
 use exports::Lookup;
+use exports::export_count;
+use exports::next_export;
+use exports::resolve_export;
 use files::FileAnswer;
 use files::FileStep;
+use files::checksum_bytes;
+use files::file_at;
+use files::next_file;
 use imports::ImportStep;
 use imports::Resolved;
+use imports::next_import;
+use imports::resolve_import;
 use inlinees::InlineeStep;
+use inlinees::next_inlinee;
 use libc::STDIN_FILENO;
 use libc::STDOUT_FILENO;
 use line_record::Column;
@@ -27,23 +36,15 @@ use line_record::LineKind;
 use line_record::LineRecord;
 use line_step::LineWalk;
 use line_walk::LineStep;
+use line_walk::next_line;
 use modi::ModuleSizes;
+use modi::Part;
 use modi::SymbolsAnswer;
+use modi::lines_part;
 use modi::module_symbols;
-use modi_lines::module_checksum_bytes;
-use modi_lines::module_file_at;
-use modi_lines::module_lines_for_symbol;
-use modi_lines::module_next_file;
-use modi_lines::module_next_line;
-use modi_lines::module_order_list;
-use modi_tables::module_export_count;
-use modi_tables::module_next_export;
-use modi_tables::module_next_import;
-use modi_tables::module_next_inlinee;
-use modi_tables::module_resolve_export;
-use modi_tables::module_resolve_import;
-use modi_tables::module_word;
+use modi::tables_part;
 use order::Ordered;
+use order::order_list;
 use refusal::Refusal;
 use std::num::wrapping_add_u8;
 use strings::NameAnswer;
@@ -52,8 +53,10 @@ use strings::name_at;
 use strings::name_bytes;
 use strings::string_table;
 use symbol_lines::SymbolLines;
+use symbol_lines::lines_for_symbol;
 use table::TableWalk;
 use table::WordAnswer;
+use table::word_in;
 use word::u8_at;
 use word::u16_at;
 use word::u32_at;
@@ -248,9 +251,9 @@ fn record(r: LineRecord) {
     put(b'\n');
 }
 
-fn checksum(stream: &[u8], sizes: ModuleSizes, kind: ChecksumKind, start: usize, len: usize) {
+fn checksum(area: &[u8], kind: ChecksumKind, start: usize, len: usize) {
     spaced_term(wrapping_add_u8(NONE, kind_number(kind)));
-    bytes_text(module_checksum_bytes(stream, sizes, start, len));
+    bytes_text(checksum_bytes(area, start, len));
 }
 
 // What is asked, at the head of a line.
@@ -265,6 +268,13 @@ fn head(call: Call) {
     }
 }
 
+// A call that is refused.
+fn refused_line(call: Call, why: Refusal) {
+    head(call);
+    refused(why);
+    put(b'\n');
+}
+
 // ---- walks, a line for each step. A proved loop has to end, so it counts its turns down, from a number that no run uses up.
 
 // What a step over a table leaves to do.
@@ -274,8 +284,8 @@ enum Next {
     Refused(Refusal),
 }
 
-fn file_step(stream: &[u8], sizes: ModuleSizes, number: u8, walk: TableWalk) -> Next {
-    match module_next_file(stream, sizes, walk) {
+fn file_step(area: &[u8], number: u8, walk: TableWalk) -> Next {
+    match next_file(area, walk) {
         FileStep::File {
             index,
             name,
@@ -287,7 +297,7 @@ fn file_step(stream: &[u8], sizes: ModuleSizes, number: u8, walk: TableWalk) -> 
             term(number);
             spaced(index as u64);
             spaced(name as u64);
-            checksum(stream, sizes, kind, start, len);
+            checksum(area, kind, start, len);
             put(b'\n');
             Next::On(next)
         }
@@ -311,7 +321,7 @@ fn word_text(answer: WordAnswer, in_hex: bool) {
 }
 
 // The words of a record, by their place and number.
-fn words(stream: &[u8], sizes: ModuleSizes, at: usize, count: usize, in_hex: bool) {
+fn words(area: &[u8], at: usize, count: usize, in_hex: bool) {
     if count == 0 {
         dash();
     } else {
@@ -322,14 +332,14 @@ fn words(stream: &[u8], sizes: ModuleSizes, at: usize, count: usize, in_hex: boo
         if 0 < i {
             put(b',');
         }
-        word_text(module_word(stream, sizes, at, count, i), in_hex);
+        word_text(word_in(area, at, count, i), in_hex);
         i += 1;
     }
     put(b'\n');
 }
 
-fn inlinee_step(stream: &[u8], sizes: ModuleSizes, number: u8, walk: TableWalk) -> Next {
-    match module_next_inlinee(stream, sizes, walk) {
+fn inlinee_step(area: &[u8], number: u8, walk: TableWalk) -> Next {
+    match next_inlinee(area, walk) {
         InlineeStep::Inlinee {
             inlinee,
             file,
@@ -342,7 +352,7 @@ fn inlinee_step(stream: &[u8], sizes: ModuleSizes, number: u8, walk: TableWalk) 
             spaced(inlinee as u64);
             spaced(file as u64);
             spaced(line as u64);
-            words(stream, sizes, extra, count, false);
+            words(area, extra, count, false);
             Next::On(next)
         }
         InlineeStep::None => Next::Over,
@@ -350,8 +360,8 @@ fn inlinee_step(stream: &[u8], sizes: ModuleSizes, number: u8, walk: TableWalk) 
     }
 }
 
-fn import_step(stream: &[u8], sizes: ModuleSizes, number: u8, walk: TableWalk) -> Next {
-    match module_next_import(stream, sizes, walk) {
+fn import_step(area: &[u8], number: u8, walk: TableWalk) -> Next {
+    match next_import(area, walk) {
         ImportStep::Module {
             name,
             words: at,
@@ -361,7 +371,7 @@ fn import_step(stream: &[u8], sizes: ModuleSizes, number: u8, walk: TableWalk) -
             if number == IMPORT {
                 term(number);
                 spaced(name as u64);
-                words(stream, sizes, at, count, true);
+                words(area, at, count, true);
             }
             Next::On(next)
         }
@@ -384,8 +394,8 @@ fn export_text(export: CrossModuleExport) {
     }
 }
 
-fn export_step(stream: &[u8], sizes: ModuleSizes, number: u8, walk: TableWalk) -> Next {
-    match module_next_export(stream, sizes, walk) {
+fn export_step(area: &[u8], number: u8, walk: TableWalk) -> Next {
+    match next_export(area, walk) {
         ExportStep::Export { export, next } => {
             term(number);
             export_text(export);
@@ -396,20 +406,20 @@ fn export_step(stream: &[u8], sizes: ModuleSizes, number: u8, walk: TableWalk) -
     }
 }
 
-fn table_step(stream: &[u8], sizes: ModuleSizes, number: u8, walk: TableWalk) -> Next {
+fn table_step(area: &[u8], number: u8, walk: TableWalk) -> Next {
     match number {
-        FILE => file_step(stream, sizes, number, walk),
-        INLINEE => inlinee_step(stream, sizes, number, walk),
-        EXPORT => export_step(stream, sizes, number, walk),
-        _ => import_step(stream, sizes, number, walk),
+        FILE => file_step(area, number, walk),
+        INLINEE => inlinee_step(area, number, walk),
+        EXPORT => export_step(area, number, walk),
+        _ => import_step(area, number, walk),
     }
 }
 
-fn table_walk(stream: &[u8], sizes: ModuleSizes, number: u8) {
+fn table_walk(area: &[u8], number: u8) {
     let mut walk = TableWalk::New;
     let mut turns = u64::MAX;
     while turns > 0 {
-        match table_step(stream, sizes, number, walk) {
+        match table_step(area, number, walk) {
             Next::On(next) => {
                 walk = next;
             }
@@ -461,12 +471,12 @@ fn sub_walk(area: &[u8]) {
     }
 }
 
-fn line_walk(stream: &[u8], sizes: ModuleSizes, slots: &[u32], call: Call, first: LineWalk) {
+fn line_walk(area: &[u8], slots: &[u32], call: Call, first: LineWalk) {
     let mut walk = first;
     let mut turns = u64::MAX;
     while turns > 0 {
         head(call);
-        match module_next_line(stream, sizes, slots, walk) {
+        match next_line(area, slots, walk) {
             LineStep::Line(r, next) => {
                 record(r);
                 walk = next;
@@ -486,20 +496,16 @@ fn line_walk(stream: &[u8], sizes: ModuleSizes, slots: &[u32], call: Call, first
 }
 
 // No case has as many line subsections as there are slots here.
-fn lines(stream: &[u8], sizes: ModuleSizes, call: Call) {
+fn lines(area: &[u8], call: Call) {
     let mut slots = [0u32; 256];
-    module_order_list(stream, sizes, &mut slots);
+    order_list(area, &mut slots);
     if call.number == LINE {
-        line_walk(stream, sizes, &slots, call, LineWalk::New);
+        line_walk(area, &slots, call, LineWalk::New);
         return;
     }
-    match module_lines_for_symbol(stream, sizes, &slots, call.section, call.word) {
-        SymbolLines::Lines(walk) => line_walk(stream, sizes, &slots, call, walk),
-        SymbolLines::Refused(why) => {
-            head(call);
-            refused(why);
-            put(b'\n');
-        }
+    match lines_for_symbol(area, &slots, call.section, call.word) {
+        SymbolLines::Lines(walk) => line_walk(area, &slots, call, walk),
+        SymbolLines::Refused(why) => refused_line(call, why),
     }
 }
 
@@ -521,9 +527,9 @@ fn slots_text(slots: &[u32], n: usize) {
 }
 
 // The order list, or whether there is one.
-fn order_answer(stream: &[u8], sizes: ModuleSizes, listed: bool) {
+fn order_answer(area: &[u8], listed: bool) {
     let mut slots = [0u32; 256];
-    match module_order_list(stream, sizes, &mut slots) {
+    match order_list(area, &mut slots) {
         Ordered::Lines(n) => {
             if listed {
                 slots_text(&slots, n);
@@ -542,8 +548,8 @@ fn symbols_answer(stream: &[u8], sizes: ModuleSizes) {
     }
 }
 
-fn file_answer(stream: &[u8], sizes: ModuleSizes, index: u32) {
-    match module_file_at(stream, sizes, index) {
+fn file_answer(area: &[u8], index: u32) {
+    match file_at(area, index) {
         FileAnswer::File {
             name,
             kind,
@@ -551,14 +557,14 @@ fn file_answer(stream: &[u8], sizes: ModuleSizes, index: u32) {
             len,
         } => {
             spaced(name as u64);
-            checksum(stream, sizes, kind, start, len);
+            checksum(area, kind, start, len);
         }
         FileAnswer::Refused(why) => refused(why),
     }
 }
 
-fn reference_answer(stream: &[u8], sizes: ModuleSizes, index: u32) {
-    match module_resolve_import(stream, sizes, index) {
+fn reference_answer(area: &[u8], index: u32) {
+    match resolve_import(area, index) {
         Resolved::Ref { name, word } => {
             spaced(name as u64);
             spaced_hex(word as u64);
@@ -567,15 +573,15 @@ fn reference_answer(stream: &[u8], sizes: ModuleSizes, index: u32) {
     }
 }
 
-fn count_answer(stream: &[u8], sizes: ModuleSizes) {
-    match module_export_count(stream, sizes) {
+fn count_answer(area: &[u8]) {
+    match export_count(area) {
         Count::Exports(n) => spaced(n as u64),
         Count::Refused(why) => refused(why),
     }
 }
 
-fn export_answer(stream: &[u8], sizes: ModuleSizes, local: u32) {
-    match module_resolve_export(stream, sizes, local) {
+fn export_answer(area: &[u8], local: u32) {
+    match resolve_export(area, local) {
         Lookup::Global(global) => spaced_hex(global as u64),
         Lookup::None => spaced_term(NONE),
         Lookup::Refused(why) => refused(why),
@@ -598,30 +604,68 @@ fn name_answer(stream: &[u8], offset: u32) {
 
 // ---- cases
 
-fn one_line(stream: &[u8], sizes: ModuleSizes, call: Call) {
+// The answers of one line, of an area.
+fn area_line(area: &[u8], call: Call) {
     let number = call.number;
     head(call);
     match number {
-        ORDER => order_answer(stream, sizes, true),
-        PROGRAM => order_answer(stream, sizes, false),
+        ORDER => order_answer(area, true),
+        PROGRAM => order_answer(area, false),
+        INFO => file_answer(area, call.word),
+        RESOLVE => reference_answer(area, call.word),
+        EXPORTS => count_answer(area),
+        _ => export_answer(area, call.word),
+    }
+    put(b'\n');
+}
+
+// The answers of one line, of a stream as a whole: a module's, or a string table.
+fn stream_line(stream: &[u8], sizes: ModuleSizes, call: Call) {
+    let number = call.number;
+    head(call);
+    match number {
         SYMBOLS => symbols_answer(stream, sizes),
-        INFO => file_answer(stream, sizes, call.word),
-        RESOLVE => reference_answer(stream, sizes, call.word),
-        EXPORTS => count_answer(stream, sizes),
-        LOOKUP => export_answer(stream, sizes, call.word),
         TABLE => table_answer(stream),
         _ => name_answer(stream, call.word),
     }
     put(b'\n');
 }
 
+// The answer of a call on an area.
+fn area_answer(area: &[u8], call: Call) {
+    let number = call.number;
+    match number {
+        LINE | SYM => lines(area, call),
+        FILE | INLINEE | IMPORT | IMPORT_REFUSED | EXPORT => table_walk(area, number),
+        _ => area_line(area, call),
+    }
+}
+
+// A call on a module's tables, as one on the part of its stream that they are read from.
+fn on_tables_part(stream: &[u8], sizes: ModuleSizes, call: Call) {
+    match tables_part(stream, sizes) {
+        Part::At { start, len } => area_answer(&stream[start..start + len], call),
+        Part::Refused(why) => refused_line(call, why),
+    }
+}
+
+// A call on a module's lines or files, as one on the part of its stream that they are read from.
+fn on_lines_part(stream: &[u8], sizes: ModuleSizes, call: Call) {
+    match lines_part(stream, sizes) {
+        Part::At { start, len } => area_answer(&stream[start..start + len], call),
+        Part::Refused(why) => refused_line(call, why),
+    }
+}
+
 fn answer(stream: &[u8], sizes: ModuleSizes, call: Call) {
     let number = call.number;
     match number {
         SUB => sub_walk(stream),
-        LINE | SYM => lines(stream, sizes, call),
-        FILE | INLINEE | IMPORT | IMPORT_REFUSED | EXPORT => table_walk(stream, sizes, number),
-        _ => one_line(stream, sizes, call),
+        ORDER | FILE | LINE | PROGRAM | INFO | SYM => on_lines_part(stream, sizes, call),
+        INLINEE | IMPORT | IMPORT_REFUSED | EXPORT | EXPORTS | RESOLVE | LOOKUP => {
+            on_tables_part(stream, sizes, call)
+        }
+        _ => stream_line(stream, sizes, call),
     }
 }
 

@@ -1,8 +1,7 @@
--- `modi::tables_part` meets its contract: each arm is a case of `tablesSpan`.
+-- `modi::tables_part` meets its contract: the part that `part_of` picks is that of `tablesSpan`.
 -- Assumes nothing.
 use borrow.Author.Needs.{needs}
-use mathlib.Core.Path.{sym, ap, _∙_}
-use Rattle.find.specs.Told.{toldFound}
+use mathlib.Core.Path.{_∙_}
 use Rattle.modi.specs.ModiLaws.{tables-of}
 use Rattle.modi.proofs.tables_part.Statement.{statement}
 use Rattle.modi.proofs.tables_part.Tie as tie
@@ -12,9 +11,5 @@ tables-part-spec =
     tie.close
     (tie.spec
     (λ c κs. search needs)
-    (λ c. search needs)
-    (λ c. search needs)
-    (λ c. search needs)
-    (λ c. tables-of _ _ _ (ap toldFound (sym (c .before .start .given .1)) ∙ c .before .before .before .module-area .ensures))
-    (λ c. tables-of _ _ _ (ap toldFound (sym (c .enum-told .given .1)) ∙ c .before .before .module-area .ensures))
-    (λ c. tables-of _ _ _ (ap toldFound (sym (c .before .why .given .1)) ∙ c .before .before .before .module-area .ensures)))
+    (λ c κs. search needs)
+    (λ c. c .part-of .ensures ∙ tables-of _ _ _ (c .before .module-area .ensures)))

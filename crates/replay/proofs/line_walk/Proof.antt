@@ -5,10 +5,10 @@ use Rattle.replay.proofs.line_walk.Statement.{statement}
 use Rattle.replay.proofs.line_walk.Tie as tie
 
 abbrev Inv-loop : tie.InvT-loop
-Inv-loop stream sizes slots call walk₀ turns₀ walk turns = Unit {0}
+Inv-loop area slots call walk₀ turns₀ walk turns = Unit {0}
 
 abbrev μ-loop : tie.MeasureT-loop
-μ-loop stream sizes slots call walk₀ turns₀ walk turns = turns
+μ-loop area slots call walk₀ turns₀ walk turns = turns
 
 pub line-walk-spec : {M : Type 1} → statement M
 line-walk-spec =

@@ -5,10 +5,10 @@ use Rattle.replay.proofs.table_walk.Statement.{statement}
 use Rattle.replay.proofs.table_walk.Tie as tie
 
 abbrev Inv-loop : tie.InvT-loop
-Inv-loop stream sizes number walk₀ turns₀ walk turns = Unit {0}
+Inv-loop area number walk₀ turns₀ walk turns = Unit {0}
 
 abbrev μ-loop : tie.MeasureT-loop
-μ-loop stream sizes number walk₀ turns₀ walk turns = turns
+μ-loop area number walk₀ turns₀ walk turns = turns
 
 pub table-walk-spec : {M : Type 1} → statement M
 table-walk-spec =

@@ -6,10 +6,10 @@ use Rattle.replay.proofs.words.Statement.{statement}
 use Rattle.replay.proofs.words.Tie as tie
 
 abbrev Inv-loop : tie.InvT-loop
-Inv-loop stream sizes at count in-hex i₀ i = Unit {0}
+Inv-loop area at count in-hex i₀ i = Unit {0}
 
 abbrev μ-loop : tie.MeasureT-loop
-μ-loop stream sizes at count in-hex i₀ i = count - i
+μ-loop area at count in-hex i₀ i = count - i
 
 pub words-spec : {M : Type 1} → statement M
 words-spec =
