@@ -66,7 +66,7 @@ pub enum BlockStep {
 }
 
 // The bytes of a block's lines and columns.
-fn line_bytes(columns: bool, count: u32) -> usize
+pub fn line_bytes(columns: bool, count: u32) -> usize
     ensures { λ r. ⌜ r ≡ lineBytes columns count ⌝ }
 {
     if columns {

@@ -15,7 +15,7 @@ use Rattle.refusal.specs.Told.{Told, told, longest}
 use Rattle.refusal.specs.declared.Refusal.the-variants as why
 use Rattle.area.specs.Parts.{Parts, parts}
 use Rattle.area.specs.Kind.{Sort, known}
-use Rattle.body.specs.Lines.{lineHead, columned, lineBytes, Block, blockBite}
+use Rattle.body.specs.Lines.{lineHeadSize, lineHead, columned, lineBytes, Block, blockHeadSize, blockBite}
 use Rattle.body.specs.Checksums.{Checksum, checksumBite}
 use Rattle.body.specs.Inlinees.{extended, inlineeBite}
 use Rattle.body.specs.Imports.{moduleBite}
@@ -32,7 +32,7 @@ strict t (fail r) = fail r
 
 -- a block's size counts its header, its lines and its columns, and nothing else
 abbrev pub blockFilled : Bool → List ℕ → Bool
-blockFilled c s = eqb (u32At s 8) (12 + lineBytes c (u32At s 4))
+blockFilled c s = eqb (u32At s 8) (blockHeadSize + lineBytes c (u32At s 4))
 
 abbrev pub plainBlock : Bool → List ℕ → Move (List ℕ) Block Told
 plainBlock c s = strict (blockFilled c s) (blockBite c s)
@@ -73,7 +73,8 @@ marked false m = none
 
 unfoldable pub linesMark : List ℕ → Option ℕ
 linesMark b =
-    cond (ltb (length b) 12) none (marked (wholly (plainBlock (columned (lineHead b .flags))) (drop 12 b)) (lineHead b .flags % 2))
+    cond (ltb (length b) lineHeadSize) none
+    (marked (wholly (plainBlock (columned (lineHead b .flags))) (drop lineHeadSize b)) (lineHead b .flags % 2))
 
 unfoldable pub inlineesMark : List ℕ → Option ℕ
 inlineesMark b =

@@ -6,7 +6,6 @@ ghost use mathlib.Core.Path.{_≡_};
 ghost use mathlib.Core.Option.{none};
 ghost use Prim.Native.Nat.{_+_, _<_};
 ghost use lib.ListN.{length, drop};
-ghost use Rattle.body.specs.Lines.{lineBytes};
 ghost use Rattle.body.specs.Inlinees.{inlineeBite};
 ghost use Rattle.body.specs.Imports.{moduleBite};
 ghost use Rattle.body.specs.Exports.{pairs};
@@ -14,6 +13,9 @@ ghost use Rattle.plain.specs.Plain.{sizeOf, plainBlock, plainChecksum, a
 ghost use Rattle.plain.specs.WalkLaws.{stride};
 ghost use Rattle.plain.specs.ScanLaws.{strideOf, whollyOf};
 ghost use Rattle.plain.specs.Told.{toldMark, toldPlain};
+use lines::BLOCK_HEAD;
+use lines::LINE_HEAD;
+use lines::line_bytes;
 use refusal::LONGEST;
 use word::u8_at;
 use word::u16_at;
@@ -31,28 +33,18 @@ pub enum PlainAnswer {
     No,
 }
 
-// The bytes of n lines and their columns.
-fn line_bytes(columns: bool, n: u32) -> usize
-    ensures { λ r. ⌜ r ≡ lineBytes columns n ⌝ }
-{
-    if columns {
-        return 8 * (n as usize) + 4 * (n as usize);
-    }
-    8 * (n as usize)
-}
-
 // How far the block at i goes, 0 where none of plain form stands there. So do the next three.
 fn block_at(body: &[u8], i: usize, columns: bool) -> usize
     requires { ⌜ i < length (now body) ⌝ }
     ensures { λ r. ⌜ r ≡ stride (drop i (now (body .entry))) (plainBlock columns (drop i (now (body .entry)))) ⌝ }
 {
     let left = body.len() - i;
-    if left < 12 {
+    if left < BLOCK_HEAD {
         return 0;
     }
     let n = u32_at(body, i + 4);
     let size = u32_at(body, i + 8) as usize;
-    if size != 12 + line_bytes(columns, n) {
+    if size != BLOCK_HEAD + line_bytes(columns, n) {
         return 0;
     }
     if left < size {
@@ -205,11 +197,14 @@ fn mark_if(fine: bool, mark: u64) -> Mark
 fn lines_mark(body: &[u8]) -> Mark
     ensures { λ r. ⌜ toldMark r ≡ linesMark (now (body .entry)) ⌝ }
 {
-    if body.len() < 12 {
+    if body.len() < LINE_HEAD {
         return Mark::Bad;
     }
     let flag = u16_at(body, 6) % 2;
-    mark_if(whole(&body[12..], Records::Blocks(flag == 1)), flag as u64)
+    mark_if(
+        whole(&body[LINE_HEAD..], Records::Blocks(flag == 1)),
+        flag as u64,
+    )
 }
 
 fn inlinees_mark(body: &[u8]) -> Mark

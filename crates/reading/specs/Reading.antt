@@ -15,7 +15,7 @@ use Rattle.refusal.specs.declared.Refusal.the-variants as why
 use Rattle.area.specs.Parts.{Raw}
 use Rattle.area.specs.Kind.{Sort}
 use Rattle.area.specs.Subs.{Sub, subsFrom}
-use Rattle.body.specs.Lines.{LineHead, lineHead, columned, Block, blocks}
+use Rattle.body.specs.Lines.{LineHead, lineHeadSize, lineHead, columned, Block, blocks}
 use Rattle.body.specs.Checksums.{Checksum, checksums}
 use Rattle.body.specs.Inlinees.{Inlinee, extended, inlinees}
 use Rattle.body.specs.Imports.{Module, modules}
@@ -58,8 +58,8 @@ each f = mapped f (λ (t : Told). t)
 -- what each typed body is read as
 unfoldable pub linesItems : List ℕ → Items
 linesItems b =
-    cond (ltb (length b) 12) (fails (told why.Cut))
-    (more (openLines (lineHead b)) (each block (blocks (columned (lineHead b .flags)) (drop 12 b))))
+    cond (ltb (length b) lineHeadSize) (fails (told why.Cut))
+    (more (openLines (lineHead b)) (each block (blocks (columned (lineHead b .flags)) (drop lineHeadSize b))))
 
 unfoldable pub checksumsItems : List ℕ → Items
 checksumsItems b = more openChecksums (each checksum (checksums b))

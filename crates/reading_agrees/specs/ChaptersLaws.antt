@@ -20,7 +20,7 @@ use Rattle.area.specs.Parts.{Raw}
 use Rattle.area.specs.Subs.{Sub, subsFrom}
 use Rattle.area.specs.SubsLaws.{bodied}
 use Rattle.find.specs.Find.{same, is}
-use Rattle.body.specs.Lines.{lineHead, columned, blocks}
+use Rattle.body.specs.Lines.{lineHeadSize, lineHead, columned, blocks}
 use Rattle.body.specs.Checksums.{checksums}
 use Rattle.body.specs.Inlinees.{extended, inlinees}
 use Rattle.body.specs.Imports.{modules}
@@ -50,7 +50,7 @@ all-records f h (fails t) = tt
 
 lines-opened : (b : List ℕ) → Opened 0xf2 (linesItems b)
 unfolding linesItems
-lines-opened b = by-cases (Opened 0xf2) (ltb (length b) 12) (λ e. tt) (λ e. (refl, (λ w. refl), all-records block (λ x. refl) (blocks (columned (lineHead b .flags)) (drop 12 b))))
+lines-opened b = by-cases (Opened 0xf2) (ltb (length b) lineHeadSize) (λ e. tt) (λ e. (refl, (λ w. refl), all-records block (λ x. refl) (blocks (columned (lineHead b .flags)) (drop lineHeadSize b))))
 
 inlinees-opened : (b : List ℕ) → Opened 0xf6 (inlineesItems b)
 unfolding inlineesItems

@@ -23,7 +23,7 @@ use Rattle.find.specs.Find.{same, Span, is, spanOf, firstSub, lastSub, bytesAt,
 use Rattle.table.specs.Table.{tableOf}
 use Rattle.table.specs.Whole.{ofBody}
 use Rattle.table.specs.CollectLaws.{mapped-same, mapped-mapped}
-use Rattle.body.specs.Lines.{lineHead, columned, blocks}
+use Rattle.body.specs.Lines.{lineHeadSize, lineHead, columned, blocks}
 use Rattle.body.specs.Checksums.{checksums}
 use Rattle.body.specs.Imports.{modules}
 use Rattle.body.specs.Exports.{pairs}
@@ -117,9 +117,9 @@ of-body f list (refused t) = refl
 
 -- ---- THE THEOREMS
 
--- what a line body of at least 12 bytes is read as
+-- what a line body that has its header is read as
 abbrev pub lineItems : List ℕ → Items
-lineItems b = more (openLines (lineHead b)) (each block (blocks (columned (lineHead b .flags)) (drop 12 b)))
+lineItems b = more (openLines (lineHead b)) (each block (blocks (columned (lineHead b .flags)) (drop lineHeadSize b)))
 
 module _ (rule : ℕ → Sort) (s : List ℕ) (h : Whole (reading rule s)) where
   -- the pairs that exports are made of are the records of the first export subsection
@@ -146,13 +146,13 @@ module _ (rule : ℕ → Sort) (s : List ℕ) (h : Whole (reading rule s)) where
   items = subItems s
 
   abbrev Headed : Sub → Type 0
-  Headed b = is 0xf2 b ≡ true → 12 ≤ b .len
+  Headed b = is 0xf2 b ≡ true → lineHeadSize ≤ b .len
 
-  whole-head : (b : List ℕ) → Whole (linesItems b) → 12 ≤ length b
+  whole-head : (b : List ℕ) → Whole (linesItems b) → lineHeadSize ≤ length b
   unfolding linesItems failure
   whole-head b =
-      by-cases (λ (l : Items). Whole l → 12 ≤ length b) (ltb (length b) 12)
-      (λ e q. let z : _≡_ {A = ℕ} 0 1 = cc in absurd (omega arith)) (λ e q. ltb-false (length b) 12 e)
+      by-cases (λ (l : Items). Whole l → lineHeadSize ≤ length b) (ltb (length b) lineHeadSize)
+      (λ e q. let z : _≡_ {A = ℕ} 0 1 = cc in absurd (omega arith)) (λ e q. ltb-false (length b) lineHeadSize e)
 
   lines-right : (k : ℕ) (b : List ℕ) → eqb k 0xf2 ≡ true → itemsOf (record { kind = k; body = b }) ≡ linesItems b
   unfolding itemsOf
@@ -174,9 +174,9 @@ module _ (rule : ℕ → Sort) (s : List ℕ) (h : Whole (reading rule s)) where
   unfolding headed only
   all-headed (more b l) q = go (is 0xf2 b) (q .0) (all-headed l (q .1))
     where
-      go : (t : Bool) → (t ≡ true → 12 ≤ b .len) → headed (only (is 0xf2) l) ≡ only (is 0xf2) l
+      go : (t : Bool) → (t ≡ true → lineHeadSize ≤ b .len) → headed (only (is 0xf2) l) ≡ only (is 0xf2) l
           → headed (cond t (more b (only (is 0xf2) l)) (only (is 0xf2) l)) ≡ cond t (more b (only (is 0xf2) l)) (only (is 0xf2) l)
-      go true f e = rw (le-ltb (b .len) 12 (f refl)) (ap (more b) e)
+      go true f e = rw (le-ltb (b .len) lineHeadSize (f refl)) (ap (more b) e)
       go false f e = e
   all-headed ends q = refl
   all-headed (fails t) q = refl
@@ -186,9 +186,9 @@ module _ (rule : ℕ → Sort) (s : List ℕ) (h : Whole (reading rule s)) where
 
   -- ---- so a line subsection has its header and its blocks
 
-  body-items : (b : List ℕ) → 12 ≤ length b → linesItems b ≡ lineItems b
+  body-items : (b : List ℕ) → lineHeadSize ≤ length b → linesItems b ≡ lineItems b
   unfolding linesItems
-  body-items b l = rw (le-ltb (length b) 12 l)
+  body-items b l = rw (le-ltb (length b) lineHeadSize l)
 
   line-items : (b : Sub) → Whole (items b) → is 0xf2 b ≡ true → items b ≡ lineItems (bytesAt s (spanOf b))
   line-items b q e =

@@ -17,7 +17,7 @@ use Rattle.table.specs.WordsLaws.{words-part}
 use Rattle.refusal.specs.Told.{Told}
 use Rattle.find.specs.Find.{same}
 use Rattle.body.specs.Words.{wordsIn}
-use Rattle.body.specs.Lines.{lineHead, columned, columnsOf, lineBytes, blocks}
+use Rattle.body.specs.Lines.{lineHeadSize, lineHead, columned, columnsOf, lineBytes, blocks}
 use Rattle.body.specs.Checksums.{checksums}
 use Rattle.body.specs.Inlinees.{extended, inlinees}
 use Rattle.body.specs.Imports.{modules}
@@ -68,14 +68,14 @@ records-step typed.Exports b start p = as-items exports (pairsFrom b) (pairsFrom
 
 -- the records of a body b as the reading has them, and where the first stands
 abbrev pub meant : TypedBody → List ℕ → Items
-meant typed.Lines b = each reading.block (blocks (columned (lineHead b .flags)) (drop 12 b))
+meant typed.Lines b = each reading.block (blocks (columned (lineHead b .flags)) (drop lineHeadSize b))
 meant typed.Checksums b = each reading.checksum (checksums b)
 meant typed.Inlinees b = each reading.inlinee (inlinees (extended (u32At b 0)) (drop 4 b))
 meant typed.Imports b = each reading.imports (modules b)
 meant typed.Exports b = each reading.exports (pairs b)
 
 abbrev pub firstAt : TypedBody → ℕ
-firstAt typed.Lines = 12
+firstAt typed.Lines = lineHeadSize
 firstAt typed.Checksums = 0
 firstAt typed.Inlinees = 4
 firstAt typed.Imports = 0
@@ -133,10 +133,10 @@ module _ (s : List ℕ) (start : ℕ) (b : List ℕ) (here : b ≡ take (length 
   pub records-mean : (k : TypedBody) → firstAt k ≤ length b → shown s (recordsFrom k b start (firstAt k)) ≡ meant k b
   records-mean typed.Lines h =
       let c = withColumns b in
-      let l = blocksFrom c b 12 in
+      let l = blocksFrom c b lineHeadSize in
       mapped-is (λ (k : LineBlock). k .start + lineBytes c (k .count) ≤ length b) (blockItem b start) (itemOf s) (λ (k : LineBlock). reading.block (worded c b k)) block-means l (blocks-inside c b 12)
       ∙ sym (mapped-mapped reading.block (worded c b) l)
-      ∙ ap (each reading.block) (blocks-are c b 12 h)
+      ∙ ap (each reading.block) (blocks-are c b lineHeadSize h)
   records-mean typed.Checksums h =
       mapped-mapped (itemOf s) (checksumItem b start) (entriesFrom b 0) ∙ entries-as b (λ (e : Entry). itemOf s (checksumItem b start e)) reading.checksum checksum-means
   records-mean typed.Inlinees h =

@@ -16,7 +16,7 @@ use Rattle.area.specs.Kind.{Sort}
 use Rattle.area.specs.Subs.{Sub, subsFrom}
 use Rattle.area.specs.SubsLaws.{Inside, subs-inside}
 use Rattle.find.specs.Find.{same}
-use Rattle.body.specs.Lines.{lineHead}
+use Rattle.body.specs.Lines.{lineHeadSize, lineHead}
 use Rattle.reading.specs.Reading.{Items, linesItems, checksumsItems, inlineesItems, importsItems, exportsItems, itemsOf, subItems, reading}
 use Rattle.reading.specs.Reading as reading
 use Rattle.reading_record.specs.Item.{itemOf}
@@ -41,8 +41,8 @@ module _ (rule : ℕ → Sort) (s : List ℕ) where
     lines-mean : opens (linesOpened b start) ≡ linesItems b
     unfolding linesOpened linesItems
     lines-mean =
-        both-ways opens (ltb (length b) 12) (λ e. refl)
-        (λ e. ap (more (reading.openLines (lineHead b))) (into typed.Lines (ltb-false (length b) 12 e)))
+        both-ways opens (ltb (length b) lineHeadSize) (λ e. refl)
+        (λ e. ap (more (reading.openLines (lineHead b))) (into typed.Lines (ltb-false (length b) lineHeadSize e)))
 
     inlinees-mean : opens (inlineesOpened b start) ≡ inlineesItems b
     unfolding inlineesOpened inlineesItems

@@ -13,7 +13,7 @@ use Rattle.refusal.specs.declared.Refusal.the-variants as why
 use Rattle.area.specs.Kind.{Sort}
 use Rattle.area.specs.Subs.{Sub, stepAt}
 use Rattle.table.specs.Table.{Place, spotIn}
-use Rattle.body.specs.Lines.{lineHead}
+use Rattle.body.specs.Lines.{lineHeadSize, lineHead}
 use Rattle.reading_record.specs.Item.{ToldItem, openLines, openChecksums, openInlinees, openImports, openExports, opaque}
 use Rattle.reading_record.specs.Record.{ItemAnswer, recordAt}
 use Rattle.reading_record.specs.declared.ItemWalk.{ItemWalk}
@@ -24,8 +24,8 @@ use Rattle.reading_record.specs.declared.TypedBody.the-variants as typed
 -- what opens a body b that starts at a place of the area
 unfoldable pub linesOpened : List ℕ → ℕ → ItemAnswer
 linesOpened b start =
-    cond (ltb (length b) 12) (refuses (told why.Cut))
-    (gives (openLines (lineHead b)) (walk.In typed.Lines start (length b) 12))
+    cond (ltb (length b) lineHeadSize) (refuses (told why.Cut))
+    (gives (openLines (lineHead b)) (walk.In typed.Lines start (length b) lineHeadSize))
 
 unfoldable pub inlineesOpened : List ℕ → ℕ → ItemAnswer
 inlineesOpened b start =

@@ -15,7 +15,7 @@ use Rattle.area.specs.Kind.{Sort}
 use Rattle.area.specs.Subs.{Sub, stepAt}
 use Rattle.area.specs.SubsLaws.{sub-next}
 use Rattle.table.specs.Table.{Place, spotIn}
-use Rattle.body.specs.Lines.{LineHead, lineHead}
+use Rattle.body.specs.Lines.{LineHead, lineHeadSize, lineHead}
 use Rattle.reading_record.specs.Item.{ToldItem, openLines, openChecksums, openInlinees, openImports, openExports, opaque}
 use Rattle.reading_record.specs.Record.{ItemAnswer, recordAt, inWalk, recordInBody}
 use Rattle.reading_record.specs.declared.ItemWalk.{ItemWalk}
@@ -25,11 +25,11 @@ use Rattle.reading_record.specs.declared.TypedBody.the-variants as typed
 use Rattle.reading_walk.specs.Step.{linesOpened, inlineesOpened, exportsOpened, opened, openSub, openStep, orOpen, recordStep, inBody, itemStep}
 
 module _ (b : List ℕ) (start : ℕ) where
-  pub lines-short : length b < 12 → refuses (told why.Cut) ≡ linesOpened b start
+  pub lines-short : length b < lineHeadSize → refuses (told why.Cut) ≡ linesOpened b start
   unfolding linesOpened
   lines-short h = simp tests
 
-  pub lines-open : 12 ≤ length b → (h : LineHead) → h ≡ lineHead b → gives (openLines h) (walk.In typed.Lines start (length b) 12) ≡ linesOpened b start
+  pub lines-open : lineHeadSize ≤ length b → (h : LineHead) → h ≡ lineHead b → gives (openLines h) (walk.In typed.Lines start (length b) lineHeadSize) ≡ linesOpened b start
   unfolding linesOpened
   lines-open m h e = simp (tests, e)
 

@@ -16,6 +16,7 @@ use Rattle.refusal.specs.declared.Refusal.the-variants as why
 use Rattle.area.specs.Kind.{Sort}
 use Rattle.area.specs.Subs.{Sub, subsFrom, firstOf}
 use Rattle.area.specs.SubsLaws.{Chained, subs-chained, subs-long}
+use Rattle.body.specs.Lines.{lineHeadSize}
 use Rattle.table.specs.Table.{Place, spotIn}
 use Rattle.table.specs.TableLaws.{spot-inside, Inside, in-inside}
 use Rattle.reading_record.specs.Item.{ToldItem}
@@ -38,7 +39,7 @@ Opens start len end (refuses t) = Unit {0}
 
 lines-leads : (b : List ℕ) (start end : ℕ) → Opens start (length b) end (linesOpened b start)
 unfolding linesOpened
-lines-leads b start end = by-cases (Opens start (length b) end) (ltb (length b) 12) (λ e. tt) (λ e. (refl, refl))
+lines-leads b start end = by-cases (Opens start (length b) end) (ltb (length b) lineHeadSize) (λ e. tt) (λ e. (refl, refl))
 
 inlinees-leads : (b : List ℕ) (start end : ℕ) → Opens start (length b) end (inlineesOpened b start)
 unfolding inlineesOpened

@@ -7,6 +7,7 @@ ghost use Rattle.reading_record.specs.Told.{toldItem};
 ghost use Rattle.reading_walk.specs.Step.{linesOpened, inlineesOpened, exportsOpened, opened, openStep, itemStep};
 use area::SubStep;
 use area::sub_at;
+use lines::LINE_HEAD;
 use lines::header_of;
 use reading_record::ItemStep;
 use reading_record::ItemWalk;
@@ -18,7 +19,7 @@ use word::u32_at;
 fn open_lines(body: &[u8], start: usize) -> ItemStep
     ensures { λ r. ⌜ toldItem r ≡ linesOpened (now (body .entry)) start ⌝ }
 {
-    if body.len() < 12 {
+    if body.len() < LINE_HEAD {
         return ItemStep::Refused(Refusal::Cut);
     }
     ItemStep::OpenLines {
@@ -27,7 +28,7 @@ fn open_lines(body: &[u8], start: usize) -> ItemStep
             body: TypedBody::Lines,
             start,
             len: body.len(),
-            at: 12,
+            at: LINE_HEAD,
         },
     }
 }

@@ -9,12 +9,15 @@ ghost use lib.ListN.{length};
 ghost use Rattle.word.specs.Word.{le32, put, store, header};
 ghost use Rattle.reading.specs.Reading.{openChecksums, openInlinees, openImports, openExports, opaque};
 ghost use Rattle.body.specs.Words.{wordBytes};
+ghost use Rattle.body.specs.Lines.{blockHeadSize};
 ghost use Rattle.body.specs.Inlinees.{extended};
 ghost use Rattle.body.specs.InlineesLaws.{extraLength};
 ghost use Rattle.plain.specs.Plain.{sizeOf};
 ghost use Rattle.writer_decides.specs.Calls.{openAct, wrote, kept, answered, bufferAfter, callLines, callBlock, callChecksum, callInlinee, callModule, callPair, bytesFor};
 ghost use Rattle.writer.specs.LentLaws.{over};
 ghost use Rattle.writer.specs.Told.{toldWrote};
+use lines::BLOCK_HEAD;
+use lines::LINE_HEAD;
 use refusal::Refusal;
 use word::put_u16;
 use word::put_u32;
@@ -120,14 +123,14 @@ fn put_checksum(free: &mut [u8], name: u32, kind: u8, bytes: &[u8])
 }
 
 fn put_block(free: &mut [u8], file: u32, lines: &[u32], columns: &[u32])
-    requires { ⌜ (12 + 4 * length (now lines) + 4 * length (now columns) ≤ length (now free)) × (12 + 4 * length (now lines) + 4 * length (now columns) < 4294967296) ⌝ }
+    requires { ⌜ (blockHeadSize + 4 * length (now lines) + 4 * length (now columns) ≤ length (now free)) × (blockHeadSize + 4 * length (now lines) + 4 * length (now columns) < 4294967296) ⌝ }
     ensures { λ _. ⌜ now (free .exit) ≡ over (bytesFor 0 (callBlock file (now (lines .entry)) (now (columns .entry)))) (now (free .entry)) ⌝ }
 {
     let n = 4 * lines.len();
-    let size = 12 + n + 4 * columns.len();
+    let size = BLOCK_HEAD + n + 4 * columns.len();
     put_three(free, file, (lines.len() / 2) as u32, size as u32);
-    put_words(&mut free[12..], lines);
-    put_words(&mut free[12 + n..], columns);
+    put_words(&mut free[BLOCK_HEAD..], lines);
+    put_words(&mut free[BLOCK_HEAD + n..], columns);
 }
 
 // The last length: its subsection ends at next.
@@ -171,7 +174,7 @@ pub fn open_lines(
     ensures { λ r. ⌜ toldWrote r ≡ answered (callLines offset section flags code) (now (buf .entry)) written ⌝ }
     ensures { λ _. ⌜ now (buf .exit) ≡ bufferAfter (callLines offset section flags code) (now (buf .entry)) written ⌝ }
 {
-    let mut head = [0u8; 12];
+    let mut head = [0u8; LINE_HEAD];
     put_u32(&mut head, 0, offset);
     put_u16(&mut head, 4, section);
     put_u16(&mut head, 6, flags);

@@ -1,4 +1,4 @@
--- The writer's calls: what each answers, and the buffer bufferAfter it. A call is an item of the full reading. Source: document 01, "Writer and plain
+-- The writer's calls: what each answers, and the buffer after it. A call is an item of the full reading. Source: document 01, "Writer and plain
 -- areas", and numbers 10, 16, 17 of its table; the order of refusals is 16, 17, 10.
 -- Definitions only; a reader must believe them.
 use Prim.Native.Nat.{ℕ, _+_, _-_, _/_, _%_, min}
@@ -122,7 +122,7 @@ act it b w =
     onLast (lastFor it b w) (stops (told why.WrongPlace))
     (λ l. elseNotPlain (obeys (l .mark) it) (room (length b) w (l .header) (l .mark) (needs (l .mark) it)))
 
--- ---- the buffer bufferAfter it
+-- ---- the buffer after it
 
 -- bytes behind w, which the last subsection, whose header stands at h, takes in
 abbrev pub grown : List ℕ → ℕ → List ℕ → ℕ → List ℕ
@@ -141,7 +141,7 @@ abbrev pub kept : Act → (ℕ → ℕ → List ℕ) → List ℕ → List ℕ
 kept (goes h m n) f b = f h m
 kept (stops t) f b = b
 
--- THE ANSWER of a call, and THE BUFFER bufferAfter it
+-- THE ANSWER of a call, and THE BUFFER after it
 abbrev pub answered : Item → List ℕ → ℕ → Reply ℕ Told
 answered it b w = wrote (act it b w)
 

@@ -7,12 +7,14 @@ ghost use mathlib.Core.Bool.{true};
 ghost use Prim.Native.Nat.{_+_, _*_};
 ghost use lib.ListN.{length};
 ghost use lib.Dec.{leb};
+ghost use Rattle.body.specs.Lines.{blockHeadSize};
 ghost use Rattle.body.specs.Inlinees.{extended};
 ghost use Rattle.body.specs.InlineesLaws.{extraLength};
 ghost use Rattle.body.specs.Checksums.{up4};
 ghost use Rattle.plain.specs.Told.{toldPlain};
 ghost use Rattle.writer_decides.specs.Calls.{blockRule, checksumRule, extraRule, opaqueRule, limit, place, ofKind, room, elseNotPlain, openAct, growAct};
 ghost use Rattle.writer_decides.specs.Told.{toldAct};
+use lines::BLOCK_HEAD;
 use plain::PlainAnswer;
 use plain::is_opaque;
 use plain::is_plain;
@@ -191,7 +193,7 @@ fn block_rule(mark: u64, n: usize, k: usize) -> bool
 }
 
 pub fn block_step(buf: &[u8], written: usize, lines: &[u32], columns: &[u32]) -> Step
-    ensures { λ r. ⌜ toldAct r ≡ growAct 0xf2 (λ m. blockRule m (length (now (lines .entry))) (length (now (columns .entry)))) (λ m. 12 + 4 * length (now (lines .entry)) + 4 * length (now (columns .entry))) (now (buf .entry)) written ⌝ }
+    ensures { λ r. ⌜ toldAct r ≡ growAct 0xf2 (λ m. blockRule m (length (now (lines .entry))) (length (now (columns .entry)))) (λ m. blockHeadSize + 4 * length (now (lines .entry)) + 4 * length (now (columns .entry))) (now (buf .entry)) written ⌝ }
 {
     let PlainAnswer::Yes {
         header,
@@ -207,7 +209,7 @@ pub fn block_step(buf: &[u8], written: usize, lines: &[u32], columns: &[u32]) ->
             written,
             header,
             mark,
-            12 + 4 * lines.len() + 4 * columns.len(),
+            BLOCK_HEAD + 4 * lines.len() + 4 * columns.len(),
         );
     }
     Step::Stop(Refusal::NotPlain)
