@@ -1,4 +1,4 @@
--- What each writer call gives, and the buffer bufferAfter it. The call is an item of the full reading, b the buffer, w the place behind what is written, and o
+-- What each writer call gives, and the buffer after it. The call is an item of the full reading, b the buffer, w the place behind what is written, and o
 -- the lent words. A call changes the buffer only with room for a refusal in o.
 -- Source: docs/DECISIONS.md, 32.
 -- Definitions only; a reader must believe them.

@@ -30,7 +30,7 @@ use Rattle.listing.specs.Step.{Line, stage, linesStep, filesStep, headSt
 use Rattle.listing.specs.declared.TextWalk.{TextWalk}
 use Rattle.listing.specs.declared.TextWalk.the-variants.{Subs, Files, Done}
 
--- a line that fits, put at the start of a buffer that has room for every line: what the page says is what is lineShown
+-- a line that fits, put at the start of a buffer that has room for every line: what the page says is what is shown
 pub line-shown : (b y : List ℕ) (p : Next) (x : Pieces) (t : TextWalk) (a : Answer TextWalk ℕ Told) → longestLine ≤ length b → length (joined x) ≤ longestLine
     → page y p ≡ writtenAll x (page b (at 0)) → a ≡ lineAnswer p t → both a y ≡ lineShown b (gives x t)
 unfolding lineShown

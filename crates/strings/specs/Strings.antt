@@ -1,5 +1,5 @@
--- The stream of a string table, and the names in it. Source: nmt.h, string table stream (signature, hash version, namesSize of the names; the names; a
--- hash table), and document 01, "Strings and module sizes": 11, header whole 1, signature 13, room for 24 + names namesSize 1, hash version 14.
+-- The stream of a string table, and the names in it. Source: nmt.h, string table stream (signature, hash version, size of the names; the names; a
+-- hash table), and document 01, "Strings and module sizes": 11, header whole 1, signature 13, room for 24 + names size 1, hash version 14.
 -- Definitions only; a reader must believe them.
 use Prim.Native.Nat.{ℕ, _+_}
 use mathlib.Core.List.{List, [], _∷_}
@@ -49,7 +49,7 @@ names s = take (namesSize s) (drop 12 s)
 abbrev pub namesFrom : List ℕ → ℕ → List ℕ
 namesFrom s offset = drop offset (names s)
 
--- where the name at an offset stands, if the table passes: the offset is below the namesSize, and a zero follows in the names
+-- where the name at an offset stands, if the table passes: the offset is below the size of the names, and a zero follows in the names
 unfoldable pub nameIn : List ℕ → ℕ → Outcome
 nameIn s offset =
     cond (ltb offset (namesSize s))

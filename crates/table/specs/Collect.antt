@@ -21,7 +21,7 @@ collected (fails r) = refused r
 abbrev pub listingCount : {B R : Type 0} → Listing B R → Reply ℕ R
 listingCount {B} l = onGave (λ (bs : List B). gave (length bs)) (collected l)
 
--- f of the record at an index, listingCount from 0, or y where there is none
+-- f of the record at an index, counted from 0, or y where there is none
 unfoldable pub ofNth : {B C : Type 0} → ℕ → List B → C → (B → C) → C
 ofNth i [] y f = y
 ofNth zero (b ∷ bs) y f = f b

@@ -99,7 +99,7 @@ module _ (len n : ℕ) (x : Next) where
   unfolding roomAt
   room-full e = rw e
 
--- a place that is given has roomAt
+-- a place that is given has room
 abbrev Roomy : ℕ → ℕ → Next → Type 0
 Roomy len n (at p) = p + n ≤ len
 Roomy len n full = Unit {0}
