@@ -17,19 +17,19 @@ abbrev pub wordsOf : {B : Type 0} → (B → List ℕ) → List B → List ℕ
 wordsOf f [] = []
 wordsOf f (r ∷ rs) = f r ++ wordsOf f rs
 
--- without room for a record
+-- what a call without room for a record answers, by what the first step answers
 abbrev pub noRoom : {S B : Type 0} → Answer S B Told → Answer S (List B) Told
 noRoom (gives r w) = refuses (told why.NoRoom)
 noRoom none = none
 noRoom (refuses t) = refuses t
 
--- what is answered: how many records, and the state behind the last
+-- what a call for many records answers of them: how many there are, and the state behind the last
 abbrev pub counted : {S B : Type 0} → Answer S (List B) Told → Answer S ℕ Told
 counted (gives rs w) = gives (length rs) w
 counted none = none
 counted (refuses t) = refuses t
 
--- what the lent words o then are
+-- the lent words o after a call for many records, f having the words of one
 abbrev pub filled : {S B : Type 0} → (B → List ℕ) → List ℕ → Answer S (List B) Told → List ℕ
 filled f o (gives rs w) = put o 0 (wordsOf f rs)
 filled f o none = o

@@ -21,6 +21,6 @@ askedSize k = k + refusalSize
 abbrev pub fillGiven : {S B : Type 0} → ℕ → (S → List ℕ) → List ℕ → Answer S (List B) Told → Given
 fillGiven k g o a = ifRoom (askedSize k) o (stepGiven k (countWords g) (counted a)) shortGiven
 
--- the words x after it
+-- the words x after the call
 abbrev pub fillLeft : {S B : Type 0} → ℕ → (B → List ℕ) → List ℕ → List ℕ → Answer S (List B) Told → List ℕ
 fillLeft k f o x a = ifRoom (askedSize k) o (filled f x a) x

@@ -145,7 +145,7 @@ module _ {S B : Type 0} (k : ℕ) (f : B → List ℕ) (sized : (b : B) → leng
               ∙ h .rest;
         }
 
-    -- the same where they are put if they fit
+    -- a record whose words are put if they fit, as they do here
     pub fill-stored : (r : B) (t : S) (o′ : List ℕ) → gives r t ≡ next w → n < length o₀ / k → o′ ≡ store o (k * n) (f r) → Filling (n + 1) t t o′
     fill-stored r t o′ e l q =
         subst (Filling (n + 1) t t)

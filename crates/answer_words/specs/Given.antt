@@ -1,5 +1,6 @@
 -- What an exported call answers: a status, and words that are put into the lent ones at a place. Where they do not fit the status is 3 and
--- nothing is put. Status 0: none. Status 1: an answer. Status 2: a refusal, whose number of document 01 and what it carries are the words. Source: docs/DECISIONS.md, 32.
+-- nothing is put. Status 0: none. Status 1: an answer. Status 2: a refusal, whose number of document 01 and what it carries are the words.
+-- Source: docs/DECISIONS.md, 32.
 -- Definitions only; a reader must believe them.
 use Prim.Native.Nat.{ℕ, _+_}
 use mathlib.Core.Path.{_≡_}
@@ -48,7 +49,7 @@ stepGiven k f (gives b s) = given 1 0 (f b s)
 stepGiven k f none = noneGiven
 stepGiven k f (refuses t) = refusalGiven k t
 
--- a number
+-- the words of a number
 abbrev pub one : ℕ → List ℕ
 one n = n ∷ []
 

@@ -19,6 +19,6 @@ abbrev pub walkWords : TableWalk → List ℕ
 walkWords walk.New = 0 ∷ 0 ∷ 0 ∷ 0 ∷ []
 walkWords (walk.In start len at) = 1 ∷ start ∷ len ∷ at ∷ []
 
--- a step of such a walk: f has the words of its record
+-- a step of a walk over a table: f has the words of its record
 abbrev pub tableWords : {B : Type 0} → (B → List ℕ) → B → TableWalk → List ℕ
 tableWords f b w = walkWords w ++ f b

@@ -1,5 +1,5 @@
 // An answer for a program in another language: a status, and words put into lent ones. What each word is, is said once for every type of
-// answer, in specs/. A walk's state is the first words of the same lent words.
+// answer, in specs/. A walk's state is the first of the lent words.
 ghost use mathlib.Core.Path.{_≡_};
 ghost use mathlib.Core.List.{[], _∷_};
 ghost use lib.ListN.{getD};

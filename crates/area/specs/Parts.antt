@@ -30,6 +30,6 @@ bite s =
     (cond (ltb (length s - 8) (u32At s 4)) (fail noBody)
     (item (record { kind = u32At s 0; body = take (u32At s 4) (drop 8 s) }) (drop (8 + u32At s 4) s))))
 
--- all of them: a bite, and the parts of what is behind it (`parts-step`)
+-- all parts of the bytes: a bite, and the parts of what is behind it (`parts-step`)
 unfoldable pub parts : List ℕ → Parts
 parts = all bite length

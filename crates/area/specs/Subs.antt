@@ -21,7 +21,7 @@ pub record Sub : Type 0 where
 abbrev pub subOf : ℕ → Raw → Sub
 subOf p r = record { kind = r .kind; start = p + 8; len = length (r .body) }
 
--- parts that start at place p. A header and a body come before the kind, since only whole subsections are parts
+-- the subsections of parts that start at place p. A header and a body come before the kind, since only whole subsections are parts
 unfoldable pub placed : (ℕ → Sort) → ℕ → Parts → Listing Sub Told
 placed rule p (more r l) =
     onSort (rule (r .kind))
@@ -38,7 +38,7 @@ subsFrom rule s p =
     (cond (ltb (length s) p) (fails (told why.Cut))
     (placed rule p (parts (drop p s))))
 
--- the first of them, with the place behind it
+-- the first subsection of a listing, with the place behind it
 abbrev pub firstOf : Listing Sub Told → Answer ℕ Sub Told
 firstOf (more b l) = gives b (b .start + b .len)
 firstOf ends = none
@@ -53,7 +53,7 @@ placeBehind (gives b x) p = x
 placeBehind none p = p
 placeBehind (refuses r) p = p
 
--- the same without places: the bodies themselves, and a refusal's number alone
+-- the meaning of parts, and of an area, without places: the bodies themselves, and a refusal's number alone
 unfoldable pub bodiesIn : (ℕ → Sort) → Parts → Listing Raw ℕ
 bodiesIn rule (more r l) = onSort (rule (r .kind)) (more r (bodiesIn rule l)) (bodiesIn rule l) (fails 2)
 bodiesIn rule ends = ends

@@ -202,7 +202,7 @@ module _ (rule : ℕ → Sort) (s : List ℕ) (p : ℕ) where
       let w : Within (length s) p (item b x) = subst⁻¹ (Within (length s) p) e (head-within rule s p) in
       ap (gives b) (w .1) ∙ ap firstOf (subs-is rule s p (item b x) e)
 
--- ---- the walk that the code makes, one head after the other, is the meaning with its places; no other listing has these steps
+-- ---- the walk that the code makes, one head behind the other, is the meaning with its places; no other listing has these steps
 
 pub subs-all : (rule : ℕ → Sort) (s : List ℕ) (p : ℕ) → subsFrom rule s p ≡ all (headAt rule s) (left s) p
 subs-all rule s p = all-unique (headAt rule s) (left s) (falls rule s) (subsFrom rule s) (subs-step rule s) p

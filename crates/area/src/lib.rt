@@ -117,7 +117,7 @@ pub struct SubWalk {
     pub at: usize,
 }
 
-// A step of it: the answer, and the walk behind it.
+// A step of a walk over the subsections: the answer, and the walk behind it.
 pub struct Stepped {
     pub step: SubStep,
     pub walk: SubWalk,

@@ -1,6 +1,7 @@
 -- The body of an INLINEELINES subsection (0xf6): a signature, and entries one after the other. Source: cvinfo.h,
--- `CV_INLINEE_SOURCE_LINE_SIGNATURE` 0 and `_EX` 1, `InlineeSourceLine` (inlinee, fileId, sourceLineNum), `InlineeSourceLineEx` (the same, then
--- countOfExtraFiles and that many fileIds); document 01, "Checksums, inlinees": whatever is cut is 1, and only the signature 1 has extra files.
+-- `CV_INLINEE_SOURCE_LINE_SIGNATURE` 0 and `_EX` 1, `InlineeSourceLine` (inlinee, fileId, sourceLineNum), `InlineeSourceLineEx` (inlinee, fileId,
+-- sourceLineNum, countOfExtraFiles and that many fileIds); document 01, "Checksums, inlinees": whatever is cut is 1, and only the signature 1 has
+-- extra files.
 -- Definitions only; a reader must believe them.
 use Prim.Native.Nat.{ℕ, _+_, _-_, _*_}
 use mathlib.Core.List.{List, [], _++_}
@@ -22,7 +23,7 @@ pub record Inlinee : Type 0 where
 abbrev pub extended : ℕ → Bool
 extended signature = eqb signature 1
 
--- behind inlinee, file and line: the count and the words, if the entries are extended
+-- an entry whose inlinee, file and line are there: behind these the count and the words, if the entries are extended
 abbrev pub extraBite : Bool → List ℕ → Move (List ℕ) Inlinee Told
 extraBite false s = item (record { inlinee = u32At s 0; file = u32At s 4; line = u32At s 8; extra = [] }) (drop 12 s)
 extraBite true s =

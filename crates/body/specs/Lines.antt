@@ -20,14 +20,14 @@ pub record LineHead : Type 0 where
   pub flags : ℕ
   pub code : ℕ
 
--- the bytes of the header
+-- the bytes of a line body's header
 abbrev pub lineHeadSize : ℕ
 lineHeadSize = 12
 
 abbrev pub lineHead : List ℕ → LineHead
 lineHead s = record { offset = u32At s 0; section = u16At s 4; flags = u16At s 6; code = u32At s 8 }
 
--- bit 0 of the flags
+-- do lines have columns? Bit 0 of the header's flags
 abbrev pub columned : ℕ → Bool
 columned flags = eqb (flags % 2) 1
 
@@ -37,7 +37,7 @@ pub record Block : Type 0 where
   pub lines : List ℕ
   pub columns : List ℕ
 
--- how many column words n lines have, and the bytes of both
+-- how many column words n lines have, and the bytes of n lines with their columns
 abbrev pub columnsOf : Bool → ℕ → ℕ
 columnsOf true n = n
 columnsOf false n = 0
@@ -65,7 +65,7 @@ blockBite c s =
 unfoldable pub blocks : Bool → List ℕ → Listing Block Told
 blocks c = all (blockBite c) length
 
--- the bytes of a header, and of a block that is exactly filled
+-- the bytes of a line body's header, and of a block that is exactly filled
 abbrev pub lineHeadBytes : LineHead → List ℕ
 lineHeadBytes h = le32 (h .offset) ++ (le16 (h .section) ++ (le16 (h .flags) ++ le32 (h .code)))
 

@@ -14,11 +14,11 @@ use Rattle.many_files.specs.Files.{filesOf}
 abbrev pub fileGiven : (ℕ → Sort) → List ℕ → List ℕ → Given
 fileGiven rule s o = stepGiven tableStateSize (tableWords fileWords) (fileStep rule s (walkIn o))
 
--- with n words lent for records
+-- many files, with n words lent for them
 abbrev pub filesGiven : (ℕ → Sort) → List ℕ → ℕ → List ℕ → Given
 filesGiven rule s n o = fillGiven tableStateSize walkWords o (filesOf rule s n (walkIn o))
 
--- the words x lent for records, after it
+-- the words x lent for files, after the call for many
 abbrev pub filesLeft : (ℕ → Sort) → List ℕ → List ℕ → List ℕ → List ℕ
 filesLeft rule s x o = fillLeft tableStateSize fileWords o x (filesOf rule s (length x) (walkIn o))
 

@@ -60,8 +60,8 @@ pub fn next_file(area: &[u8], out: &mut [u64]) -> u32
     }
 }
 
-// The files from the walk in `out` on, into `records`. Words: the next state, and how many files there are. Where there is none to give the
-// answer is that of `next_file`; without room for one it is number 10.
+// The files from the walk in `out` on, into `records`. Words: the next state, and how many files there are. Where there is none to give the answer is
+// that of `next_file`; without room for one it is number 10.
 pub fn files(area: &[u8], records: &mut [u64], out: &mut [u64]) -> u32
     ensures { λ r. ⌜ Gives (now (out .entry))
         (filesGiven crateRule (now (area .entry)) (length (now (records .entry))) (now (out .entry)))
@@ -81,7 +81,7 @@ pub fn files(area: &[u8], records: &mut [u64], out: &mut [u64]) -> u32
     }
 }
 
-// The file at an index. Words: as of the next file, without the index.
+// The file at an index. Words: its name, its checksum's kind, and the place and the length of the bytes.
 pub fn file_at(area: &[u8], index: u32, out: &mut [u64]) -> u32
     ensures { λ r. ⌜ Gives (now (out .entry)) (infoGiven crateRule (now (area .entry)) index) r (now (out .exit)) ⌝ }
 {

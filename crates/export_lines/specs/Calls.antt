@@ -14,11 +14,11 @@ use Rattle.line_state_words.specs.LineWords.{stateSize, lineWalkIn, lineWalkWor
 use Rattle.answer_words.specs.FillGiven.{fillGiven, fillLeft}
 use Rattle.many_lines.specs.Lines.{linesOf}
 
--- with n slots
+-- the order list, with n slots
 abbrev pub orderGiven : (ℕ → Sort) → List ℕ → ℕ → List ℕ → Given
 orderGiven rule s n o = ifRoom refusalSize o (replyGiven one (ordered rule s n)) shortGiven
 
--- the slots after it
+-- the slots v after the call for the order list
 abbrev pub slotsLeft : (ℕ → Sort) → List ℕ → List ℕ → List ℕ → List ℕ
 slotsLeft rule s v o = ifRoom refusalSize o (slotsAfter rule s v) v
 
@@ -32,6 +32,6 @@ symbolGiven rule s v section offset = replyGiven lineWalkWords (symbolWalk rule 
 abbrev pub linesGiven : (ℕ → Sort) → List ℕ → List ℕ → ℕ → List ℕ → Given
 linesGiven rule s v n o = fillGiven stateSize lineWalkWords o (linesOf rule s v n (lineWalkIn o))
 
--- the words x lent for records, after it
+-- the words x lent for records, after the call for many
 abbrev pub recordsLeft : (ℕ → Sort) → List ℕ → List ℕ → List ℕ → List ℕ → List ℕ
 recordsLeft rule s v x o = fillLeft stateSize recordWords o x (linesOf rule s v (length x) (lineWalkIn o))

@@ -81,8 +81,8 @@ fn put_lines(out: &mut [u64], count: usize, next: LineWalk) -> u32
     put(out, STATE_WORDS, &[count as u64], GIVEN)
 }
 
-// The records from the walk in `out` on, into `records`. Words: the next state, and how many records there are. Where there is none to
-// give the answer is that of `next_line`; without room for one it is number 10.
+// The records from the walk in `out` on, into `records`. Words: the next state, and how many records there are. Where there is none to give the answer
+// is that of `next_line`; without room for one it is number 10.
 pub fn lines(area: &[u8], slots: &[u32], records: &mut [u64], out: &mut [u64]) -> u32
     ensures { λ r. ⌜ Gives (now (out .entry))
         (linesGiven crateRule (now (area .entry)) (now (slots .entry)) (length (now (records .entry))) (now (out .entry)))

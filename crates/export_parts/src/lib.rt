@@ -81,7 +81,7 @@ pub fn lines_part(stream: &[u8], symbols: u32, c11: u32, c13: u32, out: &mut [u6
     }
 }
 
-// The part that calls on the other tables read.
+// The part of a module's stream that calls on the other tables read. Words: its start and its length.
 pub fn tables_part(stream: &[u8], symbols: u32, c11: u32, c13: u32, out: &mut [u64]) -> u32
     ensures { λ r. ⌜ Gives (now (out .entry)) (tablesPartGiven (now (stream .entry)) symbols c11 c13) r (now (out .exit)) ⌝ }
 {

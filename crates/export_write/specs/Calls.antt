@@ -10,7 +10,7 @@ use Rattle.plain.specs.Plain.{Last, plainOf}
 use Rattle.writer_decides.specs.Calls.{answered, bufferAfter}
 use Rattle.answer_words.specs.Given.{Given, given, noneGiven, refusalSize, one, replyGiven, ifRoom, shortGiven}
 
--- the place behind what is written then
+-- what a writer call gives: the place behind what is written then
 unfoldable pub wroteGiven : Item → List ℕ → ℕ → List ℕ → Given
 wroteGiven it b w o = ifRoom refusalSize o (replyGiven one (answered it b w)) shortGiven
 

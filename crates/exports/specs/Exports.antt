@@ -22,7 +22,7 @@ use Rattle.table.specs.Collect.{onGave, collected, listingCount}
 pub data Export : Type 0 where
   aType anId : ℕ → ℕ → Export
 
--- by bit 31 of the local index, which stays in it
+-- a pair as an export: bit 31 of the local index, which stays in it, tells an id from a type
 unfoldable pub exportOf : Pair → Export
 exportOf p = cond (eqb (p .local / 0x8000_0000 % 2) 1) (anId (p .local) (p .global)) (aType (p .local) (p .global))
 

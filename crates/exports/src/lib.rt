@@ -20,7 +20,7 @@ use word::u32_at;
 // The kind of subsection that holds exports.
 const CROSS_SCOPE_EXPORTS: u32 = 0xf8;
 
-// A pair, by bit 31 of its local index, which stays in it.
+// A pair as an export: bit 31 of its local index, which stays in it, tells an id from a type.
 pub enum CrossModuleExport {
     Type { local: u32, global: u32 },
     Id { local: u32, global: u32 },
@@ -70,7 +70,7 @@ pub fn pair_at(body: &[u8], at: usize) -> PairStep
     }
 }
 
-// One export of a walk over them, and the walk behind it.
+// One export of a walk over the exports, and the walk behind it.
 pub enum ExportStep {
     Export {
         export: CrossModuleExport,

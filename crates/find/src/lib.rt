@@ -41,7 +41,7 @@ pub fn first_of(area: &[u8], wanted: u32) -> Found
     }
 }
 
-// The last one: the whole area must pass.
+// The last subsection of a kind: the whole area must pass.
 pub fn last_of(area: &[u8], wanted: u32) -> Found
     ensures { λ r. ⌜ toldFound r ≡ lastSub crateRule wanted (now (area .entry)) ⌝ }
 {

@@ -35,16 +35,16 @@ scopeOf index = index / 0x10_0000 % 0x800
 abbrev pub idOf : ℕ → ℕ
 idOf index = index % 0x10_0000
 
--- an index is a reference, else 5
+-- y if an index is a reference, else 5
 unfoldable pub ifRef : ℕ → Reply Ref Told → Reply Ref Told
 ifRef index y = cond (eqb (index / 0x8000_0000 % 2) 1) y (refused (told (why.NotACrossModuleRef index)))
 
--- the word of a module that it picks, else 6
+-- the reference to the word that an index picks in a module, else 6
 abbrev pub refIn : ℕ → Module → Reply Ref Told
 refIn index m =
     ofNth (idOf index) (m .words) (refused (told (why.CrossModuleRefNotFound index))) (λ (w : ℕ). gave (record { name = m .name; word = w }))
 
--- of the module that it picks, else 6
+-- the reference that an index makes: to a word of the module that it picks, else 6
 abbrev pub refOf : ℕ → List Module → Reply Ref Told
 refOf index ms =
     ifRef index (ofNth (scopeOf index) ms (refused (told (why.CrossModuleRefNotFound index))) (refIn index))
@@ -58,18 +58,18 @@ pub record ModuleAt : Type 0 where
   pub words : ℕ
   pub count : ℕ
 
--- the module that bytes have there
+-- a module with its words, of the bytes s, in place of where they stand
 abbrev pub moduleOf : List ℕ → ModuleAt → Module
 moduleOf s m = record { name = m .name; words = wordsIn (m .count) (drop (m .words) s) }
 
--- a module at place p of a body, and its bytes
+-- a module at place p of a body as an answer tells it, and how many bytes it has
 abbrev pub moduleShown : ℕ → Module → ModuleAt
 moduleShown p m = record { name = m .name; words = p + 8; count = length (m .words) }
 
 abbrev pub moduleSize : Module → ℕ
 moduleSize m = 8 + 4 * length (m .words)
 
--- its words counted from the area's start
+-- a module of the body at start, the place of its words counted from the area's start
 abbrev pub inArea : ℕ → ModuleAt → ModuleAt
 inArea start m = record { name = m .name; words = start + m .words; count = m .count }
 
@@ -77,7 +77,7 @@ inArea start m = record { name = m .name; words = start + m .words; count = m .c
 abbrev pub importsOf : (ℕ → Sort) → List ℕ → Listing ModuleAt Told
 importsOf rule s = tableOf (λ (b : List ℕ). rowsPlaced moduleSize moduleShown 0 (modules b)) inArea s (firstSub rule 0xf7 s)
 
--- one step of a walk over them: the module at a place of the body, and where the walk goes on
+-- one step of a walk over the imports: the module at a place of the body, and where the walk goes on
 abbrev pub moduleAt : List ℕ → ℕ → Answer ℕ ModuleAt Told
 moduleAt = rowAt moduleBite moduleSize moduleShown
 

@@ -59,7 +59,7 @@ pub fn module_at(body: &[u8], at: usize) -> ModuleStep
     }
 }
 
-// One module of a walk over them: its name, the place of its words in the area, their number, and the walk behind it.
+// One module of a walk over the imports: its name, the place of its words in the area, their number, and the walk behind it.
 pub enum ImportStep {
     Module {
         name: u32,

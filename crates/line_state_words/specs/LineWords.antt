@@ -49,7 +49,7 @@ stepSize = stateSize + recordSize
 
 -- ---- a record
 
--- 0 and 0 without one, else 1 and the number
+-- a length, and a column: 0 and 0 without one, else 1 and the number
 abbrev pub lengthWords : Length → List ℕ
 lengthWords length.Unset = 0 ∷ 0 ∷ []
 lengthWords (length.Is n) = 1 ∷ n ∷ []

@@ -66,7 +66,7 @@ eventsOf (fails t) = fails t
 abbrev pub Records : Type 0
 Records = Listing LineRecord Told
 
--- the record o is held back until its end is known
+-- the records of events, the record o being held back until its end is known
 unfoldable pub settleOne : LineRecord → Events → Records
 settleOne o (more (line r) l) = more (closedAt (r .section) (r .offset) o) (settleOne r l)
 settleOne o (more (done h) l) =
@@ -74,7 +74,7 @@ settleOne o (more (done h) l) =
 settleOne o ends = more o ends
 settleOne o (fails t) = fails t
 
--- no record is held yet
+-- the records of events where no record is held back yet
 unfoldable pub settle : Events → Records
 settle (more (line r) l) = settleOne r l
 settle (more (done h) l) = settle l
@@ -85,6 +85,6 @@ settle (fails t) = fails t
 abbrev pub recordsOf : (ℕ → Sort) → List ℕ → List ℕ → Records
 recordsOf rule s v = settle (eventsOf (listOf rule s v))
 
--- and of an area alone: of its line bodies in ascending (section, offset), equal keys in area order
+-- THE RECORDS of an area alone: of its line bodies in ascending (section, offset), equal keys in area order
 abbrev pub areaRecords : (ℕ → Sort) → List ℕ → Records
 areaRecords rule s = settle (eventsOf (before (inOrder rule s) ends))

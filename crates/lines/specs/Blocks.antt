@@ -14,7 +14,7 @@ use Rattle.refusal.specs.declared.Refusal.the-variants as why
 use Rattle.body.specs.Words.{wordsIn}
 use Rattle.body.specs.Lines.{Block, columnsOf, lineBytes}
 
--- its file, the number of its lines, and where they begin
+-- a block as an answer tells it: its file, the number of its lines, and where they begin
 pub record LineBlock : Type 0 where
   pub file : ℕ
   pub count : ℕ
@@ -30,11 +30,11 @@ blockAt c b p =
     (cond (ltb (u32At b (p + 8) - 12) (lineBytes c (u32At b (p + 4)))) (refuses (told why.BlockSize))
     (gives (record { file = u32At b p; count = u32At b (p + 4); start = p + 12 }) (p + u32At b (p + 8))))))))
 
--- all of them from a place on
+-- all blocks of a line body from a place on
 unfoldable pub blocksFrom : Bool → List ℕ → ℕ → Listing LineBlock Told
 blocksFrom c b = all (λ (p : ℕ). moved (blockAt c b p)) (λ (p : ℕ). length b - p)
 
--- the words that stand there
+-- a block with its words in place of where they stand
 abbrev pub worded : Bool → List ℕ → LineBlock → Block
 worded c b k = record {
   file = k .file;

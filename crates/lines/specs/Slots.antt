@@ -20,14 +20,14 @@ use Rattle.lines.specs.Lines.{countLines}
 abbrev pub startsAt : ℕ → Sub → Bool
 startsAt v b = eqb (b .start) v && eqb (b .kind) 0xf2
 
--- its place among the subsections of a listing, and of the area from p on
+-- where the line body that starts at v stands, among the subsections of a listing and of the area from p on
 abbrev pub bodyIn : ℕ → Listing Sub Told → Reply Span Told
 bodyIn v l = mapReply spanOf same (firstBy (startsAt v) l)
 
 abbrev pub bodyFrom : (ℕ → Sort) → List ℕ → ℕ → ℕ → Reply Span Told
 bodyFrom rule s p v = bodyIn v (subsFrom rule s p)
 
--- its bytes
+-- the bytes of the line body that starts at v
 abbrev pub bodyAt : (ℕ → Sort) → List ℕ → ℕ → Reply (List ℕ) Told
 bodyAt rule s v = mapReply (bytesAt s) same (bodyFrom rule s 0 v)
 
@@ -63,7 +63,7 @@ nameOf (gave a) = gave a
 nameOf nothing = refused (told why.WrongSlot)
 nameOf (refused t) = refused t
 
--- slot i
+-- where the line body stands that slot i of v names, the search for it beginning at p
 unfoldable pub slotAt : (ℕ → Sort) → List ℕ → List ℕ → ℕ → ℕ → Reply Span Told
 slotAt rule s v i p =
     cond (leb (length v) i) (refused (told why.WrongSlot)) (nameOf (bodyFrom rule s (scanFrom p (getD v i 0)) (getD v i 0)))

@@ -25,7 +25,7 @@ backs (x ∷ xs) = backsBehind x xs
 unfoldable pub tested : (ℕ → Sort) → List ℕ → List ℕ → ℕ → ℕ
 tested rule s v p = cond (ltb (backs v) 16) 0 (wholeList rule s v p)
 
--- for slot i of v, of which the first n are whole
+-- where the search for the body of slot i of v begins: at the body's own header if the slot is among the first n, which are a whole list, else at p
 unfoldable pub beginAt : List ℕ → ℕ → ℕ → ℕ → ℕ
 beginAt v n i p =
     cond (leb n i) p (cond (leb (length v) i) p (cond (ltb (getD v i 0) 8) p (getD v i 0 - 8)))

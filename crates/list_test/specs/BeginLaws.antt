@@ -78,7 +78,7 @@ module _ (rule : ℕ → Sort) (s v : List ℕ) (p : ℕ) where
       (λ f. by-cases (Scans rule s) (ltb (getD v i 0) 8) (λ h. g)
       (λ h. hint-right rule s v p i (omega (arith, leb-false (tested rule s v p) i e, tested-le)) .1)))
 
-  -- the same as code has it: n is what was tested, and b where the search begins
+  -- such a place as code has it: n is what was tested, and b where the search begins
   pub begin-scans : (n i q b : ℕ) → n ≡ tested rule s v p → Scans rule s q → b ≡ beginAt v n i q → Scans rule s b
   begin-scans n i q b e g h = subst⁻¹ (Scans rule s) (h ∙ ap (λ (k : ℕ). beginAt v k i q) e) (begin-right i q g)
 

@@ -38,13 +38,13 @@ halved w v xs a e = halvedIn w v xs (suc (e - a)) a e
 unfoldable pub holds : ℕ → List ℕ → ℕ → Bool
 holds v xs i = cond (leb (length xs) i) false (eqb (getD xs i 0) v)
 
--- v in slot i, or in that two before it, or else found by halving
+-- the place behind the slot that holds v, or 0: slot i, or that two before it, or else one that is found by halving
 unfoldable pub slotBehind : (ℕ → ℕ) → ℕ → List ℕ → ℕ → ℕ
 slotBehind w v xs i =
     cond (holds v xs i) (i + 1)
     (cond (leb 2 i) (cond (holds v xs (i - 2)) (i - 1) (halved w v xs 0 (length xs))) (halved w v xs 0 (length xs)))
 
--- each of them found so, i being the place behind the slot found last: the slots on both sides of that one are looked at first
+-- is each of a list found in the slots xs? i is the place behind the slot found last, and the slots on both sides of that one are looked at first
 unfoldable pub allFound : (ℕ → ℕ) → List ℕ → ℕ → List ℕ → Bool
 allFound w xs i [] = true
 allFound w xs i (v ∷ vs) = cond (eqb (slotBehind w v xs i) 0) false (allFound w xs (slotBehind w v xs i) vs)
@@ -67,11 +67,11 @@ foundIn rule s xs (refused t) = 0
 abbrev pub found : (ℕ → Sort) → List ℕ → List ℕ → ℕ
 found rule s xs = foundIn rule s xs (countLines rule s)
 
--- the same of slots that need not lie in the area
+-- the number of the line bodies if the slots xs lie in the area and each body is found in them, else 0
 unfoldable pub listedInside : (ℕ → Sort) → List ℕ → List ℕ → ℕ
 listedInside rule s xs = cond (inside s xs) (found rule s xs) 0
 
--- the same of the first slots of v, as many as there are line bodies
+-- the number n of the line bodies if the first n slots of v lie in the area and each body is found in them, else 0
 abbrev pub firstListedIn : (ℕ → Sort) → List ℕ → List ℕ → Reply ℕ Told → ℕ
 firstListedIn rule s v (gave n) = cond (ltb (length v) n) 0 (listedInside rule s (take n v))
 firstListedIn rule s v nothing = 0

@@ -119,7 +119,7 @@ fn found(area: &[u8], named: &[u32]) -> usize
     }
 }
 
-// The same of any slots: they are tested to lie in the area.
+// The number of the line bodies if the slots lie in the area and the start of each body is found in them; else 0.
 fn listed(area: &[u8], named: &[u32]) -> usize
     ensures { λ r. ⌜ r ≡ listedInside crateRule (now (area .entry)) (now (named .entry)) ⌝ }
 {
@@ -129,7 +129,7 @@ fn listed(area: &[u8], named: &[u32]) -> usize
     0
 }
 
-// Is it a place that a walk over the subsections comes to?
+// Is `place` one that a walk over the subsections comes to?
 fn comes_to(area: &[u8], place: usize) -> bool
     ensures { λ r. ⌜ r ≡ comesTo crateRule (now (area .entry)) place ⌝ }
 {
@@ -170,7 +170,8 @@ fn first_listed(area: &[u8], slots: &[u32]) -> usize
     }
 }
 
-// The same if a search may begin at `scan`, else 0. Most lists have no other slots, so that the line bodies need not be counted first.
+// How many slots a whole list takes, if a search may begin at `scan`; else 0. Most lists have no other slots, so that the line bodies need not be
+// counted first.
 pub fn whole_list(area: &[u8], slots: &[u32], scan: usize) -> usize
     ensures { λ r. ⌜ r ≡ wholeList crateRule (now (area .entry)) (now (slots .entry)) scan ⌝ }
 {

@@ -47,7 +47,7 @@ sheetLines rule s =
     (closing (andThen (mapped subRow same (subsFrom rule s 0))
     (andThen (mapped (fileRow s) same (filesIn rule s)) (mapped recordLine same (areaRecords rule s))))))
 
--- and their bytes, one line after the other
+-- the bytes of lines, one line after the other
 unfoldable pub sheetBytes : Listing Pieces Told → List ℕ
 sheetBytes (more x l) = joined x ++ sheetBytes l
 sheetBytes ends = []
@@ -57,21 +57,21 @@ sheetBytes (fails t) = []
 abbrev pub textOf : (ℕ → Sort) → List ℕ → List ℕ
 textOf rule s = sheetBytes (sheetLines rule s)
 
--- ---- what a caller of a walk over these lines has
+-- ---- what a caller of a walk over the lines of the text has
 
--- the lines of replies
+-- the bytes of the lines in replies
 unfoldable pub spoken : List (Reply Pieces Told) → List ℕ
 spoken [] = []
 spoken (gave x ∷ rs) = joined x ++ spoken rs
 spoken (nothing ∷ rs) = spoken rs
 spoken (refused t ∷ rs) = spoken rs
 
--- how many lines there are
+-- how many lines a listing has
 unfoldable pub sheetSize : Listing Pieces Told → ℕ
 sheetSize (more x l) = suc (sheetSize l)
 sheetSize ends = 0
 sheetSize (fails t) = 0
 
--- slots for every line subsection
+-- the slots xs suffice for every line subsection of the area s
 abbrev pub Room : (ℕ → Sort) → List ℕ → List ℕ → Type 0
 Room rule s xs = (n : ℕ) → gave n ≡ countLines rule s → n ≤ length xs

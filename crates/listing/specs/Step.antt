@@ -68,7 +68,7 @@ pub record Both : Type 0 where
 abbrev pub both : Answer TextWalk ℕ Told → List ℕ → Both
 both a b = record { answer = a; bytes = b }
 
--- the line at the start of the buffer, told by its length
+-- what a step answers, and the buffer b then: the line at its start, told by its length
 unfoldable pub lineShown : List ℕ → Line → Both
 lineShown b (gives x t) = both (gives (length (joined x)) t) (put b 0 (joined x))
 lineShown b none = both none b
@@ -77,7 +77,7 @@ lineShown b (refuses t) = both (refuses t) b
 unfoldable pub textStep : List ℕ → Line → Both
 textStep b u = cond (ltb (length b) longestLine) (both (refuses (told why.NoRoom)) b) (lineShown b u)
 
--- what a place behind the pieces of a line says
+-- what is answered of a line, by the place behind its pieces
 abbrev pub lineAnswer : Next → TextWalk → Answer TextWalk ℕ Told
 lineAnswer (at n) t = gives n t
 lineAnswer full t = refuses (told why.NoRoom)

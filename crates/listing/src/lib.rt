@@ -43,7 +43,7 @@ pub enum TextWalk {
     Done,
 }
 
-// A line of so many bytes stands at the start of the buffer.
+// A step of the text: a line of `len` bytes, which stands at the start of the buffer, and where the text stands behind it; or no line.
 pub enum TextStep {
     Line { len: usize, next: TextWalk },
     None,

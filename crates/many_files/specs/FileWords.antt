@@ -10,7 +10,7 @@ infoSize = 4
 abbrev pub fileSize : ℕ
 fileSize = 1 + infoSize
 
--- what is known of it: its name, its checksum's kind, and the place and the length of the bytes; in front of these its index
+-- what is known of a file: its name, its checksum's kind, and the place and the length of the bytes; in front of these its index
 abbrev pub infoWords : Info → List ℕ
 infoWords f = f .name ∷ f .kind ∷ f .start ∷ f .len ∷ []
 

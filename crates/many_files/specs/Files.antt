@@ -11,6 +11,6 @@ use Rattle.files.specs.Files.{File, fileStep}
 use Rattle.answer_words.specs.Fill.{fillOf}
 use Rattle.many_files.specs.FileWords.{fileSize}
 
--- with n words lent
+-- the files of the area s from the walk w on, with n words lent
 abbrev pub filesOf : (ℕ → Sort) → List ℕ → ℕ → TableWalk → Answer TableWalk (List File) Told
 filesOf rule s n w = fillOf fileSize (fileStep rule s) n w

@@ -46,7 +46,7 @@ fn no_room(step: FileStep) -> FilesStep
     }
 }
 
-// Step after step; `w` is the walk behind the last file.
+// The files from a walk on, put step after step; `w` is the walk behind the last of them.
 fn fill(area: &[u8], walk: TableWalk, out: &mut [u64]) -> FilesStep
     requires { ⌜ fileSize ≤ length (now out) ⌝ }
     ensures { λ r. ⌜ toldFiles r ≡ counted (filesOf crateRule (now (area .entry)) (length (now (out .entry))) walk) ⌝ }

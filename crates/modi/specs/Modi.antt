@@ -15,7 +15,7 @@ use Rattle.refusal.specs.declared.Refusal.the-variants as why
 use Rattle.find.specs.Find.{same, Span, bytesAt}
 use Rattle.modi.specs.declared.ModuleSizes.{ModuleSizes}
 
--- whether the symbols can be read
+-- whether a module's symbols can be read
 unfoldable pub moduleSymbols : ModuleSizes → List ℕ → Reply (Unit {0}) Told
 moduleSymbols z s =
     cond (ltb longest (length s)) (refused (told why.TooLong))
@@ -24,7 +24,7 @@ moduleSymbols z s =
     (cond (ltb (z .symbols) 4) (refused (told why.Cut))
     (cond (eqb (u32At s 0) 4) (gave tt) (refused (told why.OldFormat))))))
 
--- where the area is; nothing with C11 lines
+-- where a module's area stands in its stream; nothing with C11 lines
 unfoldable pub moduleSpan : ModuleSizes → List ℕ → Reply Span Told
 moduleSpan z s =
     cond (ltb longest (length s)) (refused (told why.TooLong))
@@ -32,11 +32,11 @@ moduleSpan z s =
     (cond (ltb (length s) (z .symbols + z .c13)) (refused (told why.ModuleSizes))
     (gave (record { start = z .symbols; len = z .c13 }))))
 
--- what the tables are read from: with C11 lines, nothing
+-- the part of the stream that the tables are read from: with C11 lines, the empty one
 abbrev pub tablesSpan : ModuleSizes → List ℕ → Reply Span Told
 tablesSpan z s = orElse (moduleSpan z s) (gave (record { start = 0; len = 0 }))
 
--- what lines and files are read from: with C11 lines, 12
+-- the part of the stream that lines and files are read from: with C11 lines, refused with 12
 abbrev pub linesSpan : ModuleSizes → List ℕ → Reply Span Told
 linesSpan z s = orElse (moduleSpan z s) (refused (told why.OldFormat))
 

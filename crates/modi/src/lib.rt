@@ -24,7 +24,7 @@ pub struct ModuleSizes {
     pub c13: u32,
 }
 
-// Whether the symbols can be read.
+// Whether a module's symbols can be read.
 pub enum SymbolsAnswer {
     Yes,
     Refused(Refusal),
@@ -54,7 +54,7 @@ pub fn module_symbols(stream: &[u8], sizes: ModuleSizes) -> SymbolsAnswer
     }
 }
 
-// Where the area is in the stream; `None` with C11 lines.
+// Where a module's area stands in its stream; `None` with C11 lines.
 pub fn module_area(stream: &[u8], sizes: ModuleSizes) -> Found
     ensures { λ r. ⌜ toldFound r ≡ moduleSpan sizes (now (stream .entry)) ⌝ }
 {
@@ -75,7 +75,7 @@ pub fn module_area(stream: &[u8], sizes: ModuleSizes) -> Found
     }
 }
 
-// The area itself, as a part of the lent stream; the empty part at its start where there is none.
+// A module's area itself, as a part of the lent stream; the empty part at the stream's start where there is none.
 pub fn area_of(stream: &[u8], sizes: ModuleSizes) -> &[u8]
     ensures { λ r. ⌜ HandsSpan (stream .entry) (heldSpan (moduleSpan sizes (now (stream .entry)))) r ⌝ }
 {
@@ -103,14 +103,14 @@ fn part_of(area: Found, otherwise: Part) -> Part
     }
 }
 
-// For the tables: an empty part with C11 lines.
+// The part of the stream that a call on a table reads: with C11 lines, the empty one.
 pub fn tables_part(stream: &[u8], sizes: ModuleSizes) -> Part
     ensures { λ r. ⌜ toldPart r ≡ tablesSpan sizes (now (stream .entry)) ⌝ }
 {
     part_of(module_area(stream, sizes), Part::At { start: 0, len: 0 })
 }
 
-// For lines and files: C11 lines are refused.
+// The part of the stream that a call on lines or files reads: C11 lines are refused.
 pub fn lines_part(stream: &[u8], sizes: ModuleSizes) -> Part
     ensures { λ r. ⌜ toldPart r ≡ linesSpan sizes (now (stream .entry)) ⌝ }
 {

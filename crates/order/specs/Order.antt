@@ -37,7 +37,7 @@ startsFrom rule s p = map subStart (listed (only (is 0xf2) (subsFrom rule s p)))
 abbrev pub orderOf : (ℕ → Sort) → List ℕ → List ℕ
 orderOf rule s = sortBy (rank s) (startsFrom rule s 0)
 
--- the answer for m slots: how many of them the list takes
+-- the answer of the order list for m slots: how many of them it takes
 abbrev pub inRoom : ℕ → Reply ℕ Told → Reply ℕ Told
 inRoom m (gave n) = cond (ltb m n) (refused (told why.NoRoom)) (gave n)
 inRoom m nothing = nothing
@@ -46,7 +46,7 @@ inRoom m (refused t) = refused t
 abbrev pub ordered : (ℕ → Sort) → List ℕ → ℕ → Reply ℕ Told
 ordered rule s m = inRoom m (countLines rule s)
 
--- the slots behind such an answer, which held xs before
+-- the slots behind an answer of the order list, which held xs before
 abbrev pub slotsBy : (ℕ → Sort) → List ℕ → List ℕ → Reply ℕ Told → List ℕ
 slotsBy rule s xs (gave n) = orderOf rule s ++ drop n xs
 slotsBy rule s xs nothing = xs
@@ -55,7 +55,7 @@ slotsBy rule s xs (refused t) = xs
 abbrev pub slotsAfter : (ℕ → Sort) → List ℕ → List ℕ → List ℕ
 slotsAfter rule s xs = slotsBy rule s xs (ordered rule s (length xs))
 
--- ---- the bodies themselves in walk order, with no place in sight
+-- ---- the line bodies of an area themselves, in walk order, with no place in sight
 
 abbrev pub isLines : Raw → Bool
 isLines r = eqb (r .kind) 0xf2

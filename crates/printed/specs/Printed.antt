@@ -1,5 +1,5 @@
 -- The lines of `c13dump`'s text, each as its pieces. Source: document 01, "Sheet lines to try": kinds, code offsets and checksum bytes in hex, other
--- numbers in decimal; no bytes as -, the kinds of checksum by their words. The line of a line record is in crate `line_text`.
+-- numbers in decimal; no bytes as -, the kinds of checksum by their words. The line of a line record is in LineText.
 -- Definitions only; a reader must believe them.
 use Prim.Native.Nat.{ℕ}
 use mathlib.Core.List.{List, [], _∷_}

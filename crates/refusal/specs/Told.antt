@@ -38,11 +38,11 @@ told why.NotPlain = bare 17
 told (why.NoFile index) = with 18 index
 told why.WrongSlot = bare 19
 
--- the number alone
+-- the number of a refusal alone
 abbrev pub numberOf : Told → ℕ
 numberOf t = t .number
 
--- what it carries, or 0
+-- what a refusal carries, or 0
 abbrev pub carriedOf : Told → ℕ
 carriedOf t = getD (t .carries) 0 0
 

@@ -20,8 +20,8 @@ const ROOM: usize = 400;
 
 const CALLS: usize = 38;
 
-// A call with its numbers, in the order of its parameters; the same for the item that it leaves, and for no item or a refusal in its stead. A list
-// is a place and a count: in the words or bytes that `main` lends for a call, in the area for an item.
+// A call, or the item that it leaves, with its numbers in the order of the call's parameters; or no item, or a refusal in its stead. A list is a place
+// and a count: in the words or bytes that `main` lends for a call, in the area for an item.
 enum Call {
     OpenLines(u32, u16, u16, u32),
     Block(u32, usize, usize, usize, usize),
@@ -38,10 +38,10 @@ enum Call {
     Refused,
 }
 
-// Which call it is, how many numbers it has, and these.
+// A call's numbers: which call it is, how many numbers it has, and these.
 struct Numbers(usize, u32, u32, u32, u32, u32);
 
-// Its words, its columns and its bytes.
+// A call's lists: its words, its columns and its bytes.
 struct Lists(usize, usize, usize, usize, usize, usize);
 
 // An item, and the walk behind it.
@@ -478,7 +478,7 @@ fn read_all(area: &[u8], accepted: u64, words: &[u32], bytes: &[u8]) -> bool {
     same & read(area, behind, Call::None, words, bytes)
 }
 
-// ---- what is printed behind them
+// ---- what is printed behind the calls and the items
 
 // A row of at most 32 bytes.
 fn row(area: &[u8], at: usize) {
@@ -496,7 +496,7 @@ fn bytes_of(area: &[u8]) {
     }
 }
 
-// All of it: the words and bytes are what the calls take their lists from.
+// The whole release: the words and bytes are what the calls take their lists from.
 fn release(buf: &mut [u8; ROOM], words: &[u32], bytes: &[u8]) {
     let accepted = write_all(buf, words, bytes);
     if read_all(buf, accepted, words, bytes) {

@@ -241,7 +241,7 @@ fn walk(area: &[u8], slots: &mut [u32]) {
     end();
 }
 
-// In two slots.
+// The order list in two slots, and three steps over it.
 fn walked(area: &[u8]) {
     let mut slots = [0u32; 2];
     walk(area, &mut slots);

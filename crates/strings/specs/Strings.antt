@@ -27,7 +27,7 @@ pub data Outcome : Type 0 where
   part : ℕ → ℕ → Outcome
   refused : Told → Outcome
 
--- where the names stand
+-- where the names stand in a stream
 unfoldable pub namesOf : List ℕ → Outcome
 namesOf s =
     cond (ltb longest (length s)) (refused (told why.TooLong))
@@ -42,7 +42,7 @@ unfoldable pub untilZero : List ℕ → List ℕ
 untilZero [] = []
 untilZero (b ∷ bs) = cond (eqb b 0) [] (b ∷ untilZero bs)
 
--- the names, and those from an offset on
+-- the bytes of the names, and those from an offset on
 abbrev pub names : List ℕ → List ℕ
 names s = take (namesSize s) (drop 12 s)
 

@@ -19,7 +19,7 @@ use Rattle.line_step.specs.declared.LineWalk.{LineWalk}
 use Rattle.line_step.specs.declared.LineWalk.the-variants.{Between}
 use Rattle.line_walk.specs.Meaning.{Records, bodyThen, settle}
 
--- a header at just this place; and one before it in its section
+-- does a header have just this section and offset? And does one stand before that offset in this section?
 abbrev pub headIs : ℕ → ℕ → LineHead → Bool
 headIs section offset h = eqb (h .section) section && eqb (h .offset) offset
 
@@ -46,7 +46,7 @@ bodyRecords (refused t) = fails t
 abbrev pub symbolRecords : (ℕ → Sort) → List ℕ → List ℕ → ℕ → ℕ → Records
 symbolRecords rule s v section offset = bodyRecords (symbolBody section offset (listOf rule s v))
 
--- ---- the walk over them: the slot of that body
+-- ---- the walk over a symbol's records: the slot of the body that they stand in
 
 pub record Numbered : Type 0 where
   pub slot : ℕ
@@ -70,11 +70,11 @@ abbrev pub slotIn : ℕ → ℕ → Listing (List ℕ) Told → Reply ℕ Told
 slotIn section offset l =
     mapReply slotOf same (orElse (firstBy (atSlot section offset) (numbered 0 l)) (lastBy (beforeSlot section offset) (numbered 0 l)))
 
--- the better of a slot with this header and the best so far
+-- the better of the slot i with the header h and the best slot y so far
 abbrev pub better : ℕ → ℕ → LineHead → ℕ → Reply ℕ Told → Reply ℕ Told
 better section offset h i y = cond (headBefore section offset h) (gave i) y
 
--- over the one subsection that a slot names; without one, at its end
+-- the walk over the one subsection that a slot names; without a slot it is at its end
 abbrev pub walkOf : Reply ℕ Told → LineWalk
 walkOf (gave i) = Between (record { slot = i; left = 1; scan = 0; held = Nothing })
 walkOf nothing = Between (record { slot = 0; left = 0; scan = 0; held = Nothing })

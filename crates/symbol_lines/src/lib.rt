@@ -55,7 +55,7 @@ fn better_slot(best: Best, head: LineHeader, section: u16, offset: u32, slot: us
     best
 }
 
-// Over the one subsection that a slot names, or over none.
+// The walk over the one subsection that a slot names, or over none.
 fn walk_of(best: Best) -> LineWalk
     ensures { λ r. ⌜ r ≡ walkOf (toldBest best) ⌝ }
 {
@@ -75,7 +75,8 @@ fn walk_of(best: Best) -> LineWalk
     }
 }
 
-// Through the first n slots. The list is tested once, so that each body is looked for where it is.
+// The walk over the symbol's subsection, which is looked for through the first n slots. The list is tested once, so that each body is looked for where
+// it is.
 fn find_slot(area: &[u8], slots: &[u32], n: usize, section: u16, offset: u32) -> SymbolLines
     ensures { λ r. ⌜ toldSymbol r ≡ walkTo (slotIn section offset (named (bodyAt crateRule (now (area .entry))) n (now (slots .entry)))) ⌝ }
 {

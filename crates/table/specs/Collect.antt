@@ -6,7 +6,7 @@ use mathlib.Core.List.{List, [], _∷_}
 use lib.ListN.{length}
 use Rattle.walk.specs.Listing.{Listing, more, ends, fails, Reply, gave, nothing, refused}
 
--- f of what was given
+-- f of what a reply gave
 abbrev pub onGave : {B C R : Type 0} → (B → Reply C R) → Reply B R → Reply C R
 onGave f (gave b) = f b
 onGave f nothing = nothing
@@ -17,7 +17,7 @@ collected (more b l) = onGave (λ bs. gave (b ∷ bs)) (collected l)
 collected ends = gave []
 collected (fails r) = refused r
 
--- how many there are
+-- how many records a listing has
 abbrev pub listingCount : {B R : Type 0} → Listing B R → Reply ℕ R
 listingCount {B} l = onGave (λ (bs : List B). gave (length bs)) (collected l)
 

@@ -29,6 +29,6 @@ module _ {B C : Type 0} (bite : List ℕ → Move (List ℕ) B Told) (size : B �
   unfoldable pub rowAt : List ℕ → ℕ → Answer ℕ C Told
   rowAt b p = cond (ltb (length b) p) (refuses (told why.Cut)) (rowOf size show p (bite (drop p b)))
 
-  -- the records from there on
+  -- the records of the body b from a place on
   unfoldable pub rowsFrom : List ℕ → ℕ → Listing C Told
   rowsFrom b p = cond (ltb (length b) p) (fails (told why.Cut)) (rowsPlaced size show p (all bite length (drop p b)))

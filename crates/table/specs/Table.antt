@@ -42,13 +42,13 @@ shifted show start len none = none
 shifted show start len (refuses t) = refuses t
 
 module _ {B C : Type 0} (step : List ℕ → ℕ → Answer ℕ B Told) (show : ℕ → B → C) where
-  -- what stands at a spot
+  -- the record that stands at a spot
   abbrev pub readAt : List ℕ → Reply Place Told → Answer TableWalk C Told
   readAt s (gave q) = shifted show (q .start) (q .len) (step (take (q .len) (drop (q .start) s)) (q .at))
   readAt s nothing = none
   readAt s (refused t) = refuses t
 
-  -- one step of a walk
+  -- one step of a walk over a table
   abbrev pub tableStep : Reply Span Told → List ℕ → TableWalk → Answer TableWalk C Told
   tableStep f s w = readAt s (spotOf f s w)
 

@@ -11,7 +11,7 @@ use Rattle.refusal.specs.declared.Refusal.the-variants as why
 use Rattle.body.specs.Words.{wordsIn}
 use Rattle.table.specs.Collect.{ofNth}
 
--- the words must lie in the area, else 1
+-- word i of the count words at a place of the area: these must lie in it, else 1
 unfoldable pub wordIn : List ℕ → ℕ → ℕ → ℕ → Reply ℕ Told
 wordIn s words count i =
     cond (ltb longest (length s)) (refused (told why.TooLong))

@@ -15,7 +15,7 @@ use refusal::LONGEST;
 use refusal::Refusal;
 use word::u32_at;
 
-// A state of such a walk: new, or at a place of the body of `len` bytes that starts at `start`.
+// A state of a walk over a table: new, or at a place of the body of `len` bytes that starts at `start`.
 pub enum TableWalk {
     New,
     In { start: usize, len: usize, at: usize },
@@ -28,7 +28,7 @@ pub enum Spot {
     Refused(Refusal),
 }
 
-// A walk that goes on: it trusts no state, so the body is held against the area again.
+// The spot of a walk that goes on: it trusts no state, so the body is held against the area again.
 pub fn spot_in(area: &[u8], start: usize, len: usize, at: usize) -> Spot
     ensures { λ r. ⌜ toldSpot r ≡ spotIn (now (area .entry)) start len at ⌝ }
 {
@@ -44,7 +44,7 @@ pub fn spot_in(area: &[u8], start: usize, len: usize, at: usize) -> Spot
     Spot::At { start, len, at }
 }
 
-// Of the table that is the first subsection of a kind.
+// The spot of a walk over the table that is the first subsection of a kind.
 pub fn spot_first(area: &[u8], kind: u32, walk: TableWalk) -> Spot
     ensures { λ r. ⌜ toldSpot r ≡ spotOf (firstSub crateRule kind (now (area .entry))) (now (area .entry)) walk ⌝ }
 {
@@ -54,7 +54,7 @@ pub fn spot_first(area: &[u8], kind: u32, walk: TableWalk) -> Spot
     }
 }
 
-// The start of the table that was found.
+// The spot of a new walk: the start of the table that was found.
 pub fn spot_new(found: Found) -> Spot
     ensures { λ r. ⌜ toldSpot r ≡ spotNew (toldFound found) ⌝ }
 {

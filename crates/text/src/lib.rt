@@ -150,7 +150,7 @@ fn spell_bytes(buf: &mut [u8], at: usize, bytes: &[u8])
     }
 }
 
-// Two digits a byte.
+// Bytes in hexadecimal, two digits each.
 pub fn put_hex_bytes(buf: &mut [u8], place: Place, bytes: &[u8]) -> Place
     ensures { λ r. ⌜ page (now (buf .exit)) (toldPlace r) ≡ pieceWritten (hexBytes (now (bytes .entry))) (page (now (buf .entry)) (toldPlace place)) ⌝ }
 {
