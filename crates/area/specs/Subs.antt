@@ -10,7 +10,7 @@ use Rattle.walk.specs.Listing.{Listing, more, ends, fails, Answer, gives, none,
 use Rattle.refusal.specs.Told.{Told, told, longest}
 use Rattle.refusal.specs.declared.Refusal.the-variants as why
 use Rattle.area.specs.Parts.{Raw, Parts, parts}
-use Rattle.area.specs.Kind.{Sort, onSort}
+use Rattle.area.specs.Kind.{Sort, onSort, crateRule}
 
 -- a subsection as an answer tells it: its kind, and where its body stands
 pub record Sub : Type 0 where
@@ -52,6 +52,18 @@ abbrev pub placeBehind : Answer ℕ Sub Told → ℕ → ℕ
 placeBehind (gives b x) p = x
 placeBehind none p = p
 placeBehind (refuses r) p = p
+
+-- a step of a walk from place p on: the answer, and the place behind it
+pub record WalkStep : Type 0 where
+  pub answer : Answer ℕ Sub Told
+  pub behind : ℕ
+
+abbrev pub stepFrom : (ℕ → Sort) → List ℕ → ℕ → WalkStep
+stepFrom rule s p = record { answer = stepAt rule s p; behind = placeBehind (stepAt rule s p) p }
+
+-- such a step by the crate's rule
+unfoldable pub crateStep : List ℕ → ℕ → WalkStep
+crateStep = stepFrom crateRule
 
 -- the meaning of parts, and of an area, without places: the bodies themselves, and a refusal's number alone
 unfoldable pub bodiesIn : (ℕ → Sort) → Parts → Listing Raw ℕ

@@ -19,7 +19,7 @@ use Rattle.refusal.specs.declared.Refusal.the-variants as why
 use Rattle.area.specs.Parts.{Raw, Lack, Parts, bite, parts}
 use Rattle.area.specs.PartsLaws.{parts-step, parts-ind, Bitten, bitten}
 use Rattle.area.specs.Kind.{Sort, known, skipped, unknown, onSort, crateRule}
-use Rattle.area.specs.Subs.{Sub, subOf, placed, subsFrom, firstOf, stepAt, bodiesIn, bodies, placeBehind}
+use Rattle.area.specs.Subs.{Sub, subOf, placed, subsFrom, firstOf, stepAt, bodiesIn, bodies, placeBehind, WalkStep, crateStep}
 use Rattle.area.specs.declared.SubStep.{SubStep}
 use Rattle.area.specs.Told.{toldStep}
 
@@ -356,8 +356,10 @@ step-right rule s p = by (subsFrom rule s p) (subs-chained rule s p)
 pub steps-are : (rule : ℕ → Sort) (s : List ℕ) (n p : ℕ) → calls (stepAt rule s) n p ≡ replies n (subsFrom rule s p)
 steps-are rule s = calls-are (stepAt rule s) (subsFrom rule s) (step-right rule s)
 
--- what an answer h that tells m says of a walk's step, read off the case g that h is
-pub stepped : (h g : SubStep) (m : Answer ℕ Sub Told) (p : ℕ) → toldStep h ≡ m → h ≡ g → (toldStep g ≡ m) × (placeBehind (toldStep g) p ≡ placeBehind m p)
-stepped h g m p e q =
-    let f : toldStep g ≡ m = ap toldStep (sym q) ∙ e in
-    (f, ap (λ (x : Answer ℕ Sub Told). placeBehind x p) f)
+-- a walk's step whose answer and whose place behind it are read off what the same call answered, h
+pub stepped : (s : List ℕ) (p : ℕ) (h a g : SubStep) → toldStep h ≡ stepAt crateRule s p → h ≡ a → h ≡ g
+    → record { answer = toldStep a; behind = placeBehind (toldStep g) p } ≡ crateStep s p
+unfolding crateStep
+stepped s p h a g e qa qg =
+    let told : (x : SubStep) → h ≡ x → toldStep x ≡ stepAt crateRule s p = λ x q. ap toldStep (sym q) ∙ e in
+    λ i. record { answer = told a qa i; behind = placeBehind (told g qg i) p }

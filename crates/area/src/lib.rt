@@ -5,9 +5,9 @@
 ghost use mathlib.Core.Path.{_≡_};
 ghost use Prim.Native.Nat.{_+_, _<_, _^_};
 ghost use Rattle.area.specs.Kind.{crateRule};
-ghost use Rattle.area.specs.Subs.{stepAt, placeBehind};
+ghost use Rattle.area.specs.Subs.{stepAt, crateStep};
 ghost use Rattle.area.specs.SubsLaws.{wholeAs, headAt};
-ghost use Rattle.area.specs.Told.{toldHead, toldStep};
+ghost use Rattle.area.specs.Told.{toldHead, toldStep, toldStepped};
 use refusal::LONGEST;
 use refusal::Refusal;
 use word::u32_at;
@@ -131,8 +131,7 @@ impl SubWalk {
     }
 
     pub fn step(self, area: &[u8]) -> Stepped
-        ensures { λ r. ⌜ (toldStep (r .step) ≡ stepAt crateRule (now (area .entry)) (self .at))
-            × (r .walk .at ≡ placeBehind (stepAt crateRule (now (area .entry)) (self .at)) (self .at)) ⌝ }
+        ensures { λ r. ⌜ toldStepped r ≡ crateStep (now (area .entry)) (self .at) ⌝ }
     {
         let at = self.at;
         let step = sub_at(area, at);

@@ -1,5 +1,6 @@
--- What the proofs by hand share: a function that takes a struct that holds the area meets its contract if a walk of its MIR does; and of each such
--- struct its type and laws, its machine value, and what it owns.
+-- What the proofs by hand share.
+mod Logic
 mod Held
-mod OfReader
-mod OfStepped
+mod Called
+mod Holder
+mod Structs

@@ -5,8 +5,7 @@ use Prim.Native.Nat.{ℕ}
 use mathlib.Core.List.{List}
 use Rattle.walk.specs.Listing.{Answer}
 use Rattle.refusal.specs.Told.{Told}
-use Rattle.area.specs.Kind.{Sort}
-use Rattle.area.specs.Subs.{Sub, stepAt, placeBehind}
+use Rattle.area.specs.Subs.{Sub, crateStep}
 
-abbrev pub second : (ℕ → Sort) → List ℕ → Answer ℕ Sub Told
-second rule s = stepAt rule s (placeBehind (stepAt rule s 0) 0)
+abbrev pub second : List ℕ → Answer ℕ Sub Told
+second s = crateStep s (crateStep s 0 .behind) .answer
