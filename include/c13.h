@@ -1,12 +1,17 @@
 /* c13.h: CodeView C13 areas, the part of a Windows PDB that says which source file and line each piece of code is from, with each file's checksum.
  *
- * The functions are those of the static library that `rt staticlib` makes (x86-64, System V calling convention, no library needed beside it).
- * Each is proved to meet its contract in crates/; this header says the same in words. "Document 01" is docs/01-scope.md.
+ * The functions are those of the static library that `rt staticlib` makes (x86-64, System V calling convention). Each is proved to meet its
+ * contract in crates/; this header says the same in words. "Document 01" is docs/01-scope.md. They call one function that is not theirs, memcpy of
+ * the C library, and nothing else; that it copies is trusted, and not proved.
+ *
+ * At the end of this header stand inline functions over these calls: walks, records and refusals as structs. They are easier to use, and no part of
+ * what is proved.
  *
  * WHAT A CALL IS LENT. Memory is lent as a pointer and a number of elements. A pointer must be valid for that number of elements and aligned to
  * its type; with the number 0 nothing is read through it, and it may be null. What may be written (`out`, `slots` of c13_order_list,
- * `records` of c13_lines and c13_files, `buf` of the writer) must be no part of anything else that is lent. That is all that is asked: any bytes, any numbers and any state of a walk are taken. The library keeps nothing
- * between calls, allocates nothing, and calls nothing; calls on different memory may run at the same time.
+ * `records` of c13_lines and c13_files, `buf` of the writer) must be no part of anything else that is lent. That is all that is asked: any bytes,
+ * any numbers and any state of a walk are taken. The library keeps nothing between calls and allocates nothing; calls on different memory may run
+ * at the same time.
  *
  * WHAT A CALL ANSWERS. A status, and words that it puts into `out`:
  *
@@ -22,9 +27,11 @@
  * WALKS. The first words of `out` are the state of a walk; all zeros is a new walk, and a word that is not lent counts as 0. A call that gives a
  * record puts the next state in front of it, so that calling again with the same `out` gives the next record. At its end a walk leaves its state and
  * answers C13_NONE, again and again; a walk that is refused leaves its state and gives the same refusal again. A state that no call gave is no
- * fault: it has one answer, too.
+ * fault: it has one answer, too. So words that another call answered are a state as well, and may be that of a walk at its end: begin each walk with
+ * zeros in an `out` of its own, or with a struct of those below.
  *
- * An area or a stream of more than 16,777,216 bytes is refused with C13_TOO_LONG, before anything else. */
+ * An area or a stream of more than 16,777,216 bytes is refused with C13_TOO_LONG, before anything else; but c13_plain says C13_NONE of such an area,
+ * and the buffer of the writer may be longer. */
 #ifndef C13_H
 #define C13_H
 
@@ -34,6 +41,9 @@
 #ifdef __cplusplus
 extern "C" {
 #endif
+
+/* The version of this header and of the library that it is for. */
+#define C13_VERSION "0.1.0"
 
 enum c13_status { C13_NONE = 0, C13_GIVEN = 1, C13_REFUSED = 2, C13_TOO_SHORT = 3 };
 
@@ -65,10 +75,29 @@ enum { C13_SUB_STATE = 1, C13_TABLE_STATE = 4, C13_LINE_STATE = 27, C13_RECORD =
 
 /* ---- subsections */
 
+/* Kinds of subsections, as cvinfo.h has them (DEBUG_S_..). The calls read the bodies of lines, checksums, inlinees, imports and exports. */
+enum c13_kind {
+    C13_KIND_SYMBOLS = 0xf1,
+    C13_KIND_LINES = 0xf2,
+    C13_KIND_STRING_TABLE = 0xf3,
+    C13_KIND_FILE_CHECKSUMS = 0xf4,
+    C13_KIND_FRAME_DATA = 0xf5,
+    C13_KIND_INLINEE_LINES = 0xf6,
+    C13_KIND_CROSS_SCOPE_IMPORTS = 0xf7,
+    C13_KIND_CROSS_SCOPE_EXPORTS = 0xf8,
+    C13_KIND_IL_LINES = 0xf9,
+    C13_KIND_FUNC_MDTOKEN_MAP = 0xfa,
+    C13_KIND_TYPE_MDTOKEN_MAP = 0xfb,
+    C13_KIND_MERGED_ASSEMBLY_INPUT = 0xfc,
+    C13_KIND_COFF_SYMBOL_RVA = 0xfd
+};
+/* Above what an enum of C99 holds. */
+#define C13_KIND_IGNORE UINT32_C(0x80000000)
+
 /* The next subsection of an area.
  * State, 1 word: the place, from the area's start. Given: the place behind the subsection, its kind, and where its body starts and its length.
  *   out[0] place   out[1] kind   out[2] start   out[3] length
- * Kinds 0xf1 to 0xfd are given, 0x80000000 is passed over, every other kind is C13_UNKNOWN_KIND. */
+ * The kinds of enum c13_kind are given, C13_KIND_IGNORE is passed over, every other kind is C13_UNKNOWN_KIND. */
 uint32_t c13_next_sub(const uint8_t *area, size_t area_len, uint64_t *out, size_t out_len);
 
 /* ---- lines */
@@ -203,7 +232,8 @@ uint32_t c13_tables_part(const uint8_t *stream, size_t stream_len, uint32_t symb
  * subsection's kind; C13_NOT_PLAIN where the entry would break a rule of plain areas; C13_NO_ROOM where it does not fit in the buffer or in
  * 16,777,216 bytes. */
 
-/* Whether an area is plain, which is what the writer makes: the full reading refuses nothing, and document 01's rules hold. C13_NONE: it is not.
+/* Whether an area is plain, which is what the writer makes: the full reading refuses nothing, and document 01's rules hold. C13_NONE: it is not, or it
+ * has more than 16,777,216 bytes. Never refused.
  *   out[0] place of its last header   out[1] kind of its last subsection   out[2] its mark; all 0 in an empty area */
 uint32_t c13_plain(const uint8_t *area, size_t area_len, uint64_t *out, size_t out_len);
 
@@ -235,6 +265,310 @@ uint32_t c13_add_pair(uint8_t *buf, size_t buf_len, size_t place, uint32_t local
 
 /* A subsection of kind 0xf1, 0xf3, 0xf5 or 0xf9 to 0xfd, whose body is given whole; its length is divisible by 4. */
 uint32_t c13_add_opaque(uint8_t *buf, size_t buf_len, size_t place, uint32_t kind, const uint8_t *body, size_t body_len, uint64_t *out, size_t out_len);
+
+/* ---- the same calls with structs, inline
+ *
+ * A walk is a struct of its own. c13_.._walk_begin makes it, c13_.._walk_next stores the next record, c13_.._walk_many as many as there is room for. A
+ * call that steps no walk has the name c13_ask_.. here. Each answers what its call answers: C13_GIVEN, and the answer is stored; C13_NONE;
+ * C13_REFUSED, and why is stored, in the walk or, where it is not null, behind the last pointer. C13_TOO_SHORT does not come.
+ *
+ *     struct c13_line_walk walk = c13_line_walk_begin(area, area_len, slots, used);
+ *     struct c13_line line;
+ *     while (c13_line_walk_next(&walk, &line) == C13_GIVEN) use(&line);
+ *     if (walk.refused.number) fail(c13_refusal_text(walk.refused.number)); */
+
+/* Why the last call was refused: the number, of enum c13_refusal, and what it carries, or 0. The number is 0 where the last call was not refused. */
+struct c13_refused {
+    uint32_t number;
+    uint64_t carried;
+};
+
+/* What a refusal's number says. */
+static inline const char *c13_refusal_text(uint32_t number) {
+    switch (number) {
+    case C13_CUT: return "a field, body, padding or name ends past its data";
+    case C13_UNKNOWN_KIND: return "unknown subsection kind";
+    case C13_UNKNOWN_CHECKSUM_KIND: return "unknown checksum kind";
+    case C13_EXPORT_LENGTH: return "the export body is no multiple of 8 bytes";
+    case C13_NOT_A_CROSS_MODULE_REF: return "not a cross-module reference";
+    case C13_CROSS_MODULE_REF_NOT_FOUND: return "cross-module reference not found";
+    case C13_BLOCK_SIZE: return "a block's size is below 12, or its lines and columns exceed it";
+    case C13_OFFSET_TOO_LARGE: return "an offset is above 4,294,967,295";
+    case C13_UNSORTED_EXPORTS: return "the local indices of the exports do not ascend";
+    case C13_NO_ROOM: return "the lent room is too small";
+    case C13_TOO_LONG: return "above 16,777,216 bytes";
+    case C13_OLD_FORMAT: return "C11 lines, or a symbol signature that is not 4";
+    case C13_NO_STRING_TABLE: return "not a string table";
+    case C13_HASH_VERSION: return "unknown hash version of a string table";
+    case C13_MODULE_SIZES: return "a module's sizes exceed its stream";
+    case C13_WRONG_PLACE: return "an entry at a wrong place";
+    case C13_NOT_PLAIN: return "an entry that would break a plain area";
+    case C13_NO_FILE: return "no file at the end of the checksum data";
+    case C13_WRONG_SLOT: return "a slot names no line subsection";
+    default: return "unknown refusal";
+    }
+}
+
+/* A file's index or a name's offset for a call that takes 32 bits: a larger number names nothing, and neither does the largest of these. */
+static inline uint32_t c13_number(uint64_t number) { return number > UINT32_MAX ? UINT32_MAX : (uint32_t)number; }
+
+/* The status of a call, with why it was refused out of the two words where that stands. */
+static inline enum c13_status c13_told(uint32_t status, const uint64_t *words, struct c13_refused *why) {
+    if (why) {
+        why->number = status == C13_REFUSED ? (uint32_t)words[0] : 0;
+        why->carried = status == C13_REFUSED ? words[1] : 0;
+    }
+    return (enum c13_status)status;
+}
+
+/* Records, in words of 64 bits as the calls give them. `kind` is of enum c13_kind or enum c13_checksum_kind; `start` and `length` name a part of the lent
+ * bytes (but the length of a line is that of its code); `file` and `index` are for c13_ask_file_at, `name` is for c13_ask_name, `words` and
+ * `count` are for c13_ask_word. Where has_.. is 0 there is no such number. */
+struct c13_sub {
+    uint64_t kind, start, length;
+};
+struct c13_line {
+    uint64_t section, offset, has_length, length, file, start_line, end_line, has_start_column, start_column, has_end_column, end_column, is_statement;
+};
+struct c13_file {
+    uint64_t index, name, kind, start, length;
+};
+struct c13_inlinee {
+    uint64_t inlinee, file, line, words, count;
+};
+struct c13_import {
+    uint64_t name, words, count;
+};
+struct c13_export {
+    uint64_t is_id, local, global;
+};
+struct c13_part {
+    uint64_t start, length;
+};
+
+/* c13_lines and c13_files write these structs: they are the words of a record, and no more. */
+typedef char c13_line_is_a_record[sizeof(struct c13_line) == C13_RECORD * sizeof(uint64_t) ? 1 : -1];
+typedef char c13_file_is_a_record[sizeof(struct c13_file) == C13_FILE_RECORD * sizeof(uint64_t) ? 1 : -1];
+
+/* Walks: what is lent, the words of the call, why it was refused. What is lent must stay as it is while the walk is used. */
+struct c13_sub_walk {
+    const uint8_t *area;
+    size_t area_len;
+    uint64_t out[C13_SUB_STATE + 3];
+    struct c13_refused refused;
+};
+struct c13_line_walk {
+    const uint8_t *area;
+    size_t area_len;
+    const uint32_t *slots;
+    size_t slots_len;
+    uint64_t out[C13_LINE_STATE + C13_RECORD];
+    struct c13_refused refused;
+};
+struct c13_file_walk {
+    const uint8_t *area;
+    size_t area_len;
+    uint64_t out[C13_TABLE_STATE + C13_FILE_RECORD];
+    struct c13_refused refused;
+};
+struct c13_inlinee_walk {
+    const uint8_t *area;
+    size_t area_len;
+    uint64_t out[C13_TABLE_STATE + 5];
+    struct c13_refused refused;
+};
+struct c13_import_walk {
+    const uint8_t *area;
+    size_t area_len;
+    uint64_t out[C13_TABLE_STATE + 3];
+    struct c13_refused refused;
+};
+struct c13_export_walk {
+    const uint8_t *area;
+    size_t area_len;
+    uint64_t out[C13_TABLE_STATE + 3];
+    struct c13_refused refused;
+};
+
+/* Subsections: c13_next_sub. */
+static inline struct c13_sub_walk c13_sub_walk_begin(const uint8_t *area, size_t area_len) {
+    struct c13_sub_walk walk = {area, area_len, {0}, {0, 0}};
+    return walk;
+}
+static inline enum c13_status c13_sub_walk_next(struct c13_sub_walk *walk, struct c13_sub *sub) {
+    const uint64_t *w = walk->out + C13_SUB_STATE;
+    enum c13_status status = c13_told(c13_next_sub(walk->area, walk->area_len, walk->out, C13_SUB_STATE + 3), w, &walk->refused);
+    if (status == C13_GIVEN) { sub->kind = w[0]; sub->start = w[1]; sub->length = w[2]; }
+    return status;
+}
+
+/* The order list: c13_order_list, which writes the slots. `used` of them are for the walk over the lines. */
+static inline enum c13_status c13_ask_order_list(const uint8_t *area, size_t area_len, uint32_t *slots, size_t slots_len, size_t *used,
+                                                 struct c13_refused *why) {
+    uint64_t out[2] = {0, 0};
+    enum c13_status status = c13_told(c13_order_list(area, area_len, slots, slots_len, out, 2), out, why);
+    if (status == C13_GIVEN) *used = (size_t)out[0];
+    return status;
+}
+
+/* Lines: c13_next_line, and c13_lines for many, whose room is a number of lines. */
+static inline struct c13_line_walk c13_line_walk_begin(const uint8_t *area, size_t area_len, const uint32_t *slots, size_t slots_len) {
+    struct c13_line_walk walk = {area, area_len, slots, slots_len, {0}, {0, 0}};
+    return walk;
+}
+/* The lines of a symbol: c13_lines_for_symbol. C13_GIVEN: the walk is begun. A walk that was not is refused with the same refusal at each step. */
+static inline enum c13_status c13_line_walk_begin_symbol(struct c13_line_walk *walk, const uint8_t *area, size_t area_len, const uint32_t *slots,
+                                                         size_t slots_len, uint16_t section, uint32_t offset) {
+    *walk = c13_line_walk_begin(area, area_len, slots, slots_len);
+    return c13_told(c13_lines_for_symbol(area, area_len, slots, slots_len, section, offset, walk->out, C13_LINE_STATE), walk->out, &walk->refused);
+}
+/* Whether a walk stays refused: so does each but one that lacks room, which may be given. */
+static inline int c13_line_walk_stays(const struct c13_line_walk *walk) { return walk->refused.number && walk->refused.number != C13_NO_ROOM; }
+static inline enum c13_status c13_line_walk_next(struct c13_line_walk *walk, struct c13_line *line) {
+    const uint64_t *w = walk->out + C13_LINE_STATE;
+    enum c13_status status;
+    if (c13_line_walk_stays(walk)) return C13_REFUSED;
+    status = c13_told(c13_next_line(walk->area, walk->area_len, walk->slots, walk->slots_len, walk->out, C13_LINE_STATE + C13_RECORD), w, &walk->refused);
+    if (status == C13_GIVEN) {
+        line->section = w[C13_SECTION]; line->offset = w[C13_OFFSET]; line->has_length = w[C13_HAS_LENGTH]; line->length = w[C13_LENGTH];
+        line->file = w[C13_FILE]; line->start_line = w[C13_START_LINE]; line->end_line = w[C13_END_LINE];
+        line->has_start_column = w[C13_HAS_START_COLUMN]; line->start_column = w[C13_START_COLUMN];
+        line->has_end_column = w[C13_HAS_END_COLUMN]; line->end_column = w[C13_END_COLUMN]; line->is_statement = w[C13_IS_STATEMENT];
+    }
+    return status;
+}
+static inline enum c13_status c13_line_walk_many(struct c13_line_walk *walk, struct c13_line *lines, size_t room, size_t *count) {
+    enum c13_status status;
+    *count = 0;
+    if (c13_line_walk_stays(walk)) return C13_REFUSED;
+    status = c13_told(c13_lines(walk->area, walk->area_len, walk->slots, walk->slots_len, (uint64_t *)lines, room * C13_RECORD, walk->out, C13_LINE_STATE + 2),
+                      walk->out + C13_LINE_STATE, &walk->refused);
+    if (status == C13_GIVEN) *count = (size_t)walk->out[C13_LINE_STATE];
+    return status;
+}
+
+/* Files: c13_next_file, c13_files for many, whose room is a number of files, and c13_file_at. */
+static inline struct c13_file_walk c13_file_walk_begin(const uint8_t *area, size_t area_len) {
+    struct c13_file_walk walk = {area, area_len, {0}, {0, 0}};
+    return walk;
+}
+static inline enum c13_status c13_file_walk_next(struct c13_file_walk *walk, struct c13_file *file) {
+    const uint64_t *w = walk->out + C13_TABLE_STATE;
+    enum c13_status status = c13_told(c13_next_file(walk->area, walk->area_len, walk->out, C13_TABLE_STATE + C13_FILE_RECORD), w, &walk->refused);
+    if (status == C13_GIVEN) { file->index = w[0]; file->name = w[1]; file->kind = w[2]; file->start = w[3]; file->length = w[4]; }
+    return status;
+}
+static inline enum c13_status c13_file_walk_many(struct c13_file_walk *walk, struct c13_file *files, size_t room, size_t *count) {
+    enum c13_status status = c13_told(c13_files(walk->area, walk->area_len, (uint64_t *)files, room * C13_FILE_RECORD, walk->out, C13_TABLE_STATE + 2),
+                                      walk->out + C13_TABLE_STATE, &walk->refused);
+    *count = status == C13_GIVEN ? (size_t)walk->out[C13_TABLE_STATE] : 0;
+    return status;
+}
+static inline enum c13_status c13_ask_file_at(const uint8_t *area, size_t area_len, uint64_t index, struct c13_file *file, struct c13_refused *why) {
+    uint64_t out[4] = {0, 0, 0, 0};
+    enum c13_status status = c13_told(c13_file_at(area, area_len, c13_number(index), out, 4), out, why);
+    if (status == C13_GIVEN) { file->index = index; file->name = out[0]; file->kind = out[1]; file->start = out[2]; file->length = out[3]; }
+    return status;
+}
+
+/* Inlinees, imports and exports: c13_next_inlinee, c13_next_import, c13_next_export. */
+static inline struct c13_inlinee_walk c13_inlinee_walk_begin(const uint8_t *area, size_t area_len) {
+    struct c13_inlinee_walk walk = {area, area_len, {0}, {0, 0}};
+    return walk;
+}
+static inline enum c13_status c13_inlinee_walk_next(struct c13_inlinee_walk *walk, struct c13_inlinee *inlinee) {
+    const uint64_t *w = walk->out + C13_TABLE_STATE;
+    enum c13_status status = c13_told(c13_next_inlinee(walk->area, walk->area_len, walk->out, C13_TABLE_STATE + 5), w, &walk->refused);
+    if (status == C13_GIVEN) { inlinee->inlinee = w[0]; inlinee->file = w[1]; inlinee->line = w[2]; inlinee->words = w[3]; inlinee->count = w[4]; }
+    return status;
+}
+static inline struct c13_import_walk c13_import_walk_begin(const uint8_t *area, size_t area_len) {
+    struct c13_import_walk walk = {area, area_len, {0}, {0, 0}};
+    return walk;
+}
+static inline enum c13_status c13_import_walk_next(struct c13_import_walk *walk, struct c13_import *imported) {
+    const uint64_t *w = walk->out + C13_TABLE_STATE;
+    enum c13_status status = c13_told(c13_next_import(walk->area, walk->area_len, walk->out, C13_TABLE_STATE + 3), w, &walk->refused);
+    if (status == C13_GIVEN) { imported->name = w[0]; imported->words = w[1]; imported->count = w[2]; }
+    return status;
+}
+static inline struct c13_export_walk c13_export_walk_begin(const uint8_t *area, size_t area_len) {
+    struct c13_export_walk walk = {area, area_len, {0}, {0, 0}};
+    return walk;
+}
+static inline enum c13_status c13_export_walk_next(struct c13_export_walk *walk, struct c13_export *exported) {
+    const uint64_t *w = walk->out + C13_TABLE_STATE;
+    enum c13_status status = c13_told(c13_next_export(walk->area, walk->area_len, walk->out, C13_TABLE_STATE + 3), w, &walk->refused);
+    if (status == C13_GIVEN) { exported->is_id = w[0]; exported->local = w[1]; exported->global = w[2]; }
+    return status;
+}
+
+/* A word of an inlinee's extra files or of an import: c13_word. C13_NONE behind the last. */
+static inline enum c13_status c13_ask_word(const uint8_t *area, size_t area_len, uint64_t words, uint64_t count, uint64_t i, uint64_t *word,
+                                           struct c13_refused *why) {
+    uint64_t out[2] = {0, 0};
+    enum c13_status status = c13_told(c13_word(area, area_len, (size_t)words, (size_t)count, (size_t)i, out, 2), out, why);
+    if (status == C13_GIVEN) *word = out[0];
+    return status;
+}
+/* A cross-module reference: c13_resolve_import. */
+static inline enum c13_status c13_ask_resolve_import(const uint8_t *area, size_t area_len, uint32_t index, uint64_t *name, uint64_t *word,
+                                                     struct c13_refused *why) {
+    uint64_t out[2] = {0, 0};
+    enum c13_status status = c13_told(c13_resolve_import(area, area_len, index, out, 2), out, why);
+    if (status == C13_GIVEN) { *name = out[0]; *word = out[1]; }
+    return status;
+}
+/* The number of exports, and the global index of a local one: c13_export_count, c13_resolve_export. */
+static inline enum c13_status c13_ask_export_count(const uint8_t *area, size_t area_len, uint64_t *count, struct c13_refused *why) {
+    uint64_t out[2] = {0, 0};
+    enum c13_status status = c13_told(c13_export_count(area, area_len, out, 2), out, why);
+    if (status == C13_GIVEN) *count = out[0];
+    return status;
+}
+static inline enum c13_status c13_ask_resolve_export(const uint8_t *area, size_t area_len, uint32_t local, uint64_t *global, struct c13_refused *why) {
+    uint64_t out[2] = {0, 0};
+    enum c13_status status = c13_told(c13_resolve_export(area, area_len, local, out, 2), out, why);
+    if (status == C13_GIVEN) *global = out[0];
+    return status;
+}
+
+/* Strings: c13_string_table, c13_name. The part is one of the stream. */
+static inline enum c13_status c13_ask_string_table(const uint8_t *stream, size_t stream_len, struct c13_part *names, struct c13_refused *why) {
+    uint64_t out[2] = {0, 0};
+    enum c13_status status = c13_told(c13_string_table(stream, stream_len, out, 2), out, why);
+    if (status == C13_GIVEN) { names->start = out[0]; names->length = out[1]; }
+    return status;
+}
+static inline enum c13_status c13_ask_name(const uint8_t *stream, size_t stream_len, uint64_t offset, struct c13_part *name, struct c13_refused *why) {
+    uint64_t out[2] = {0, 0};
+    enum c13_status status = c13_told(c13_name(stream, stream_len, c13_number(offset), out, 2), out, why);
+    if (status == C13_GIVEN) { name->start = out[0]; name->length = out[1]; }
+    return status;
+}
+
+/* A module's sizes, as the DBI stream has them: c13_module_symbols, c13_lines_part, c13_tables_part. */
+struct c13_sizes {
+    uint32_t symbols, c11, c13;
+};
+static inline enum c13_status c13_ask_module_symbols(const uint8_t *stream, size_t stream_len, struct c13_sizes sizes, struct c13_refused *why) {
+    uint64_t out[2] = {0, 0};
+    return c13_told(c13_module_symbols(stream, stream_len, sizes.symbols, sizes.c11, sizes.c13, out, 2), out, why);
+}
+static inline enum c13_status c13_ask_lines_part(const uint8_t *stream, size_t stream_len, struct c13_sizes sizes, struct c13_part *part,
+                                                 struct c13_refused *why) {
+    uint64_t out[2] = {0, 0};
+    enum c13_status status = c13_told(c13_lines_part(stream, stream_len, sizes.symbols, sizes.c11, sizes.c13, out, 2), out, why);
+    if (status == C13_GIVEN) { part->start = out[0]; part->length = out[1]; }
+    return status;
+}
+static inline enum c13_status c13_ask_tables_part(const uint8_t *stream, size_t stream_len, struct c13_sizes sizes, struct c13_part *part,
+                                                  struct c13_refused *why) {
+    uint64_t out[2] = {0, 0};
+    enum c13_status status = c13_told(c13_tables_part(stream, stream_len, sizes.symbols, sizes.c11, sizes.c13, out, 2), out, why);
+    if (status == C13_GIVEN) { part->start = out[0]; part->length = out[1]; }
+    return status;
+}
 
 #ifdef __cplusplus
 }

@@ -15,7 +15,7 @@ enum { ROOM = 1 << 20, WORDS = 64, RECORDS = 2 * C13_RECORD };
 /* ---- memory that ends where a page ends */
 
 static uint8_t *page_end(void) {
-    uint8_t *p = mmap(NULL, ROOM + 4096, PROT_READ | PROT_WRITE, MAP_PRIVATE | MAP_ANONYMOUS, -1, 0);
+    uint8_t *p = (uint8_t *)mmap(NULL, ROOM + 4096, PROT_READ | PROT_WRITE, MAP_PRIVATE | MAP_ANONYMOUS, -1, 0);
     if (p == MAP_FAILED || mprotect(p + ROOM, 4096, PROT_NONE)) exit(3);
     return p + ROOM;
 }
@@ -26,7 +26,7 @@ static uint32_t *slots_end; /* where lent slots end */
 static uint64_t *records_end; /* where words lent for records end */
 
 /* Copies bytes to where they end with their page. */
-static const uint8_t *lent(const void *bytes, size_t n) { return n ? memcpy(bytes_end - n, bytes, n) : bytes_end; }
+static const uint8_t *lent(const void *bytes, size_t n) { return n ? (const uint8_t *)memcpy(bytes_end - n, bytes, n) : bytes_end; }
 
 /* ---- the functions on an area or a stream, as one type */
 
@@ -109,9 +109,13 @@ static uint32_t open_inlinees(uint8_t *b, size_t n, size_t at, uint64_t *o, size
 static uint32_t add_inlinee(uint8_t *b, size_t n, size_t at, uint64_t *o, size_t m) {
     return c13_add_inlinee(b, n, at, numbers[0], numbers[1], numbers[2], line_words, words_given, o, m);
 }
-static uint32_t add_module(uint8_t *b, size_t n, size_t at, uint64_t *o, size_t m) { return c13_add_module(b, n, at, numbers[0], line_words, words_given, o, m); }
+static uint32_t add_module(uint8_t *b, size_t n, size_t at, uint64_t *o, size_t m) {
+    return c13_add_module(b, n, at, numbers[0], line_words, words_given, o, m);
+}
 static uint32_t add_pair(uint8_t *b, size_t n, size_t at, uint64_t *o, size_t m) { return c13_add_pair(b, n, at, numbers[0], numbers[1], o, m); }
-static uint32_t add_opaque(uint8_t *b, size_t n, size_t at, uint64_t *o, size_t m) { return c13_add_opaque(b, n, at, numbers[0], sum_bytes, bytes_given, o, m); }
+static uint32_t add_opaque(uint8_t *b, size_t n, size_t at, uint64_t *o, size_t m) {
+    return c13_add_opaque(b, n, at, numbers[0], sum_bytes, bytes_given, o, m);
+}
 
 /* With numbers, words, columns and bytes that are accepted in this order. */
 static const struct writer {
@@ -281,7 +285,7 @@ static void fail(const struct function *f, const char *why) {
 }
 
 /* A call with m words lent that hold `state`: what must hold of every answer. */
-static uint32_t try(const struct function *f, const uint8_t *bytes, size_t n, const uint64_t *state, size_t m) {
+static uint32_t tried(const struct function *f, const uint8_t *bytes, size_t n, const uint64_t *state, size_t m) {
     static uint8_t before[4096];
     uint64_t *out = words_end - m, *records = records_end - RECORDS, first[WORDS], kept[RECORDS];
     uint32_t status, again;
@@ -313,13 +317,13 @@ static struct { const uint8_t *bytes; size_t n; } whole[3];
 /* Each function with 0 to WORDS words for its answer: too few are told, and change nothing. */
 static void few_words(void) {
     printf("-- few words\n");
-    static const uint64_t zeros[WORDS];
+    static const uint64_t zeros[WORDS] = {0};
     use_list(every_bytes, sizeof every);
     for (const struct function *f = functions; f < functions + FUNCTIONS; f++) {
         size_t n = whole[f->reads].n, few = 0;
         const uint8_t *bytes = lent(whole[f->reads].bytes, n);
         number = f->f == resolve_import ? 0x80000000 : f->f == resolve_export ? 7 : 0;
-        for (size_t m = 0; m <= WORDS; m++) few += try(f, bytes, n, zeros, m) == C13_TOO_SHORT;
+        for (size_t m = 0; m <= WORDS; m++) few += tried(f, bytes, n, zeros, m) == C13_TOO_SHORT;
         printf("%s: too short below %zu\n", f->name, few);
     }
 }
@@ -375,9 +379,9 @@ static void by_chance(void) {
         number = (uint32_t)(chance() % 4 ? chance() % 2 << 31 | chance() % 40 : number_by_chance());
         for (size_t i = 0; i < 3; i++) sizes[i] = (uint32_t)(chance() % 4 ? 4 * (chance() % 3) : number_by_chance());
         const struct function *f = functions + round % FUNCTIONS;
-        size_t n = spoilt(f->reads), m = chance() % 8 ? WORDS : chance() % WORDS;
+        size_t n = spoilt(f->reads), m = chance() % 8 ? (size_t)WORDS : chance() % WORDS;
         list_by_chance(bytes_end - n, n);
-        uint32_t status = try(f, bytes_end - n, n, state, m);
+        uint32_t status = tried(f, bytes_end - n, n, state, m);
         told[f - functions][status]++;
         if (status == C13_REFUSED) refusals[(words_end - m)[f->state]]++;
     }
@@ -439,7 +443,7 @@ static void writing_by_chance(void) {
 static void too_long(void) {
     printf("-- one byte too many\n");
     size_t n = 16777217;
-    uint8_t *area = calloc(n, 1);
+    uint8_t *area = (uint8_t *)calloc(n, 1);
     uint64_t out[WORDS];
     for (const struct function *f = functions; f < functions + FUNCTIONS; f++) {
         memset(out, 0, sizeof out);

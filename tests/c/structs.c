@@ -1,0 +1,287 @@
+/* structs.c: the inline functions of include/c13.h, held against the calls that they make. What it prints is held against structs.stdout.
+ *
+ *   structs AREA NAMES    the files examples/table.c13 and examples/table.names
+ *
+ * First the example as a user would read it; then every walk and every question, on an area with every table, a string table and a module, whole, cut at
+ * each length and with each byte spoilt: the same status, the same words, the same refusal as from the call. */
+#include "c13.h"
+#include <stdio.h>
+#include <stdlib.h>
+#include <string.h>
+
+typedef unsigned long long shown;
+
+/* ---- the example, by structs alone */
+
+static void read_area(const uint8_t *area, size_t n, const uint8_t *names, size_t k) {
+    uint32_t slots[16];
+    size_t used = 0, count, i;
+    struct c13_refused why;
+    struct c13_sub sub;
+    struct c13_file file;
+    struct c13_line line, four[4];
+    struct c13_part name;
+    struct c13_sub_walk subs = c13_sub_walk_begin(area, n);
+    struct c13_file_walk files = c13_file_walk_begin(area, n);
+    struct c13_line_walk lines;
+    printf("-- the example, version %s\n", C13_VERSION);
+    while (c13_sub_walk_next(&subs, &sub) == C13_GIVEN)
+        printf("%s of %llu bytes at %llu\n", sub.kind == C13_KIND_LINES ? "lines" : sub.kind == C13_KIND_FILE_CHECKSUMS ? "checksums" : "?", (shown)sub.length,
+               (shown)sub.start);
+    while (c13_file_walk_next(&files, &file) == C13_GIVEN) {
+        if (c13_ask_name(names, k, file.name, &name, &why) != C13_GIVEN) exit(1);
+        printf("file %llu %.*s %s ", (shown)file.index, (int)name.length, (const char *)names + name.start, file.kind == C13_CHECKSUM_MD5 ? "md5" : "?");
+        for (i = 0; i < file.length; i++) printf("%02x", area[file.start + i]);
+        printf("\n");
+    }
+    if (c13_ask_order_list(area, n, slots, 16, &used, &why) != C13_GIVEN) exit(1);
+    lines = c13_line_walk_begin(area, n, slots, used);
+    while (c13_line_walk_many(&lines, four, 4, &count) == C13_GIVEN)
+        for (i = 0; i < count; i++)
+            printf("%llu:%llx line %llu%s", (shown)four[i].section, (shown)four[i].offset, (shown)four[i].start_line, i == count - 1 ? "\n" : ", ");
+    if (c13_line_walk_begin_symbol(&lines, area, n, slots, used, 1, 0x71) != C13_GIVEN) exit(1);
+    while (c13_line_walk_next(&lines, &line) == C13_GIVEN)
+        if (line.offset <= 0x88 && line.has_length && 0x88 < line.offset + line.length) {
+            if (c13_ask_file_at(area, n, line.file, &file, &why) != C13_GIVEN || c13_ask_name(names, k, file.name, &name, &why) != C13_GIVEN) exit(1);
+            printf("1:88 is of %.*s, line %llu\n", (int)name.length, (const char *)names + name.start, (shown)line.start_line);
+        }
+    if (lines.refused.number) exit(1);
+}
+
+/* What a word of one call does to the walk of another, and that a walk of its own has no such word. */
+static void words_of_another(const uint8_t *area, size_t n) {
+    uint32_t slots[16];
+    uint64_t out[C13_MOST] = {0};
+    size_t used = 0;
+    struct c13_line_walk walk;
+    struct c13_line line;
+    printf("-- words of another call\n");
+    if (c13_order_list(area, n, slots, 16, out, C13_MOST) != C13_GIVEN) exit(1);
+    used = (size_t)out[0];
+    printf("c13_next_line with the words of c13_order_list: status %u\n", c13_next_line(area, n, slots, used, out, C13_MOST));
+    walk = c13_line_walk_begin(area, n, slots, used);
+    if (c13_line_walk_next(&walk, &line) != C13_GIVEN) exit(1);
+    printf("c13_line_walk_next: given, line %llu\n", (shown)line.start_line);
+}
+
+/* ---- every inline function against its call */
+
+static unsigned compared, given, refused;
+
+/* Two answers to the same: the call's status and words, and the struct's status, fields and refusal. */
+static void same(const char *what, uint32_t status, const uint64_t *words, enum c13_status told, const void *fields, size_t size,
+                 const struct c13_refused *why) {
+    int right = status == (uint32_t)told;
+    if (status == C13_GIVEN) right = right && !memcmp(words, fields, size);
+    if (status == C13_REFUSED)
+        right = right && why->number == words[0] && why->carried == words[1];
+    else
+        right = right && !why->number && !why->carried;
+    if (!right) {
+        printf("%s: another answer\n", what);
+        exit(1);
+    }
+    compared++, given += status == C13_GIVEN, refused += status == C13_REFUSED;
+}
+
+/* Both walks, record by record, and their last answer a second time. */
+#define SAME_WALK(what, call, state, walk_next, walk, record)                                    \
+    do {                                                                                         \
+        uint64_t out[C13_MOST] = {0};                                                            \
+        uint32_t status, ended = 0;                                                              \
+        do {                                                                                     \
+            status = call;                                                                       \
+            enum c13_status told = walk_next(&walk, &record);                                    \
+            same(what, status, out + state, told, &record, sizeof record, &walk.refused);        \
+            ended += status != C13_GIVEN;                                                        \
+        } while (ended < 2);                                                                     \
+    } while (0)
+
+static uint32_t slots[16];
+
+static void lines_many(const uint8_t *area, size_t n, size_t used) {
+    uint64_t out[C13_MOST] = {0}, words[3 * C13_RECORD];
+    struct c13_line three[3];
+    struct c13_line_walk walk = c13_line_walk_begin(area, n, slots, used);
+    size_t count, room = 0;
+    uint32_t status;
+    do {
+        status = c13_lines(area, n, slots, used, words, room * C13_RECORD, out, C13_MOST);
+        enum c13_status told = c13_line_walk_many(&walk, three, room, &count);
+        if (count != (status == C13_GIVEN ? out[C13_LINE_STATE] : 0)) exit(1);
+        same("c13_line_walk_many", status, status == C13_GIVEN ? words : out + C13_LINE_STATE, told, three, count * sizeof *three, &walk.refused);
+        room = room == 3 ? 1 : room + 1;
+    } while (status == C13_GIVEN || room == 1); /* the first has no room, and is refused for that alone */
+}
+
+static void files_many(const uint8_t *area, size_t n) {
+    uint64_t out[C13_MOST] = {0}, words[3 * C13_FILE_RECORD];
+    struct c13_file three[3];
+    struct c13_file_walk walk = c13_file_walk_begin(area, n);
+    size_t count, room = 0;
+    uint32_t status;
+    do {
+        status = c13_files(area, n, words, room * C13_FILE_RECORD, out, C13_MOST);
+        enum c13_status told = c13_file_walk_many(&walk, three, room, &count);
+        if (count != (status == C13_GIVEN ? out[C13_TABLE_STATE] : 0)) exit(1);
+        same("c13_file_walk_many", status, status == C13_GIVEN ? words : out + C13_TABLE_STATE, told, three, count * sizeof *three, &walk.refused);
+        room = room == 3 ? 1 : room + 1;
+    } while (status == C13_GIVEN || room == 1);
+}
+
+static void symbol_lines(const uint8_t *area, size_t n, size_t used, uint32_t offset) {
+    uint64_t out[C13_MOST] = {0};
+    struct c13_line_walk walk;
+    struct c13_line line;
+    uint32_t status = c13_lines_for_symbol(area, n, slots, used, 1, offset, out, C13_MOST);
+    enum c13_status told = c13_line_walk_begin_symbol(&walk, area, n, slots, used, 1, offset);
+    same("c13_line_walk_begin_symbol", status, out, told, walk.out, C13_LINE_STATE * sizeof *out, &walk.refused);
+    while (status == C13_GIVEN) {
+        status = c13_next_line(area, n, slots, used, out, C13_MOST);
+        told = c13_line_walk_next(&walk, &line);
+        same("lines of a symbol", status, out + C13_LINE_STATE, told, &line, sizeof line, &walk.refused);
+    }
+    /* a walk that was not begun is refused, and not begun at the area's start */
+    if (told == C13_REFUSED && c13_line_walk_next(&walk, &line) != C13_REFUSED) exit(1);
+}
+
+static void area_questions(const uint8_t *area, size_t n) {
+    static const uint64_t indices[] = {0, 1, 7, 23, 24, 25, 0x80000000, 0x80000001, 0x80000008, 0x80100000, UINT32_MAX};
+    uint64_t out[C13_MOST], fields[5];
+    struct c13_file file;
+    struct c13_refused why;
+    uint32_t status;
+    for (size_t i = 0; i < sizeof indices / sizeof *indices; i++) {
+        uint32_t index = (uint32_t)indices[i];
+        status = c13_file_at(area, n, index, out + 1, 4), out[0] = index;
+        enum c13_status told = c13_ask_file_at(area, n, index, &file, &why);
+        same("c13_ask_file_at", status, status == C13_GIVEN ? out : out + 1, told, &file, sizeof file, &why);
+        status = c13_resolve_import(area, n, index, out, 2);
+        told = c13_ask_resolve_import(area, n, index, fields, fields + 1, &why);
+        same("c13_ask_resolve_import", status, out, told, fields, 16, &why);
+        status = c13_resolve_export(area, n, index, out, 2);
+        told = c13_ask_resolve_export(area, n, index, fields, &why);
+        same("c13_ask_resolve_export", status, out, told, fields, 8, &why);
+        status = c13_word(area, n, 8, 2, index, out, 2);
+        told = c13_ask_word(area, n, 8, 2, index, fields, &why);
+        same("c13_ask_word", status, out, told, fields, 8, &why);
+    }
+    status = c13_export_count(area, n, out, 2);
+    same("c13_ask_export_count", status, out, c13_ask_export_count(area, n, fields, &why), fields, 8, &why);
+}
+
+static void hold_area(const uint8_t *area, size_t n) {
+    uint64_t out[2] = {0};
+    size_t used = 0;
+    struct c13_refused why;
+    struct c13_sub sub;
+    struct c13_line line;
+    struct c13_file file;
+    struct c13_inlinee inlinee;
+    struct c13_import imported;
+    struct c13_export exported;
+    struct c13_sub_walk subs = c13_sub_walk_begin(area, n);
+    struct c13_file_walk files = c13_file_walk_begin(area, n);
+    struct c13_inlinee_walk inlinees = c13_inlinee_walk_begin(area, n);
+    struct c13_import_walk imports = c13_import_walk_begin(area, n);
+    struct c13_export_walk exports = c13_export_walk_begin(area, n);
+    struct c13_line_walk lines;
+    uint32_t status = c13_order_list(area, n, slots, 16, out, 2);
+    enum c13_status told = c13_ask_order_list(area, n, slots, 16, &used, &why);
+    uint64_t listed = used;
+    same("c13_ask_order_list", status, out, told, &listed, 8, &why);
+    lines = c13_line_walk_begin(area, n, slots, used);
+    SAME_WALK("c13_sub_walk_next", c13_next_sub(area, n, out, C13_MOST), C13_SUB_STATE, c13_sub_walk_next, subs, sub);
+    SAME_WALK("c13_line_walk_next", c13_next_line(area, n, slots, used, out, C13_MOST), C13_LINE_STATE, c13_line_walk_next, lines, line);
+    SAME_WALK("c13_file_walk_next", c13_next_file(area, n, out, C13_MOST), C13_TABLE_STATE, c13_file_walk_next, files, file);
+    SAME_WALK("c13_inlinee_walk_next", c13_next_inlinee(area, n, out, C13_MOST), C13_TABLE_STATE, c13_inlinee_walk_next, inlinees, inlinee);
+    SAME_WALK("c13_import_walk_next", c13_next_import(area, n, out, C13_MOST), C13_TABLE_STATE, c13_import_walk_next, imports, imported);
+    SAME_WALK("c13_export_walk_next", c13_next_export(area, n, out, C13_MOST), C13_TABLE_STATE, c13_export_walk_next, exports, exported);
+    lines_many(area, n, used);
+    files_many(area, n);
+    symbol_lines(area, n, used, 0x1000);
+    symbol_lines(area, n, used, 0x1001);
+    symbol_lines(area, n, used, 0);
+    symbol_lines(area, n, used + 1, 0x1000); /* a slot that is not of this area */
+    area_questions(area, n);
+}
+
+static void hold_names(const uint8_t *names, size_t n) {
+    uint64_t out[2] = {0};
+    struct c13_part part;
+    struct c13_refused why;
+    uint32_t status = c13_string_table(names, n, out, 2);
+    same("c13_ask_string_table", status, out, c13_ask_string_table(names, n, &part, &why), &part, sizeof part, &why);
+    for (uint32_t offset = 0; offset < 24; offset++) {
+        status = c13_name(names, n, offset, out, 2);
+        same("c13_ask_name", status, out, c13_ask_name(names, n, offset, &part, &why), &part, sizeof part, &why);
+    }
+    /* above 32 bits: no name, and not the one of the low bits */
+    if (c13_ask_name(names, n, UINT64_C(0x100000002), &part, &why) != C13_REFUSED) exit(1);
+}
+
+static void hold_module(const uint8_t *stream, size_t n) {
+    static const uint32_t tried[] = {0, 4, 8, UINT32_MAX};
+    uint64_t out[2] = {0};
+    struct c13_part part;
+    struct c13_refused why;
+    for (size_t i = 0; i < 64; i++) {
+        struct c13_sizes sizes = {tried[i % 4], tried[i / 4 % 4], tried[i / 16]};
+        uint32_t status = c13_module_symbols(stream, n, sizes.symbols, sizes.c11, sizes.c13, out, 2);
+        same("c13_ask_module_symbols", status, out, c13_ask_module_symbols(stream, n, sizes, &why), &part, 0, &why);
+        status = c13_lines_part(stream, n, sizes.symbols, sizes.c11, sizes.c13, out, 2);
+        same("c13_ask_lines_part", status, out, c13_ask_lines_part(stream, n, sizes, &part, &why), &part, sizeof part, &why);
+        status = c13_tables_part(stream, n, sizes.symbols, sizes.c11, sizes.c13, out, 2);
+        same("c13_ask_tables_part", status, out, c13_ask_tables_part(stream, n, sizes, &part, &why), &part, sizeof part, &why);
+    }
+}
+
+/* Whole, cut at each length, and with each byte spoilt in four ways. */
+static void damaged(const char *what, void (*hold)(const uint8_t *, size_t), const uint8_t *bytes, size_t n) {
+    static const uint8_t spoils[] = {0x01, 0x04, 0x80, 0xff};
+    uint8_t *copy = (uint8_t *)malloc(n + 1);
+    compared = given = refused = 0;
+    if (!copy) exit(1);
+    for (size_t i = 0; i <= n; i++) hold(bytes, i);
+    for (size_t i = 0; i < 4 * n; i++) {
+        memcpy(copy, bytes, n);
+        copy[i / 4] ^= spoils[i % 4];
+        hold(copy, n);
+    }
+    free(copy);
+    printf("%s: %u answers, %u given, %u refused, all the same\n", what, compared, given, refused);
+}
+
+/* An area with every table: files, lines with a column, inlinees with extra files, imports, exports. */
+static const uint32_t every[] = {
+    0xf4, 24, 1, 0x01000110, 0x05040302, 0x09080706, 0x0d0c0b0a, 0x00000f0e,
+    0xf2, 48, 0x1000, 0x00010001, 0x20, 0, 2, 36, 0, 0x8000000a, 8, 0x8000000c, 0x00020001, 0x00040003,
+    0xf2, 32, 0x0800, 1, 0x20, 0, 1, 20, 4, 0x14,
+    0xf6, 28, 1, 0x1000, 0, 7, 2, 24, 48,
+    0xf7, 16, 5, 2, 0x1003, 0x1004,
+    0xf8, 16, 7, 0x1007, 0x80000008, 0x1008,
+};
+
+static size_t read_file(const char *path, uint8_t *to) {
+    FILE *f = fopen(path, "rb");
+    if (!f) exit(3);
+    size_t n = fread(to, 1, 4096, f);
+    fclose(f);
+    return n;
+}
+
+int main(int argc, char **argv) {
+    static uint8_t area[4096], names[4096], bytes[sizeof every], module[16] = {4};
+    if (argc != 3) return 2;
+    size_t n = read_file(argv[1], area), k = read_file(argv[2], names);
+    read_area(area, n, names, k);
+    words_of_another(area, n);
+    printf("-- against the calls\n");
+    for (size_t i = 0; i < sizeof every; i++) bytes[i] = (uint8_t)(every[i / 4] >> 8 * (i % 4));
+    damaged("area", hold_area, bytes, sizeof bytes);
+    damaged("names", hold_names, names, k);
+    damaged("module", hold_module, module, sizeof module);
+    printf("-- refusals\n");
+    for (uint32_t number = 0; number <= 20; number++) printf("%u: %s\n", number, c13_refusal_text(number));
+    return 0;
+}
