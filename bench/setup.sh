@@ -25,7 +25,7 @@ APT::Architectures { "$own"; "amd64"; };
 APT::Sandbox::User "";
 END
 export APT_CONFIG="$dir/apt.conf"
-say "fetching the lists of packages of this machine's Debian mirror"
+say "fetching the lists of packages of this machine's Debian mirror, 10 to 20 MB"
 apt-get update -qq
 packages="librust-scroll-dev:$own librust-fallible-iterator-dev:$own qemu-user:$own libcapstone4:$own liburing2:$own libglib2.0-0:$own libffi8:$own
     libnuma1:$own"
