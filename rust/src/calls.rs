@@ -1,7 +1,7 @@
 //! The calls of the static library, on slices. This is the only module with unsafe code.
 //!
 //! Each answers a status and puts words into `out`: what they are is written at each call in `include/c13.h`. A slice is two C parameters: the
-//! pointer and the length.
+//! pointer and the length. What the words mean is read in `words.rs` alone, so that a change of a call's words is one of these two files.
 
 /// Nothing to answer: a walk is at its end, a lookup found nothing.
 pub const NONE: u32 = 0;
@@ -19,6 +19,8 @@ pub const LINE_STATE: usize = 27;
 /// The words of a line record, and of a file of `c13_files`.
 pub const RECORD: usize = 12;
 pub const FILE_RECORD: usize = 5;
+/// A word of the records that `c13_lines` and `c13_files` give.
+pub type RecordWord = u64;
 
 /// Declares a call and wraps it. In its list of parameters a slice is written `[name: element]`, one that is written to `[mut name: element]`, and a
 /// number `(name: type)`. Sound: each pointer is valid for its length and aligned, and what is written to is no part of anything else, since slices
@@ -37,12 +39,10 @@ macro_rules! call {
     (@ $name:ident [$($c:tt)*] [$($r:tt)*] [$($a:tt)*]) => {
         #[inline]
         pub fn $name($($r)*) -> u32 {
-            mod raw {
-                extern "C" {
-                    pub fn $name($($c)*) -> u32;
-                }
+            extern "C" {
+                fn $name($($c)*) -> u32;
             }
-            unsafe { raw::$name($($a)*) }
+            unsafe { $name($($a)*) }
         }
     };
     ($name:ident $($parameters:tt)*) => {
@@ -58,10 +58,10 @@ calls! {
     c13_next_sub([area: u8]);
     c13_order_list([area: u8] [mut slots: u32]);
     c13_next_line([area: u8] [slots: u32]);
-    c13_lines([area: u8] [slots: u32] [mut records: u64]);
+    c13_lines([area: u8] [slots: u32] [mut records: RecordWord]);
     c13_lines_for_symbol([area: u8] [slots: u32] (section: u16) (offset: u32));
     c13_next_file([area: u8]);
-    c13_files([area: u8] [mut records: u64]);
+    c13_files([area: u8] [mut records: RecordWord]);
     c13_file_at([area: u8] (index: u32));
     c13_next_inlinee([area: u8]);
     c13_next_import([area: u8]);

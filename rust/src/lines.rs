@@ -1,59 +1,63 @@
 //! Lines and files.
 
 use crate::calls::{self, FILE_RECORD, LINE_STATE, RECORD, TABLE_STATE};
-use crate::words::{one, part, size, word, word32, Walk};
+use crate::words::{one, optional, part, size, word, word32, Many, Walk};
 use crate::{Refusal, StringRef};
+use std::fmt;
+use std::iter::FusedIterator;
 
-/// A place in code.
+/// A place in code: a section of the executable, and an offset in it. Shown as in the sheet, the offset in hex: `1:88`.
 #[derive(Clone, Copy, Debug, Default, Eq, Hash, Ord, PartialEq, PartialOrd)]
 pub struct PdbInternalSectionOffset {
-    /// The section's number.
+    /// The section's number. The first section is 1.
     pub section: u16,
-    /// The offset in the section.
+    /// How many bytes behind the section's start.
     pub offset: u32,
 }
 
-/// The index of a file, as line records name it.
+impl fmt::Display for PdbInternalSectionOffset {
+    fn fmt(&self, f: &mut fmt::Formatter<'_>) -> fmt::Result {
+        write!(f, "{}:{:x}", self.section, self.offset)
+    }
+}
+
+/// The index of a file, as line records and inlinees name it: the offset of its entry in the checksum data. It is no number that counts files.
 #[derive(Clone, Copy, Debug, Default, Eq, Hash, Ord, PartialEq, PartialOrd)]
 pub struct FileIndex(pub u32);
 
-/// What a line record is of.
+/// What a line record is of, by the highest bit of its flags.
 #[derive(Clone, Copy, Debug, Eq, PartialEq)]
 pub enum LineInfoKind {
-    /// An expression.
+    /// An expression: the bit is clear, as compilers leave it.
     Expression,
-    /// A statement.
+    /// A statement: the bit is set, as assemblers do.
     Statement,
 }
 
-/// A line record: the source of a piece of code.
+/// A line record: which source a piece of code is from. Markers, which say that code has no source line, give no record.
 #[derive(Clone, Debug, Eq, PartialEq)]
 pub struct LineInfo {
     /// Where the code starts.
     pub offset: PdbInternalSectionOffset,
-    /// How long it is, where that is known.
+    /// How many bytes it has: up to the next record, or to the end of the code that its subsection is of. None where neither is known.
     pub length: Option<u32>,
-    /// Its file.
+    /// The source file, for [`LineProgram::get_file_info`].
     pub file_index: FileIndex,
-    /// Its first line.
+    /// The line where the source starts, the first line being 1.
     pub line_start: u32,
-    /// Its last line.
+    /// The line where the source ends, as the crate pdb 0.8.0 reads it: always the start line. LLVM reads a count of further lines in bits 24 to 30 of the
+    /// flags, so that its end line may be greater: see docs/DIFFERENCES.md.
     pub line_end: u32,
-    /// Its first column.
+    /// The column where the source starts. None where the subsection has no columns.
     pub column_start: Option<u32>,
-    /// Its last column.
+    /// The column where the source ends. None where the subsection has no columns.
     pub column_end: Option<u32>,
     /// What it is of.
     pub kind: LineInfoKind,
 }
 
-/// A number, or none, in two words.
-fn optional(words: &[u64], i: usize) -> Option<u32> {
-    (word(words, i) != 0).then(|| word32(words, i + 1))
-}
-
 impl LineInfo {
-    fn of(w: &[u64]) -> LineInfo {
+    fn of<W: Copy + Into<u64>>(w: &[W]) -> LineInfo {
         LineInfo {
             offset: PdbInternalSectionOffset { section: word(w, 0) as u16, offset: word32(w, 1) },
             length: optional(w, 2),
@@ -66,23 +70,26 @@ impl LineInfo {
         }
     }
 
-    /// Whether its code covers a place. Without a length it covers its start alone.
+    /// Whether its code covers a place. Without a length it covers its start alone; of length 0 it covers nothing.
     pub fn covers(&self, place: PdbInternalSectionOffset) -> bool {
         let behind = place.offset.checked_sub(self.offset.offset);
-        place.section == self.offset.section && behind.is_some_and(|n| n < self.length.unwrap_or(1))
+        place.section == self.offset.section && behind.map_or(false, |n| n < self.length.unwrap_or(1))
     }
 }
 
-/// The checksum of a file. Two of no kind are not equal.
+/// The checksum of a file's contents, as the compiler saw them. The bytes are what stands in the area, which may be of any number:
+/// [`is_whole`](FileChecksum::is_whole) tells whether they are as many as the kind has.
+///
+/// Shown, it is its bytes in hex, or `-` where there are none, as in the sheet. Two of no kind are not equal: nothing is known of either.
 #[derive(Clone, Copy, Debug)]
 pub enum FileChecksum<'a> {
-    /// None.
+    /// None: the compiler kept no checksum.
     None,
-    /// MD5.
+    /// MD5, 16 bytes.
     Md5(&'a [u8]),
-    /// SHA-1.
+    /// SHA-1, 20 bytes.
     Sha1(&'a [u8]),
-    /// SHA-256.
+    /// SHA-256, 32 bytes.
     Sha256(&'a [u8]),
 }
 
@@ -106,7 +113,7 @@ impl<'a> FileChecksum<'a> {
         }
     }
 
-    /// The name of its kind.
+    /// The name of its kind: `none`, `md5`, `sha1` or `sha256`.
     pub fn kind(&self) -> &'static str {
         match self {
             FileChecksum::None => "none",
@@ -116,12 +123,39 @@ impl<'a> FileChecksum<'a> {
         }
     }
 
-    /// Its bytes.
+    /// Its bytes as they stand in the area; none of no kind.
     pub fn bytes(&self) -> &'a [u8] {
         match self {
             FileChecksum::None => &[],
             FileChecksum::Md5(b) | FileChecksum::Sha1(b) | FileChecksum::Sha256(b) => b,
         }
+    }
+
+    /// Whether it has just as many bytes as a checksum of its kind: 16, 20 or 32. One of no kind is not whole.
+    pub fn is_whole(&self) -> bool {
+        match self {
+            FileChecksum::None => false,
+            FileChecksum::Md5(b) => b.len() == 16,
+            FileChecksum::Sha1(b) => b.len() == 20,
+            FileChecksum::Sha256(b) => b.len() == 32,
+        }
+    }
+
+    /// Whether a digest is this checksum: the digest, by the function that [`kind`](FileChecksum::kind) names, of the contents that are asked about. This crate
+    /// computes none.
+    ///
+    /// One of no kind matches nothing, and neither does one that is not whole: a blank is no answer.
+    pub fn matches(&self, digest: &[u8]) -> bool {
+        self.is_whole() && self.bytes() == digest
+    }
+}
+
+impl fmt::Display for FileChecksum<'_> {
+    fn fmt(&self, f: &mut fmt::Formatter<'_>) -> fmt::Result {
+        if self.bytes().is_empty() {
+            return f.write_str("-");
+        }
+        self.bytes().iter().try_for_each(|byte| write!(f, "{byte:02x}"))
     }
 }
 
@@ -137,7 +171,7 @@ impl PartialEq for FileChecksum<'_> {
 /// A source file.
 #[derive(Clone, Copy, Debug, PartialEq)]
 pub struct FileInfo<'a> {
-    /// Its name, in the string table.
+    /// Its name, for [`StringTable::get`](crate::StringTable::get).
     pub name: StringRef,
     /// The checksum of its contents.
     pub checksum: FileChecksum<'a>,
@@ -145,12 +179,12 @@ pub struct FileInfo<'a> {
 
 impl<'a> FileInfo<'a> {
     /// The words: name, kind, start and length.
-    fn of(area: &'a [u8], w: &[u64], i: usize) -> FileInfo<'a> {
+    fn of<W: Copy + Into<u64>>(area: &'a [u8], w: &[W], i: usize) -> FileInfo<'a> {
         FileInfo { name: StringRef(word32(w, i)), checksum: FileChecksum::of(word(w, i + 1), part(area, w, i + 2)) }
     }
 }
 
-/// The lines and files of an area.
+/// The lines and files of an area: its bytes, and the list of its line subsections in the order of their code.
 #[derive(Clone, Debug)]
 pub struct LineProgram<'a> {
     area: &'a [u8],
@@ -158,7 +192,12 @@ pub struct LineProgram<'a> {
 }
 
 impl<'a> LineProgram<'a> {
-    /// Tests the whole area and puts its line subsections in order.
+    /// Tests the whole area, subsection by subsection, and puts those of lines in order. What stands in their bodies is tested when it is read.
+    ///
+    /// # Errors
+    ///
+    /// [`Refusal::TooLong`] above 16,777,216 bytes; [`Refusal::Cut`] where a header, a body or the head of a line subsection ends past its data;
+    /// [`Refusal::UnknownKind`].
     pub fn new(area: &'a [u8]) -> Result<Self, Refusal> {
         // A line subsection has at least 20 bytes, and an area that is read at most 16,777,216, so these slots suffice.
         let mut slots = vec![0; area.len().min(0x100_0000) / 20];
@@ -173,13 +212,19 @@ impl<'a> LineProgram<'a> {
         LineIterator::new(self.area, &self.slots, Ok(Walk::new()))
     }
 
-    /// The line records of the symbol at a place: those of the subsection that starts there, or else of the last one of the section before it.
+    /// The line records of the symbol at a place: those of the line subsection that starts there, or else of the last one of the section that starts
+    /// before it, whether or not that reaches so far.
     pub fn lines_for_symbol(&self, place: PdbInternalSectionOffset) -> LineIterator<'_> {
         let walk = one(|out| calls::c13_lines_for_symbol(self.area, &self.slots, place.section, place.offset, out)).map(Walk::from);
         LineIterator::new(self.area, &self.slots, walk)
     }
 
-    /// The line record whose code covers a place, of the subsection that `lines_for_symbol` takes.
+    /// The line record whose code covers a place, of the subsection that [`lines_for_symbol`](LineProgram::lines_for_symbol) takes. None where no record
+    /// does: the code there is not of this module, or has no lines.
+    ///
+    /// # Errors
+    ///
+    /// A refusal that the walk to it comes upon: [`Refusal::Cut`], [`Refusal::BlockSize`], [`Refusal::OffsetTooLarge`].
     pub fn line_at(&self, place: PdbInternalSectionOffset) -> Result<Option<LineInfo>, Refusal> {
         for line in self.lines_for_symbol(place) {
             let line = line?;
@@ -190,51 +235,35 @@ impl<'a> LineProgram<'a> {
         Ok(None)
     }
 
-    /// All files.
+    /// All files, each with its index: the entries of the area's last checksum subsection.
     pub fn files(&self) -> FileIterator<'a> {
-        FileIterator { area: self.area, walk: Walk::new(), records: [0; FILES_AT_ONCE * FILE_RECORD], given: 0, taken: 0 }
+        FileIterator::new(self.area)
     }
 
-    /// The file at an index.
+    /// The file at an index, as a line record names it.
+    ///
+    /// # Errors
+    ///
+    /// [`Refusal::NoFile`] at the end of the checksum data; [`Refusal::Cut`] behind it, and where the entry there is cut;
+    /// [`Refusal::UnknownChecksumKind`].
     pub fn get_file_info(&self, index: FileIndex) -> Result<FileInfo<'a>, Refusal> {
         let out: [u64; 4] = one(|out| calls::c13_file_at(self.area, index.0, out))?;
         Ok(FileInfo::of(self.area, &out, 0))
     }
 }
 
-/// How many line records the first call is asked for, and how many at most.
-const LINES_AT_ONCE: usize = 16;
-const LINES_AT_MOST: usize = 1 << 16;
-
-/// Line records. Each call is asked for twice as many as the last one, so that a list that goes back in the area often is tested seldom.
+/// Line records, in the order of their code. Made by [`LineProgram::lines`] and [`LineProgram::lines_for_symbol`].
 #[derive(Clone, Debug)]
 pub struct LineIterator<'a> {
     area: &'a [u8],
     slots: &'a [u32],
-    /// The walk, or why there is none.
-    walk: Result<Walk<{ LINE_STATE + 2 }>, Refusal>,
-    /// The records that the last call gave, in words; how many, and how many of them were taken.
-    records: Vec<u64>,
-    given: usize,
-    taken: usize,
+    /// The records, or why there are none, which is told once.
+    records: Result<Many<{ LINE_STATE + 2 }, RECORD>, Option<Refusal>>,
 }
 
 impl<'a> LineIterator<'a> {
     fn new(area: &'a [u8], slots: &'a [u32], walk: Result<Walk<{ LINE_STATE + 2 }>, Refusal>) -> Self {
-        LineIterator { area, slots, walk, records: vec![], given: 0, taken: 0 }
-    }
-
-    /// Asks for more records.
-    fn ask(&mut self) -> Option<Result<(), Refusal>> {
-        if let Err(why) = self.walk {
-            self.walk = Ok(Walk::over());
-            return Some(Err(why));
-        }
-        let walk = self.walk.as_mut().ok()?;
-        let (area, slots, records) = (self.area, self.slots, &mut self.records);
-        records.resize((2 * records.len()).clamp(LINES_AT_ONCE * RECORD, LINES_AT_MOST * RECORD), 0);
-        let asked = walk.next(LINE_STATE, |out| calls::c13_lines(area, slots, records, out))?;
-        Some(asked.map(|count| (self.given, self.taken) = (size(count, 0), 0)))
+        LineIterator { area, slots, records: walk.map(Many::of).map_err(Some) }
     }
 }
 
@@ -242,45 +271,51 @@ impl Iterator for LineIterator<'_> {
     type Item = Result<LineInfo, Refusal>;
 
     fn next(&mut self) -> Option<Self::Item> {
-        if self.taken >= self.given {
-            if let Err(why) = self.ask()? {
-                return Some(Err(why));
+        let (area, slots) = (self.area, self.slots);
+        match &mut self.records {
+            Ok(records) => {
+                let step = records.next(LINE_STATE, |records, out| calls::c13_lines(area, slots, records, out))?;
+                Some(step.map(LineInfo::of))
             }
+            Err(why) => why.take().map(Err),
         }
-        let words = self.records.chunks_exact(RECORD).nth(self.taken).unwrap_or(&[]);
-        self.taken += 1;
-        Some(Ok(LineInfo::of(words)))
+    }
+
+    fn size_hint(&self) -> (usize, Option<usize>) {
+        match &self.records {
+            Ok(records) => records.size_hint::<8>(self.area),
+            Err(why) => (usize::from(why.is_some()), Some(usize::from(why.is_some()))),
+        }
     }
 }
 
-/// How many files one call is asked for.
-const FILES_AT_ONCE: usize = 16;
+impl FusedIterator for LineIterator<'_> {}
 
-/// Files, each with its index.
+/// Source files, each with its index. Made by [`Area::files`](crate::Area::files) and [`LineProgram::files`].
 #[derive(Clone, Debug)]
 pub struct FileIterator<'a> {
     area: &'a [u8],
-    walk: Walk<{ TABLE_STATE + 2 }>,
-    /// The files that the last call gave, in words; how many, and how many of them were taken.
-    records: [u64; FILES_AT_ONCE * FILE_RECORD],
-    given: usize,
-    taken: usize,
+    records: Many<{ TABLE_STATE + 2 }, FILE_RECORD>,
+}
+
+impl<'a> FileIterator<'a> {
+    pub(crate) fn new(area: &'a [u8]) -> Self {
+        FileIterator { area, records: Many::of(Walk::new()) }
+    }
 }
 
 impl<'a> Iterator for FileIterator<'a> {
     type Item = Result<(FileIndex, FileInfo<'a>), Refusal>;
 
     fn next(&mut self) -> Option<Self::Item> {
-        let (area, records) = (self.area, &mut self.records);
-        if self.taken >= self.given {
-            match self.walk.next(TABLE_STATE, |out| calls::c13_files(area, records, out))? {
-                Ok(count) => self.given = size(count, 0),
-                Err(why) => return Some(Err(why)),
-            }
-            self.taken = 0;
-        }
-        let w = self.records.chunks_exact(FILE_RECORD).nth(self.taken).unwrap_or(&[]);
-        self.taken += 1;
-        Some(Ok((FileIndex(word32(w, 0)), FileInfo::of(area, w, 1))))
+        let area = self.area;
+        let step = self.records.next(TABLE_STATE, |records, out| calls::c13_files(area, records, out))?;
+        Some(step.map(|w| (FileIndex(word32(w, 0)), FileInfo::of(area, w, 1))))
+    }
+
+    fn size_hint(&self) -> (usize, Option<usize>) {
+        self.records.size_hint::<8>(self.area)
     }
 }
+
+impl FusedIterator for FileIterator<'_> {}

@@ -3,8 +3,9 @@
 use crate::calls::{self, TABLE_STATE};
 use crate::words::{answer, one, size, word, word32, Walk};
 use crate::{FileIndex, Refusal, StringRef};
+use std::iter::FusedIterator;
 
-/// Words of a record: extra files of an inlinee, references of an imported module.
+/// Numbers of a record: the extra files of an inlinee, or the local indices of an imported module. They are read out of the area as they are asked for.
 #[derive(Clone, Debug)]
 pub struct Words<'a> {
     area: &'a [u8],
@@ -18,19 +19,19 @@ impl<'a> Words<'a> {
         Words { area, place: size(w, i), count: size(w, i + 1), next: 0 }
     }
 
-    /// Word i.
+    /// Number i, counted from 0, whether or not the iterator has come so far. None behind the last.
     pub fn get(&self, i: usize) -> Option<u32> {
         let mut out = [0; 2];
         let status = calls::c13_word(self.area, self.place, self.count, i, &mut out);
         answer(status, &out, 0).ok().flatten().map(|w| word32(w, 0))
     }
 
-    /// How many there are.
+    /// How many there are in all, those that the iterator gave among them.
     pub fn len(&self) -> usize {
         self.count
     }
 
-    /// Whether there is none.
+    /// Whether there are none at all.
     pub fn is_empty(&self) -> bool {
         self.count == 0
     }
@@ -44,22 +45,29 @@ impl Iterator for Words<'_> {
         self.next += 1;
         Some(word)
     }
+
+    fn size_hint(&self) -> (usize, Option<usize>) {
+        let left = self.count.saturating_sub(self.next);
+        (left, Some(left))
+    }
 }
 
-/// A function that was inlined.
+impl FusedIterator for Words<'_> {}
+
+/// A function that was inlined, and where its source is.
 #[derive(Clone, Debug)]
 pub struct Inlinee<'a> {
-    /// Its index in the IPI stream.
+    /// Its index in the IPI stream, which has its name.
     pub index: u32,
-    /// Its file.
+    /// The file of its source, for [`LineProgram::get_file_info`](crate::LineProgram::get_file_info).
     pub file_index: FileIndex,
-    /// Its line.
+    /// The line where its source starts.
     pub line: u32,
-    /// The indices of its extra files.
+    /// The indices of further files of its source. Only a subsection of signature 1 has them.
     pub extra_files: Words<'a>,
 }
 
-/// Inlinees.
+/// The functions that were inlined, in the order of the area. Made by [`Area::inlinees`](crate::Area::inlinees).
 #[derive(Clone, Debug)]
 pub struct InlineeIterator<'a> {
     area: &'a [u8],
@@ -85,9 +93,15 @@ impl<'a> Iterator for InlineeIterator<'a> {
             extra_files: Words::of(area, w, 3),
         }))
     }
+
+    fn size_hint(&self) -> (usize, Option<usize>) {
+        (0, Some(self.walk.at_most::<12>(self.area)))
+    }
 }
 
-/// A module, by its name in the string table.
+impl FusedIterator for InlineeIterator<'_> {}
+
+/// A module that is imported from, by its name in the string table.
 #[derive(Clone, Copy, Debug, Eq, Hash, PartialEq)]
 pub struct ModuleRef(pub StringRef);
 
@@ -95,7 +109,7 @@ pub struct ModuleRef(pub StringRef);
 #[derive(Clone, Copy, Debug, Eq, Hash, PartialEq)]
 pub struct CrossModuleRef(pub ModuleRef, pub u32);
 
-/// The imports of an area.
+/// The types and ids that an area takes from other modules. Made by [`Area::imports`](crate::Area::imports).
 #[derive(Clone, Copy, Debug)]
 pub struct CrossModuleImports<'a> {
     area: &'a [u8],
@@ -106,12 +120,18 @@ impl<'a> CrossModuleImports<'a> {
         CrossModuleImports { area }
     }
 
-    /// The modules that are imported from.
+    /// The modules that are imported from, each with what is taken from it.
     pub fn modules(&self) -> ImportModules<'a> {
         ImportModules { area: self.area, walk: Walk::new() }
     }
 
-    /// What a cross-module reference names.
+    /// What a cross-module reference names: an index whose bit 31 is set, whose bits 20 to 30 pick the module and whose bits 0 to 19 one of the local indices
+    /// that are imported from it.
+    ///
+    /// # Errors
+    ///
+    /// [`Refusal::NotACrossModuleRef`] where bit 31 is clear; [`Refusal::CrossModuleRefNotFound`] where there is no such module or index. The whole table
+    /// is read first, and its refusals come before these.
     pub fn resolve_import(&self, index: u32) -> Result<CrossModuleRef, Refusal> {
         let out: [u64; 2] = one(|out| calls::c13_resolve_import(self.area, index, out))?;
         Ok(CrossModuleRef(ModuleRef(StringRef(word32(&out, 0))), word32(&out, 1)))
@@ -121,13 +141,13 @@ impl<'a> CrossModuleImports<'a> {
 /// A module that is imported from.
 #[derive(Clone, Debug)]
 pub struct ImportModule<'a> {
-    /// Its name.
+    /// Which module it is.
     pub name: ModuleRef,
-    /// The local indices that are imported.
+    /// The local indices, in that module, of the types and ids that are imported.
     pub imports: Words<'a>,
 }
 
-/// The modules that are imported from.
+/// The modules that are imported from, in the order of the area. Made by [`CrossModuleImports::modules`].
 #[derive(Clone, Debug)]
 pub struct ImportModules<'a> {
     area: &'a [u8],
@@ -142,18 +162,24 @@ impl<'a> Iterator for ImportModules<'a> {
         let step = self.walk.next(TABLE_STATE, |out| calls::c13_next_import(area, out))?;
         Some(step.map(|w| ImportModule { name: ModuleRef(StringRef(word32(w, 0))), imports: Words::of(area, w, 1) }))
     }
+
+    fn size_hint(&self) -> (usize, Option<usize>) {
+        (0, Some(self.walk.at_most::<8>(self.area)))
+    }
 }
 
-/// An export: its local and its global index.
+impl FusedIterator for ImportModules<'_> {}
+
+/// An export: the local index of a type or id in its module, and the global one in the PDB.
 #[derive(Clone, Copy, Debug, Eq, PartialEq)]
 pub enum CrossModuleExport {
-    /// Of a type.
+    /// A type: its local and its global index.
     Type(u32, u32),
-    /// Of an id.
+    /// An id: its local index, whose bit 31 is set, and its global one.
     Id(u32, u32),
 }
 
-/// The exports of an area.
+/// The types and ids that an area gives to other modules. Made by [`Area::exports`](crate::Area::exports).
 #[derive(Clone, Copy, Debug)]
 pub struct CrossModuleExports<'a> {
     area: &'a [u8],
@@ -166,22 +192,26 @@ impl<'a> CrossModuleExports<'a> {
         Ok(CrossModuleExports { area, len: size(&out, 0) })
     }
 
-    /// How many there are.
+    /// How many exports there are.
     pub fn len(&self) -> usize {
         self.len
     }
 
-    /// Whether there is none.
+    /// Whether there is no export.
     pub fn is_empty(&self) -> bool {
         self.len == 0
     }
 
-    /// All of them.
+    /// All exports, in the order of the area.
     pub fn exports(&self) -> CrossModuleExportIter<'a> {
-        CrossModuleExportIter { area: self.area, walk: Walk::new() }
+        CrossModuleExportIter { area: self.area, walk: Walk::new(), left: self.len }
     }
 
-    /// The global index of a local one, if it is exported. The local indices must ascend.
+    /// The global index of a local one; none where it is not exported.
+    ///
+    /// # Errors
+    ///
+    /// [`Refusal::UnsortedExports`] where the local indices do not strictly ascend: a search in them would answer by chance.
     pub fn resolve_import(&self, local: u32) -> Result<Option<u32>, Refusal> {
         let mut out = [0; 2];
         let status = calls::c13_resolve_export(self.area, local, &mut out);
@@ -189,11 +219,13 @@ impl<'a> CrossModuleExports<'a> {
     }
 }
 
-/// Exports.
+/// Exports, in the order of the area. Made by [`CrossModuleExports::exports`].
 #[derive(Clone, Debug)]
 pub struct CrossModuleExportIter<'a> {
     area: &'a [u8],
     walk: Walk<7>,
+    /// How many were not given yet.
+    left: usize,
 }
 
 impl Iterator for CrossModuleExportIter<'_> {
@@ -201,10 +233,17 @@ impl Iterator for CrossModuleExportIter<'_> {
 
     fn next(&mut self) -> Option<Self::Item> {
         let area = self.area;
+        self.left = self.left.saturating_sub(1);
         let step = self.walk.next(TABLE_STATE, |out| calls::c13_next_export(area, out))?;
         Some(step.map(|w| match word(w, 0) {
             0 => CrossModuleExport::Type(word32(w, 1), word32(w, 2)),
             _ => CrossModuleExport::Id(word32(w, 1), word32(w, 2)),
         }))
     }
+
+    fn size_hint(&self) -> (usize, Option<usize>) {
+        (self.left, Some(self.left))
+    }
 }
+
+impl FusedIterator for CrossModuleExportIter<'_> {}

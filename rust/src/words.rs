@@ -1,25 +1,30 @@
 //! What the calls leave in the lent words, taken out of them without a panic.
 
-use crate::calls::{GIVEN, NONE, REFUSED};
+use crate::calls::{RecordWord, GIVEN, NONE, REFUSED};
 use crate::Refusal;
 
-/// A word of an answer. One that is not there is 0.
-pub(crate) fn word(words: &[u64], i: usize) -> u64 {
-    words.get(i).copied().unwrap_or(0)
+/// A word of an answer or of a record. One that is not there is 0.
+pub(crate) fn word<W: Copy + Into<u64>>(words: &[W], i: usize) -> u64 {
+    words.get(i).copied().map_or(0, W::into)
 }
 
 /// A word that holds a u32.
-pub(crate) fn word32(words: &[u64], i: usize) -> u32 {
+pub(crate) fn word32<W: Copy + Into<u64>>(words: &[W], i: usize) -> u32 {
     word(words, i) as u32
 }
 
 /// A word that holds a place or a length.
-pub(crate) fn size(words: &[u64], i: usize) -> usize {
+pub(crate) fn size<W: Copy + Into<u64>>(words: &[W], i: usize) -> usize {
     word(words, i) as usize
 }
 
+/// A number, or none, in two words.
+pub(crate) fn optional<W: Copy + Into<u64>>(words: &[W], i: usize) -> Option<u32> {
+    (word(words, i) != 0).then(|| word32(words, i + 1))
+}
+
 /// The part of the bytes whose start and length are the words at i.
-pub(crate) fn part<'a>(bytes: &'a [u8], words: &[u64], i: usize) -> &'a [u8] {
+pub(crate) fn part<'a, W: Copy + Into<u64>>(bytes: &'a [u8], words: &[W], i: usize) -> &'a [u8] {
     let start = size(words, i);
     let end = start.saturating_add(size(words, i + 1));
     bytes.get(start..end).unwrap_or(&[])
@@ -63,11 +68,6 @@ impl<const N: usize> Walk<N> {
         Walk { out, over: false }
     }
 
-    /// A walk that is over.
-    pub(crate) fn over() -> Self {
-        Walk { out: [0; N], over: true }
-    }
-
     /// The next record's words. A walk that ended or was refused is over.
     pub(crate) fn next(&mut self, state: usize, call: impl FnOnce(&mut [u64]) -> u32) -> Option<Result<&[u64], Refusal>> {
         if self.over {
@@ -77,5 +77,61 @@ impl<const N: usize> Walk<N> {
         let answer = answer(status, &self.out, state);
         self.over = !matches!(answer, Ok(Some(_)));
         answer.transpose()
+    }
+
+    /// How many records it can still give at most, a refusal counted as one, where each takes LEAST bytes or more of the area.
+    pub(crate) fn at_most<const LEAST: usize>(&self, area: &[u8]) -> usize {
+        let records = area.len().checked_div(LEAST).unwrap_or(usize::MAX);
+        if self.over {
+            0
+        } else {
+            records.saturating_add(1)
+        }
+    }
+}
+
+/// A walk whose calls give many records at once, of R words each: the records of the last call, and how many of them were taken.
+#[derive(Clone, Debug)]
+pub(crate) struct Many<const N: usize, const R: usize> {
+    walk: Walk<N>,
+    records: Vec<RecordWord>,
+    given: usize,
+    taken: usize,
+}
+
+/// How many records the first call is asked for, and how many at most. Each call is asked for twice as many as the last one, so that what a call
+/// has to test before its first record is tested seldom.
+const FIRST: usize = 16;
+const MOST: usize = 1 << 16;
+
+impl<const N: usize, const R: usize> Many<N, R> {
+    /// The records that a walk gives.
+    pub(crate) fn of(walk: Walk<N>) -> Self {
+        Many { walk, records: vec![], given: 0, taken: 0 }
+    }
+
+    /// The next record's words; where those of the last call are taken, `call` gives more.
+    pub(crate) fn next(&mut self, state: usize, call: impl FnOnce(&mut [RecordWord], &mut [u64]) -> u32) -> Option<Result<&[RecordWord], Refusal>> {
+        if self.taken >= self.given {
+            if self.walk.over {
+                return None;
+            }
+            let records = &mut self.records;
+            records.resize((2 * records.len()).clamp(FIRST * R, MOST * R), 0);
+            match self.walk.next(state, |out| call(records, out))? {
+                Ok(count) => self.given = size(count, 0),
+                Err(why) => return Some(Err(why)),
+            }
+            self.taken = 0;
+        }
+        let words = self.records.chunks_exact(R).nth(self.taken).unwrap_or(&[]);
+        self.taken += 1;
+        Some(Ok(words))
+    }
+
+    /// How many records there are still, at least and at most, a refusal counted as one, where each takes LEAST bytes or more of the area.
+    pub(crate) fn size_hint<const LEAST: usize>(&self, area: &[u8]) -> (usize, Option<usize>) {
+        let held = self.given.saturating_sub(self.taken);
+        (held, Some(held.saturating_add(self.walk.at_most::<LEAST>(area))))
     }
 }

@@ -21,8 +21,9 @@ fn subsection(kind: u32, body: &[u32]) -> Vec<u8> {
 #[test]
 fn the_example_is_read() {
     let area = Area::new(AREA);
-    let kinds: Vec<(u32, usize)> = area.subsections().map(|s| s.map(|s| (s.kind, s.data.len()))).collect::<Result<_, _>>().expect("subsections");
-    assert_eq!(kinds, [(0xf2, 72), (0xf2, 80), (0xf2, 32), (0xf4, 24)]);
+    let kinds: Vec<_> = area.subsections().map(|s| s.map(|s| (s.kind, s.data.len()))).collect::<Result<_, _>>().expect("subsections");
+    let lines = SubsectionKind::Lines;
+    assert_eq!(kinds, [(lines, 72), (lines, 80), (lines, 32), (SubsectionKind::FileChecksums, 24)]);
     let program = area.line_program().expect("program");
     let lines: Vec<LineInfo> = program.lines().collect::<Result<_, _>>().expect("lines");
     assert_eq!(lines.len(), 14);
@@ -38,7 +39,7 @@ fn the_auditor_is_answered() {
     let line = program.line_at(place(1, 0x88)).expect("a line").expect("there");
     assert_eq!((line.offset.offset, line.line_start), (0x86, 6));
     let file = program.get_file_info(line.file_index).expect("file");
-    assert_eq!((file.checksum.kind(), file.checksum.bytes().len()), ("md5", 16));
+    assert_eq!((file.checksum.kind(), file.checksum.to_string()), ("md5", "8c7b2c834e5c3fd1a77c7e8b461d6a14".into()));
     assert_eq!(StringTable::parse(NAMES).expect("table").get(file.name).expect("name"), b"c:\\probe\\table.c");
     // a gap, another section, behind the end
     for nowhere in [place(1, 0x62), place(2, 0x88), place(1, 0xe9)] {
@@ -75,7 +76,10 @@ fn many_files_are_all_given() {
             let program = Area::new(&area).line_program().expect("program");
             let (files, refused) = all(program.files(), area.len());
             assert_eq!(refused, cut.then_some(Refusal::Cut));
-            assert_eq!(files.iter().map(|(index, file)| (index.0, file.name.0)).collect::<Vec<_>>(), (0..whole).map(|i| (8 * i, 100 + i)).collect::<Vec<_>>());
+            assert_eq!(
+                files.iter().map(|(index, file)| (index.0, file.name.0)).collect::<Vec<_>>(),
+                (0..whole).map(|i| (8 * i, 100 + i)).collect::<Vec<_>>()
+            );
         }
     }
 }
@@ -87,6 +91,50 @@ fn no_checksum_is_no_md5() {
     let (_, file) = program.files().next().expect("one").expect("file");
     assert_eq!((file.name, file.checksum.kind()), (StringRef(5), "none"));
     assert_ne!(file.checksum, file.checksum);
+}
+
+#[test]
+fn a_checksum_matches_its_own_digest_alone() {
+    let digest: Vec<u8> = (0..32).collect();
+    for (length, sum) in [(16, FileChecksum::Md5(&digest[..16])), (20, FileChecksum::Sha1(&digest[..20])), (32, FileChecksum::Sha256(&digest))] {
+        assert!(sum.is_whole() && sum.matches(&digest[..length]));
+        for other in [&digest[1..], &digest[..length - 1], &[0; 32][..length], &[]] {
+            assert!(!sum.matches(other));
+        }
+        assert!(sum.to_string().starts_with("000102030405060708090a0b0c0d0e0f") && sum.to_string().len() == 2 * length);
+    }
+    // a blank is no answer: of no kind, without bytes, cut, too long
+    for sum in [
+        FileChecksum::None,
+        FileChecksum::Md5(&[]),
+        FileChecksum::Sha1(&digest[..16]),
+        FileChecksum::Sha256(&digest[..31]),
+        FileChecksum::Md5(&digest),
+    ] {
+        assert!(!sum.is_whole() && !sum.matches(sum.bytes()) && !sum.matches(&[]), "{sum:?}");
+    }
+    assert_eq!(
+        (FileChecksum::None.to_string(), FileChecksum::Sha1(&[]).to_string(), FileChecksum::Md5(&[7]).to_string()),
+        ("-".into(), "-".into(), "07".into())
+    );
+}
+
+#[test]
+fn kinds_have_names_and_numbers() {
+    for number in (0..0x200).chain([0x8000_0000, u32::MAX]) {
+        let kind = SubsectionKind::from(number);
+        let named = (0xf1..=0xfd).contains(&number);
+        assert_eq!((kind.number(), kind.name().is_some(), kind == SubsectionKind::Other(number)), (number, named, !named));
+        assert_eq!(kind.to_string(), kind.name().map_or(format!("{number:#x}"), String::from));
+        // what is read is what was named
+        let area = subsection(number, &[0; 5]);
+        if named {
+            assert_eq!(Area::new(&area).subsections().next(), Some(Ok(Subsection { kind, data: &[0; 20] })));
+        }
+    }
+    assert_eq!((SubsectionKind::Symbols.number(), SubsectionKind::CoffSymbolRva.number()), (0xf1, 0xfd));
+    assert_eq!((SubsectionKind::from(0xf7), SubsectionKind::from(0xf8)), (SubsectionKind::CrossScopeImports, SubsectionKind::CrossScopeExports));
+    assert_eq!(SubsectionKind::from(0xf6).to_string(), "InlineeLines");
 }
 
 #[test]
@@ -145,19 +193,21 @@ fn what_was_written_is_read() {
     writer.open_checksums().expect("room");
     writer.add_entry(StringRef(1), FileChecksum::Md5(&sum)).expect("room");
     writer.open_lines(place(1, 0x1000), 1, 0x20).expect("room");
-    writer.add_block(FileIndex(0), &[0, 0x8000_000a, 8, 0x8000_000c], &[0x0002_0001, 0x0004_0003]).expect("room");
+    writer.add_block(FileIndex(0), &[0, 0x8000_000a], &[0x0002_0001]).expect("room");
+    let entry = LineEntry { offset: 8, line_start: 12, end_field: 0, kind: LineInfoKind::Statement, columns: Some((3, 4)) };
+    writer.add_lines(FileIndex(0), &[entry]).expect("room");
     writer.open_inlinees(1).expect("room");
     writer.add_inlinee(0x1000, FileIndex(0), 7, &[24]).expect("room");
     writer.open_imports().expect("room");
     writer.add_module(ModuleRef(StringRef(5)), &[0x1003, 0x1004]).expect("room");
     writer.open_exports().expect("room");
     writer.add_pair(7, 0x1007).expect("room");
-    writer.add_opaque(0xf5, &[1, 2, 3, 4]).expect("room");
+    writer.add_opaque(SubsectionKind::FrameData, &[1, 2, 3, 4]).expect("room");
     // refused: the rule, the place, the room; and nothing changes
     let before = writer.written().to_vec();
-    assert_eq!(writer.add_opaque(0xf5, &[1]), Err(Refusal::NotPlain));
+    assert_eq!(writer.add_opaque(SubsectionKind::FrameData, &[1]), Err(Refusal::NotPlain));
     assert_eq!(writer.add_pair(8, 0x1008), Err(Refusal::WrongPlace));
-    assert_eq!(writer.add_opaque(0xf5, &[0; 200]), Err(Refusal::NoRoom));
+    assert_eq!(writer.add_opaque(SubsectionKind::FrameData, &[0; 200]), Err(Refusal::NoRoom));
     assert_eq!(writer.written(), before);
 
     let area = Area::new(writer.written());
@@ -174,6 +224,64 @@ fn what_was_written_is_read() {
     assert_eq!(area.exports().expect("exports").resolve_import(7), Ok(Some(0x1007)));
     let end = before.len();
     assert!(buf[end..].iter().all(|b| *b == 0xaa), "bytes behind what is written");
+}
+
+/// The words of the block that an area of one line subsection has.
+fn block_words(area: &[u8]) -> Vec<u32> {
+    area[32..].chunks_exact(4).map(|w| u32::from_le_bytes(w.try_into().expect("four"))).collect()
+}
+
+#[test]
+fn typed_lines_are_their_words() {
+    let entry = LineEntry { offset: 0, line_start: 10, end_field: 0, kind: LineInfoKind::Expression, columns: None };
+    let cases = [
+        (entry, 0x0000_000a),
+        (LineEntry { kind: LineInfoKind::Statement, ..entry }, 0x8000_000a),
+        (LineEntry { end_field: 0x7f, ..entry }, 0x7f00_000a),
+        (LineEntry { offset: u32::MAX, line_start: 0xff_ffff, end_field: 0x7f, kind: LineInfoKind::Statement, ..entry }, u32::MAX),
+        (LineEntry { line_start: 0, ..entry }, 0),
+    ];
+    for (entry, flags) in cases {
+        let mut buf = [0; 100];
+        let mut writer = Writer::new(&mut buf);
+        writer.open_lines(place(1, 0), 0, 4).expect("room");
+        writer.add_lines(FileIndex(24), &[entry, entry]).expect("room");
+        assert_eq!(block_words(writer.written()), [entry.offset, flags, entry.offset, flags]);
+    }
+    let mut buf = [0; 100];
+    let mut writer = Writer::new(&mut buf);
+    writer.open_lines(place(1, 0), 1, 4).expect("room");
+    writer.add_lines(FileIndex(0), &[LineEntry { columns: Some((u16::MAX, 1)), ..entry }]).expect("room");
+    assert_eq!(block_words(writer.written()), [0, 10, 0x0001_ffff]);
+    let read: Vec<LineInfo> = Area::new(writer.written()).line_program().expect("program").lines().collect::<Result<_, _>>().expect("lines");
+    assert_eq!((read[0].line_start, read[0].line_end, read[0].column_start, read[0].column_end), (10, 10, Some(0xffff), Some(1)));
+}
+
+#[test]
+fn what_does_not_fit_a_field_is_told() {
+    let entry = LineEntry { offset: 0, line_start: 10, end_field: 0, kind: LineInfoKind::Statement, columns: None };
+    let mut buf = [0; 40];
+    let mut writer = Writer::new(&mut buf);
+    writer.open_lines(place(1, 0), 0, 4).expect("room");
+    let before = writer.written().to_vec();
+    for (unfit, why) in [
+        (LineEntry { line_start: 0x100_0000, ..entry }, FieldError::StartLine(0x100_0000)),
+        (LineEntry { line_start: u32::MAX, ..entry }, FieldError::StartLine(u32::MAX)),
+        (LineEntry { line_start: 0xfe_efee, ..entry }, FieldError::Marker(0xfe_efee)),
+        (LineEntry { line_start: 0xf0_0f00, ..entry }, FieldError::Marker(0xf0_0f00)),
+        (LineEntry { end_field: 0x80, ..entry }, FieldError::EndField(0x80)),
+        (LineEntry { columns: Some((1, 2)), ..entry }, FieldError::Columns),
+    ] {
+        assert_eq!(writer.add_lines(FileIndex(0), &[entry, unfit]), Err(WriteError::Field { entry: 1, why }));
+        assert!(!why.to_string().is_empty());
+    }
+    // columns in a subsection without them, and no room: the library's refusals
+    let columned = LineEntry { columns: Some((1, 2)), ..entry };
+    assert_eq!(writer.add_lines(FileIndex(0), &[columned]), Err(WriteError::Refused(Refusal::NotPlain)));
+    assert_eq!(writer.add_lines(FileIndex(0), &[entry; 9]), Err(WriteError::Refused(Refusal::NoRoom)));
+    assert_eq!(writer.written(), before);
+    let said = writer.add_lines(FileIndex(0), &[LineEntry { line_start: 1 << 24, ..entry }]).expect_err("too large").to_string();
+    assert_eq!(said, "line entry 0: start line 16777216 is above 16777215");
 }
 
 /// Numbers by chance, the same each time.
@@ -221,10 +329,12 @@ impl Chance {
     }
 }
 
-/// Takes everything that an iterator gives; it must end, and stay ended.
+/// Takes everything that an iterator gives; it must end, and stay ended, and say rightly before each step how many are left.
 fn all<T>(mut from: impl Iterator<Item = Result<T, Refusal>>, limit: usize) -> (Vec<T>, Option<Refusal>) {
     let mut taken = vec![];
+    let mut hints = vec![];
     let refused = loop {
+        hints.push(from.size_hint());
         match from.next() {
             Some(Ok(x)) => taken.push(x),
             Some(Err(why)) => break Some(why),
@@ -233,6 +343,12 @@ fn all<T>(mut from: impl Iterator<Item = Result<T, Refusal>>, limit: usize) -> (
         assert!(taken.len() <= limit, "more records than bytes");
     };
     assert!(from.next().is_none(), "it goes on behind its end");
+    hints.push(from.size_hint());
+    let total = taken.len() + usize::from(refused.is_some());
+    for (before, (least, most)) in hints.into_iter().enumerate() {
+        let left = total.saturating_sub(before);
+        assert!(least <= left && most.map_or(false, |most| left <= most), "{before} of {total} taken, hint {least} to {most:?}");
+    }
     (taken, refused)
 }
 
@@ -250,6 +366,7 @@ fn ask(bytes: &[u8], chance: &mut Chance) -> usize {
                 answers += all(program.lines_for_symbol(line.offset), limit).0.len();
                 let _ = program.line_at(line.offset);
             }
+            assert_eq!(area.files().count(), program.files().count());
             for (index, file) in all(program.files(), limit).0 {
                 let again = program.get_file_info(index).expect("a file of the walk");
                 assert_eq!((again.name, again.checksum.kind(), again.checksum.bytes()), (file.name, file.checksum.kind(), file.checksum.bytes()));
@@ -262,6 +379,7 @@ fn ask(bytes: &[u8], chance: &mut Chance) -> usize {
     }
     for inlinee in all(area.inlinees(), limit).0 {
         let number = inlinee.extra_files.len();
+        assert_eq!(inlinee.extra_files.size_hint(), (number, Some(number)));
         assert_eq!(inlinee.extra_files.count(), number);
         answers += 1;
     }
@@ -307,7 +425,7 @@ fn write(writer: &mut Writer<'_>, chance: &mut Chance) -> Result<(), Refusal> {
         7 => writer.add_module(ModuleRef(StringRef(chance.word())), &words),
         8 => writer.open_exports(),
         9 => writer.add_pair(chance.word(), chance.word()),
-        _ => writer.add_opaque(0xf0 + chance.below(16) as u32, &bytes),
+        _ => writer.add_opaque((0xf0 + chance.below(16) as u32).into(), &bytes),
     }
 }
 
