@@ -1,0 +1,104 @@
+//! c13: what a C13 area says, from a shell. `c13 --help` says how it is called, and what its status means.
+
+#![deny(unsafe_code)]
+
+mod at;
+mod call;
+mod desk;
+mod files;
+mod input;
+mod json;
+mod names;
+mod sheet;
+mod standard;
+
+use call::Call;
+use desk::{Desk, Fault};
+use input::Input;
+use names::Names;
+use std::io::Write;
+use std::process::ExitCode;
+
+const USAGE: &str = r"c13 sheet AREA [--names NAMES]
+    The sheet of an area: its subsections, files and lines, up to 'end' or 'refused N'. With names, the name of the file
+    stands at the end of each line that starts with 'file' or 'line'.
+c13 at AREA.. NAMES SECTION:OFFSET
+    Which file and line the code at a place is from, and the checksum of that file. SECTION is decimal and OFFSET hex, with or
+    without 0x: 1:0x88. One like 1:88, which might be meant in decimal, is not taken: write 1:0x88. Of several areas, those
+    that cover the place answer, each with its name in front.
+c13 files AREA NAMES [--check [--kind KIND] [--map FROM=TO]..]
+    The files of an area with names and checksums. With --check, lines that md5sum --check, sha1sum --check or sha256sum
+    --check takes, by the kind of each; with --kind, those of one kind (md5, sha1, sha256) alone. Each --map says that the
+    folder FROM of the names in the PDB is the folder TO here, as in --map 'c:\probe=archive': \ becomes /, and upper and
+    lower case are the same in FROM. A file without a checksum is told on standard error.
+c13 json AREA [NAMES]
+    Everything as JSON: subsections, files, lines, inlinees, imports and exports, and where each was refused.
+c13 --help, c13 --version
+
+AREA is a file with a module's C13 area, of at most 16,777,216 bytes, and NAMES one with the string table (scripts/areas-of takes
+both out of a PDB); - is standard input. The status is 0 where the whole answer was written; 1 where the answer is a refusal
+or 'no'; 2 where input could not be read, output not written, or the call is wrong. Standard error says why it is not 0.
+";
+
+fn main() -> ExitCode {
+    let words: Vec<_> = std::env::args_os().skip(1).collect();
+    match answer(&words) {
+        Ok(desk) if desk.said_no() => ExitCode::from(1),
+        Ok(_) => ExitCode::SUCCESS,
+        Err(Fault(why)) => {
+            desk::tell(&why);
+            ExitCode::from(2)
+        }
+    }
+}
+
+/// Does what the words of the call ask for. All of the answer has been written when it returns.
+fn answer(words: &[std::ffi::OsString]) -> Result<Desk, Fault> {
+    let call = Call::of(words)?;
+    let mut desk = Desk::new()?;
+    match call {
+        Call::Help => desk.write_all(USAGE.as_bytes())?,
+        Call::Version => writeln!(desk, "c13 {}", env!("CARGO_PKG_VERSION"))?,
+        Call::Sheet { area, names } => {
+            let (area, names) = (Input::read(&area)?, read_names(names.as_deref())?);
+            if let Some(names) = told_names(&mut desk, &names) {
+                sheet::print(&mut desk, &area, names.as_ref())?;
+            }
+        }
+        Call::At { areas, names, place } => {
+            let names = read_names(Some(&names))?;
+            if let Some(Some(names)) = told_names(&mut desk, &names) {
+                at::print(&mut desk, &areas, &names, place)?;
+            }
+        }
+        Call::Files { area, names, check } => {
+            let (area, names) = (Input::read(&area)?, read_names(Some(&names))?);
+            if let Some(Some(names)) = told_names(&mut desk, &names) {
+                files::print(&mut desk, &area, &names, check.as_ref())?;
+            }
+        }
+        Call::Json { area, names } => {
+            let (area, names) = (Input::read(&area)?, read_names(names.as_deref())?);
+            if let Some(names) = told_names(&mut desk, &names) {
+                json::print(&mut desk, &area, names.as_ref())?;
+            }
+        }
+    }
+    desk.flush()?;
+    Ok(desk)
+}
+
+fn read_names(path: Option<&std::ffi::OsStr>) -> Result<Option<Input>, Fault> {
+    path.map(Input::read).transpose()
+}
+
+/// The string table that an input is. Where it is none, that is the answer: it is told, and there is nothing to print.
+fn told_names<'a>(desk: &mut Desk, input: &'a Option<Input>) -> Option<Option<Names<'a>>> {
+    match input.as_ref().map(Names::of).transpose() {
+        Ok(names) => Some(names),
+        Err((of, why)) => {
+            desk.no(format_args!("{of}: {why}"));
+            None
+        }
+    }
+}
