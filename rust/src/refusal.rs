@@ -2,7 +2,8 @@
 
 use std::fmt;
 
-/// Why a call refuses: document 01's table of refusal numbers, a case each, with what it carries.
+/// Why a call refuses: document 01's table of refusal numbers, a case each, with what it carries. Shown, it is the number, the text and what it carries:
+/// `refused 2: unknown subsection kind (0xf0)`.
 #[derive(Clone, Copy, Debug, Eq, Hash, PartialEq)]
 pub enum Refusal {
     /// 1: a field, counted body, padding or name ends past its data.
@@ -43,7 +44,7 @@ pub enum Refusal {
     NoFile(u32),
     /// 19: a slot of an order list is missing, or names no line subsection.
     WrongSlot,
-    /// A number that this crate does not know: that of a newer library.
+    /// A number that this crate does not know, as a newer library may give, and what it carries.
     Unknown(u64, u64),
 }
 
@@ -101,12 +102,12 @@ impl Refusal {
         }
     }
 
-    /// Its number in document 01.
+    /// Its number in document 01, "Refusal numbers", which the sheet prints and the C header names.
     pub fn number(&self) -> u64 {
         self.told().0
     }
 
-    /// What it carries: a kind or an index.
+    /// What it carries: the kind or the index that was refused. None where document 01 gives it nothing to carry.
     pub fn carries(&self) -> Option<u64> {
         match *self {
             Refusal::UnknownChecksumKind(kind) => Some(u64::from(kind)),
@@ -116,7 +117,7 @@ impl Refusal {
         }
     }
 
-    /// Its text.
+    /// What it means, in a few words, without what it carries.
     pub fn text(&self) -> &'static str {
         self.told().1
     }

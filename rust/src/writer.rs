@@ -12,8 +12,8 @@ pub struct LineEntry {
     pub offset: u32,
     /// The line where its source starts, at most [`LineEntry::LARGEST_LINE`]. The numbers of the two markers, 0xfeefee and 0xf00f00, are no source lines.
     pub line_start: u32,
-    /// The end-line field, bits 24 to 30 of the flags, at most [`LineEntry::LARGEST_END`]. LLVM reads it as a count of further lines; the crate pdb, and so this
-    /// library, gives the start line as the end line whatever it is (docs/DIFFERENCES.md).
+    /// The end-line field, bits 24 to 30 of the flags, at most [`LineEntry::LARGEST_END`]. LLVM reads it as a count of further lines; the crate pdb,
+    /// and so this library, gives the start line as the end line whatever it is (docs/DIFFERENCES.md).
     pub end_field: u32,
     /// What it is of.
     pub kind: LineInfoKind,
@@ -164,8 +164,8 @@ impl<'a> Writer<'a> {
     ///
     /// # Errors
     ///
-    /// [`Refusal::WrongPlace`] where no line subsection is open; [`Refusal::NotPlain`] where a line lacks its second word, or there are more or fewer columns than
-    /// the flags of the subsection say; [`Refusal::NoRoom`].
+    /// [`Refusal::WrongPlace`] where no line subsection is open; [`Refusal::NotPlain`] where a line lacks its second word, or there are more or fewer
+    /// columns than the flags of the subsection say; [`Refusal::NoRoom`].
     pub fn add_block(&mut self, file: FileIndex, lines: &[u32], columns: &[u32]) -> Result<(), Refusal> {
         self.step(|buf, at, out| calls::c13_add_block(buf, at, file.0, lines, columns, out))
     }
