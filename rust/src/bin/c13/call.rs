@@ -16,7 +16,7 @@ pub enum Call {
 }
 
 fn wrong(why: impl std::fmt::Display) -> Fault {
-    Fault(format!("{why}; c13 --help says how it is called"))
+    Fault::new(format!("{why}; c13 --help says how it is called"))
 }
 
 /// The words behind a command: files and places in order, and options.
@@ -123,7 +123,7 @@ impl Call {
             areas.push(std::mem::replace(&mut names, std::mem::replace(&mut place, word)));
         }
         read_once(areas.iter().chain([&names]))?;
-        let place = at::place(&place).map_err(|why| Fault(format!("{}: {why}", place.to_string_lossy())))?;
+        let place = at::place(&place).map_err(|why| Fault::new(format!("{}: {why}", place.to_string_lossy())))?;
         Ok(Call::At { areas, names, place })
     }
 

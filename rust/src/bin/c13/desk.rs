@@ -5,13 +5,28 @@ use std::fmt;
 use std::fs::File;
 use std::io::{self, BufWriter, Write};
 
-/// Why there is no answer: a line for standard error. The status is 2.
-pub struct Fault(pub String);
+/// Why there is no answer: a line for standard error, and the status.
+pub struct Fault {
+    pub status: u8,
+    pub why: String,
+}
+
+impl Fault {
+    /// Something that could not be read or written, or a wrong call.
+    pub fn new(why: String) -> Fault {
+        Fault { status: 2, why }
+    }
+
+    /// A refusal of all that was asked for.
+    pub fn refused(why: String) -> Fault {
+        Fault { status: 1, why }
+    }
+}
 
 /// What is written here goes to the page, so that an error of a write says that the answer was not written.
 impl From<io::Error> for Fault {
     fn from(why: io::Error) -> Self {
-        Fault(format!("standard output: {why}"))
+        Fault::new(format!("standard output: {why}"))
     }
 }
 

@@ -2,7 +2,7 @@
 
 use crate::desk::Fault;
 use crate::standard;
-use std::ffi::OsStr;
+use std::ffi::{OsStr, OsString};
 use std::fs::File;
 use std::io::Read;
 use std::path::Path;
@@ -24,7 +24,11 @@ impl Input {
         let read = file.and_then(|file| file.take(LONGEST as u64 + 1).read_to_end(&mut bytes));
         match read {
             Ok(_) => Ok(Input { name, bytes }),
-            Err(why) => Err(Fault(format!("{name}: {why}"))),
+            Err(why) => Err(Fault::new(format!("{name}: {why}"))),
         }
+    }
+
+    pub fn read_if(path: &Option<OsString>) -> Result<Option<Input>, Fault> {
+        path.as_ref().map(|path| Input::read(path)).transpose()
     }
 }

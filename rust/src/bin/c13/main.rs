@@ -16,6 +16,7 @@ use call::Call;
 use desk::{Desk, Fault};
 use input::Input;
 use names::Names;
+use std::ffi::OsString;
 use std::io::Write;
 use std::process::ExitCode;
 
@@ -45,60 +46,37 @@ fn main() -> ExitCode {
     match answer(&words) {
         Ok(desk) if desk.said_no() => ExitCode::from(1),
         Ok(_) => ExitCode::SUCCESS,
-        Err(Fault(why)) => {
-            desk::tell(&why);
-            ExitCode::from(2)
+        Err(fault) => {
+            desk::tell(&fault.why);
+            ExitCode::from(fault.status)
         }
     }
 }
 
 /// Does what the words of the call ask for. All of the answer has been written when it returns.
-fn answer(words: &[std::ffi::OsString]) -> Result<Desk, Fault> {
+fn answer(words: &[OsString]) -> Result<Desk, Fault> {
     let call = Call::of(words)?;
     let mut desk = Desk::new()?;
     match call {
         Call::Help => desk.write_all(USAGE.as_bytes())?,
         Call::Version => writeln!(desk, "c13 {}", env!("CARGO_PKG_VERSION"))?,
         Call::Sheet { area, names } => {
-            let (area, names) = (Input::read(&area)?, read_names(names.as_deref())?);
-            if let Some(names) = told_names(&mut desk, &names) {
-                sheet::print(&mut desk, &area, names.as_ref())?;
-            }
+            let (area, names) = (Input::read(&area)?, Input::read_if(&names)?);
+            sheet::print(&mut desk, &area, Names::of_if(&names)?.as_ref())?;
         }
         Call::At { areas, names, place } => {
-            let names = read_names(Some(&names))?;
-            if let Some(Some(names)) = told_names(&mut desk, &names) {
-                at::print(&mut desk, &areas, &names, place)?;
-            }
+            let names = Input::read(&names)?;
+            at::print(&mut desk, &areas, &Names::of(&names)?, place)?;
         }
         Call::Files { area, names, check } => {
-            let (area, names) = (Input::read(&area)?, read_names(Some(&names))?);
-            if let Some(Some(names)) = told_names(&mut desk, &names) {
-                files::print(&mut desk, &area, &names, check.as_ref())?;
-            }
+            let (area, names) = (Input::read(&area)?, Input::read(&names)?);
+            files::print(&mut desk, &area, &Names::of(&names)?, check.as_ref())?;
         }
         Call::Json { area, names } => {
-            let (area, names) = (Input::read(&area)?, read_names(names.as_deref())?);
-            if let Some(names) = told_names(&mut desk, &names) {
-                json::print(&mut desk, &area, names.as_ref())?;
-            }
+            let (area, names) = (Input::read(&area)?, Input::read_if(&names)?);
+            json::print(&mut desk, &area, Names::of_if(&names)?.as_ref())?;
         }
     }
     desk.flush()?;
     Ok(desk)
-}
-
-fn read_names(path: Option<&std::ffi::OsStr>) -> Result<Option<Input>, Fault> {
-    path.map(Input::read).transpose()
-}
-
-/// The string table that an input is. Where it is none, that is the answer: it is told, and there is nothing to print.
-fn told_names<'a>(desk: &mut Desk, input: &'a Option<Input>) -> Option<Option<Names<'a>>> {
-    match input.as_ref().map(Names::of).transpose() {
-        Ok(names) => Some(names),
-        Err((of, why)) => {
-            desk.no(format_args!("{of}: {why}"));
-            None
-        }
-    }
 }

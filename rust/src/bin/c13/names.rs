@@ -1,5 +1,6 @@
 //! Names of source files: how they are found, shown, and mapped to a folder here.
 
+use crate::desk::Fault;
 use crate::input::Input;
 use c13::{Refusal, StringRef, StringTable};
 use std::ffi::OsStr;
@@ -12,12 +13,13 @@ pub struct Names<'a> {
 }
 
 impl<'a> Names<'a> {
-    /// The table, or the input's name and why it is none.
-    pub fn of(input: &'a Input) -> Result<Names<'a>, (&'a str, Refusal)> {
-        match StringTable::parse(&input.bytes) {
-            Ok(table) => Ok(Names { input: &input.name, table }),
-            Err(why) => Err((&input.name, why)),
-        }
+    pub fn of(input: &'a Input) -> Result<Names<'a>, Fault> {
+        let table = StringTable::parse(&input.bytes).map_err(|why| Fault::refused(format!("{}: {why}", input.name)))?;
+        Ok(Names { input: &input.name, table })
+    }
+
+    pub fn of_if(input: &'a Option<Input>) -> Result<Option<Names<'a>>, Fault> {
+        input.as_ref().map(Names::of).transpose()
     }
 
     pub fn get(&self, name: StringRef) -> Result<&'a [u8], Refusal> {
