@@ -41,7 +41,7 @@ plainBlock c s = strict (blockFilled c s) (blockBite c s)
 unfoldable pub sizeOf : ℕ → ℕ
 sizeOf k = cond (eqb k 0) 0 (cond (eqb k 1) 16 (cond (eqb k 2) 20 32))
 
--- each of these sizes leaves two bytes of padding (`padding-two` of PlainLaws): they are zero
+-- each of these sizes leaves two bytes of padding (`padding-two` of RecordLaws): they are zero
 abbrev pub tidy : List ℕ → Bool
 tidy s = eqb (getD s 4 0) (sizeOf (getD s 5 0)) && eqb (u16At s (6 + getD s 4 0)) 0
 

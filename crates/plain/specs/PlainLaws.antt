@@ -18,7 +18,7 @@ use Rattle.walk.specs.ListingLaws.{all-step}
 use Rattle.refusal.specs.Told.{Told, longest}
 use Rattle.area.specs.Parts.{parts}
 use Rattle.area.specs.RestLaws.{rest-ends, rest-short, rest-cut, rest-goes}
-use Rattle.body.specs.Lines.{columned, blockBite}
+use Rattle.body.specs.Lines.{lineHeadSize, columned, blockBite}
 use Rattle.body.specs.Checksums.{checksumBite}
 use Rattle.body.specs.Inlinees.{extended, inlineeBite}
 use Rattle.body.specs.Imports.{moduleBite}
@@ -91,16 +91,16 @@ module _ (s : List ℕ) where
 -- ---- marks
 
 module _ (b : List ℕ) where
-  pub lines-short : length b < 12 → none ≡ linesMark b
+  pub lines-short : length b < lineHeadSize → none ≡ linesMark b
   unfolding linesMark
-  lines-short h = rw (lt-ltb (length b) 12 h)
+  lines-short h = rw (lt-ltb (length b) lineHeadSize h)
 
-  pub lines-long : 12 ≤ length b → (flags : ℕ) (t : Bool) (o : Option ℕ) → flags ≡ u16At b 6 → t ≡ wholly (plainBlock (columned flags)) (lent 12 b) → o ≡ marked t (flags % 2)
+  pub lines-long : lineHeadSize ≤ length b → (flags : ℕ) (t : Bool) (o : Option ℕ) → flags ≡ u16At b 6 → t ≡ wholly (plainBlock (columned flags)) (lent lineHeadSize b) → o ≡ marked t (flags % 2)
       → o ≡ linesMark b
   unfolding linesMark
   lines-long h flags t o ef et eo =
-      eo ∙ ap (λ (x : Bool). marked x (flags % 2)) (et ∙ ap (wholly (plainBlock (columned flags))) (lent-is 12 b))
-      ∙ ap (λ (f : ℕ). marked (wholly (plainBlock (columned f)) (drop 12 b)) (f % 2)) ef ∙ (rw (le-ltb (length b) 12 h))
+      eo ∙ ap (λ (x : Bool). marked x (flags % 2)) (et ∙ ap (wholly (plainBlock (columned flags))) (lent-is lineHeadSize b))
+      ∙ ap (λ (f : ℕ). marked (wholly (plainBlock (columned f)) (drop lineHeadSize b)) (f % 2)) ef ∙ (rw (le-ltb (length b) lineHeadSize h))
 
   pub inlinees-short : length b < 4 → none ≡ inlineesMark b
   unfolding inlineesMark

@@ -14,7 +14,7 @@ use Rattle.walk.specs.Cases.{by-cases}
 use Rattle.walk.specs.Listing.{Move, fail}
 use Rattle.refusal.specs.Told.{Told, told}
 use Rattle.refusal.specs.declared.Refusal.the-variants as why
-use Rattle.body.specs.Lines.{lineBytes, blockBite}
+use Rattle.body.specs.Lines.{lineBytes, blockHeadSize, blockBite}
 use Rattle.body.specs.Checksums.{Checksum, up4, checksumBite}
 use Rattle.body.specs.Inlinees.{extraBite, inlineeBite}
 use Rattle.body.specs.Imports.{moduleBite}
@@ -38,24 +38,24 @@ module _ (c : Bool) (s : List ℕ) (i : ℕ) (h₀ : i < length s) where
   abbrev blockR : ℕ
   blockR = stride (drop i s) (plainBlock c (drop i s))
 
-  pub block-short : length s - i < 12 → 0 ≡ blockR
+  pub block-short : length s - i < blockHeadSize → 0 ≡ blockR
   unfolding blockBite
   block-short h =
       let D = drop i s in
       let z : (length D ≡ 0 → ⊥) = λ e. omega (arith, length-drop i s) in
-      none-at D (blockFilled c D) (blockBite c D) (told why.Cut) (rw (ne-eqb (length D) 0 z, lt-ltb (length D) 12 (omega (arith, length-drop i s))))
+      none-at D (blockFilled c D) (blockBite c D) (told why.Cut) (rw (ne-eqb (length D) 0 z, lt-ltb (length D) blockHeadSize (omega (arith, length-drop i s))))
 
-  module _ (h₁ : 12 ≤ length s - i) (n size w : ℕ) (en : n ≡ u32At s (i + 4)) (es : size ≡ u32At s (i + 8)) (ew : w ≡ lineBytes c n) where
+  module _ (h₁ : blockHeadSize ≤ length s - i) (n size w : ℕ) (en : n ≡ u32At s (i + 4)) (es : size ≡ u32At s (i + 8)) (ew : w ≡ lineBytes c n) where
     dw : lineBytes c (u32At (drop i s) 4) ≡ w
     dw = ap (lineBytes c) (u32-drop s i 4 ∙ sym en) ∙ sym ew
 
-    pub block-odd : (size ≡ 12 + w → ⊥) → 0 ≡ blockR
+    pub block-odd : (size ≡ blockHeadSize + w → ⊥) → 0 ≡ blockR
     block-odd h =
         let D = drop i s in
-        let d : (u32At D 8 ≡ 12 + lineBytes c (u32At D 4) → ⊥) = λ e. h (omega (arith, u32-drop s i 8, dw)) in
-        strict-none D (blockBite c D) ∙ ap (λ (t : Bool). stride D (strict t (blockBite c D))) (sym (ne-eqb (u32At D 8) (12 + lineBytes c (u32At D 4)) d))
+        let d : (u32At D 8 ≡ blockHeadSize + lineBytes c (u32At D 4) → ⊥) = λ e. h (omega (arith, u32-drop s i 8, dw)) in
+        strict-none D (blockBite c D) ∙ ap (λ (t : Bool). stride D (strict t (blockBite c D))) (sym (ne-eqb (u32At D 8) (blockHeadSize + lineBytes c (u32At D 4)) d))
 
-    module _ (full : size ≡ 12 + w) where
+    module _ (full : size ≡ blockHeadSize + w) where
       pub block-cut : length s - i < size → 0 ≡ blockR
       unfolding blockBite
       block-cut h =
@@ -64,8 +64,8 @@ module _ (c : Bool) (s : List ℕ) (i : ℕ) (h₀ : i < length s) where
           none-at D (blockFilled c D) (blockBite c D) (told why.Cut)
           (rw (
             ne-eqb (length D) 0 z,
-            le-ltb (length D) 12 (omega (arith, length-drop i s)),
-            le-ltb (u32At D 8) 12 (omega (arith, u32-drop s i 8)),
+            le-ltb (length D) blockHeadSize (omega (arith, length-drop i s)),
+            le-ltb (u32At D 8) blockHeadSize (omega (arith, u32-drop s i 8)),
             lt-ltb (length D) (u32At D 8) (omega (arith, u32-drop s i 8, length-drop i s)),
           ))
 
@@ -76,12 +76,12 @@ module _ (c : Bool) (s : List ℕ) (i : ℕ) (h₀ : i < length s) where
           let z : (length D ≡ 0 → ⊥) = λ e. omega (arith, length-drop i s) in
           let d : u32At D 8 ≡ size = u32-drop s i 8 ∙ sym es in
           rw (
-            eq-eqb (u32At D 8) (12 + lineBytes c (u32At D 4)) (omega (arith, dw)),
+            eq-eqb (u32At D 8) (blockHeadSize + lineBytes c (u32At D 4)) (omega (arith, dw)),
             ne-eqb (length D) 0 z,
-            le-ltb (length D) 12 (omega (arith, length-drop i s)),
-            le-ltb (u32At D 8) 12 (omega arith),
+            le-ltb (length D) blockHeadSize (omega (arith, length-drop i s)),
+            le-ltb (u32At D 8) blockHeadSize (omega arith),
             le-ltb (length D) (u32At D 8) (omega (arith, length-drop i s)),
-            le-ltb (u32At D 8 - 12) (lineBytes c (u32At D 4)) (omega (arith, dw)),
+            le-ltb (u32At D 8 - blockHeadSize) (lineBytes c (u32At D 4)) (omega (arith, dw)),
           )
           (sym d ∙ stride-drop D (u32At D 8) (omega (arith, length-drop i s)))
 

@@ -26,10 +26,10 @@ use Rattle.reading.specs.Reading.{Item, each, block, checksum, inlinee, 
 abbrev pub among : ℕ → Bool
 among n = eqb n 1 || eqb n 2 || eqb n 3 || eqb n 4 || eqb n 7 || eqb n 11
 
-abbrev Among : Told → Type 0
+abbrev pub Among : Told → Type 0
 Among t = among (t .number) ≡ true
 
--- a listing refuses with one of them, if it does, and so does a step
+-- a listing refuses with one of them, if it does; and so does a bite
 abbrev pub Refuses : {B : Type 0} → Listing B Told → Type 0
 Refuses = FailsBy Among
 

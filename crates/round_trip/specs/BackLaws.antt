@@ -17,7 +17,7 @@ use Rattle.refusal.specs.declared.Refusal.the-variants as why
 use Rattle.area.specs.Parts.{Raw, Parts, parts}
 use Rattle.area.specs.Join.{bytesOf, join}
 use Rattle.area.specs.JoinLaws.{join-whole}
-use Rattle.body.specs.Lines.{lineHead, columned, lineBytes, blockBite, lineHeadBytes, blockBytes}
+use Rattle.body.specs.Lines.{lineHeadSize, lineHead, columned, lineBytes, blockHeadSize, blockBite, lineHeadBytes, blockBytes}
 use Rattle.body.specs.Checksums.{up4, checksumBite, zeros, checksumBytes}
 use Rattle.body.specs.Inlinees.{extended, inlineeBite, inlineeBytes}
 use Rattle.body.specs.Imports.{moduleBite, moduleBytes}
@@ -63,7 +63,7 @@ fronts-map enc P Q s (fail r) f w = tt
 block-back : (c : Bool) (s : List ℕ) → Bytes s → Fronts blockBytes (Filled c) s (plainBlock c s)
 block-back c s h =
     fronts-strict blockBytes (Filled c) s (blockFilled c s) (blockBite c s) (block-sound c s)
-    (λ e. block-front c s h (eqb-true (u32At s 8) (12 + lineBytes c (u32At s 4)) e))
+    (λ e. block-front c s h (eqb-true (u32At s 8) (blockHeadSize + lineBytes c (u32At s 4)) e))
 
 two-zeros : zeros 2 ≡ le16 0
 unfolding zeros le16
@@ -118,20 +118,20 @@ pub record Back (k : ℕ) (b : List ℕ) : Type 0 where
 
 lines-back : (b : List ℕ) (m : ℕ) → Bytes b → linesMark b ≡ some m → Back 0xf2 b
 unfolding linesMark
-lines-back b m h = go (ltb (length b) 12) refl
+lines-back b m h = go (ltb (length b) lineHeadSize) refl
   where
     c : Bool
     c = columned (lineHead b .flags)
 
-    go : (t : Bool) → ltb (length b) 12 ≡ t → cond t none (marked (wholly (plainBlock c) (drop 12 b)) (lineHead b .flags % 2)) ≡ some m → Back 0xf2 b
+    go : (t : Bool) → ltb (length b) lineHeadSize ≡ t → cond t none (marked (wholly (plainBlock c) (drop lineHeadSize b)) (lineHead b .flags % 2)) ≡ some m → Back 0xf2 b
     go true e q = no-some q
     go false e q =
-        let L = whole-list (plainBlock c) (drop 12 b) (marked-some (wholly (plainBlock c) (drop 12 b)) (lineHead b .flags % 2) m q) in
-        let M = run-back (plainBlock c) blockBytes (Filled c) (plain-block-sound c) (block-back c) (drop 12 b) (bytes-drop 12 b h) (L .0) (L .1) in
+        let L = whole-list (plainBlock c) (drop lineHeadSize b) (marked-some (wholly (plainBlock c) (drop lineHeadSize b)) (lineHead b .flags % 2) m q) in
+        let M = run-back (plainBlock c) blockBytes (Filled c) (plain-block-sound c) (block-back c) (drop lineHeadSize b) (bytes-drop lineHeadSize b h) (L .0) (L .1) in
         record {
           sec = linesOf (lineHead b) (L .0);
           kind = refl;
-          body = ap (λ (x : List ℕ). lineHeadBytes (lineHead b) ++ x) (sym (M .bytes)) ∙ sym (head-back b h (ltb-false (length b) 12 e));
+          body = ap (λ (x : List ℕ). lineHeadBytes (lineHead b) ++ x) (sym (M .bytes)) ∙ sym (head-back b h (ltb-false (length b) lineHeadSize e));
           good = M .good;
         }
 

@@ -53,6 +53,7 @@ Careful =
 pub round : RoundTrip
 round = round-trip
 
+-- a rule for kinds needs no more than this
 pub crate-knows : KnowsPlain crateRule
 unfolding crateRule
 crate-knows k a b = rw (le-leb 0xf1 k a, le-leb k 0xfd b)

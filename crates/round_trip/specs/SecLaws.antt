@@ -19,7 +19,7 @@ use Rattle.area.specs.Kind.{Sort}
 use Rattle.area.specs.Subs.{bodiesIn, bodies}
 use Rattle.area.specs.Join.{join}
 use Rattle.area.specs.JoinLaws.{parts-whole}
-use Rattle.body.specs.Lines.{LineHead, lineHead, columned, lineBytes, Block, blockBite, blocks, lineHeadBytes, blockBytes}
+use Rattle.body.specs.Lines.{LineHead, lineHeadSize, lineHead, columned, lineBytes, Block, blockHeadSize, blockBite, blocks, lineHeadBytes, blockBytes}
 use Rattle.body.specs.Checksums.{Checksum, up4, checksumBite, checksums, zeros, checksumBytes}
 use Rattle.body.specs.Inlinees.{Inlinee, extended, inlineeBite, inlinees, inlineeBytes}
 use Rattle.body.specs.Imports.{moduleBite, modules, moduleBytes}
@@ -73,7 +73,7 @@ plain-block-forth c b t g =
     let n = length (b .lines) / 2 in
     let e : lineBytes c (u32At (blockBytes b ++ t) 4) ≡ lineBytes c n = ap (lineBytes c) (w .0) in
     strict-forth (blockFilled c (blockBytes b ++ t)) (blockBite c (blockBytes b ++ t)) b t
-    (eq-eqb (u32At (blockBytes b ++ t) 8) (12 + lineBytes c (u32At (blockBytes b ++ t) 4)) (omega (arith, w .1, g .pairs, g .columns)))
+    (eq-eqb (u32At (blockBytes b ++ t) 8) (blockHeadSize + lineBytes c (u32At (blockBytes b ++ t) 4)) (omega (arith, w .1, g .pairs, g .columns)))
     (block-forth c b t g)
 
 two-of : (k : ℕ) (c : Checksum) → length (c .bytes) ≡ sizeOf k → padding (length (c .bytes)) ≡ 2
@@ -116,10 +116,10 @@ module _ (h : LineHead) (r : List ℕ) where
   lines-head : lineHead (lineHeadBytes h ++ r) ≡ h
   lines-head = head-forth h r
 
-  lines-rest : drop 12 (lineHeadBytes h ++ r) ≡ r
-  lines-rest = drop-at (lineHeadBytes h) r 12 (head-length h)
+  lines-rest : drop lineHeadSize (lineHeadBytes h ++ r) ≡ r
+  lines-rest = drop-at (lineHeadBytes h) r lineHeadSize (head-length h)
 
-  lines-length : 12 ≤ length (lineHeadBytes h ++ r)
+  lines-length : lineHeadSize ≤ length (lineHeadBytes h ++ r)
   lines-length = omega (arith, length-append (lineHeadBytes h) r, head-length h)
 
 lines-marked : (h : LineHead) (bs : List Block) → Each (Filled (columned (h .flags))) bs → linesMark (lineHeadBytes h ++ bytesAll blockBytes bs) ≡ some (h .flags % 2)
@@ -127,8 +127,8 @@ unfolding linesMark
 lines-marked h bs g =
     let R : List ℕ = bytesAll blockBytes bs in
     let B : List ℕ = lineHeadBytes h ++ R in
-    rw (le-ltb (length B) 12 (lines-length h R))
-    (ap (λ (x : LineHead). marked (wholly (plainBlock (columned (x .flags))) (drop 12 B)) (x .flags % 2)) (lines-head h R)
+    rw (le-ltb (length B) lineHeadSize (lines-length h R))
+    (ap (λ (x : LineHead). marked (wholly (plainBlock (columned (x .flags))) (drop lineHeadSize B)) (x .flags % 2)) (lines-head h R)
     ∙ ap (λ (x : List ℕ). marked (wholly (plainBlock (columned (h .flags))) x) (h .flags % 2)) (lines-rest h R)
     ∙ ap (λ (t : Bool). marked t (h .flags % 2))
     (whole-forth (plainBlock (columned (h .flags))) blockBytes (Filled (columned (h .flags))) (plain-block-sound (columned (h .flags))) (plain-block-ended (columned (h .flags))) (plain-block-forth (columned (h .flags))) bs g))
@@ -181,8 +181,8 @@ unfolding itemsOf linesItems checksumsItems inlineesItems importsItems exportsIt
 good-reads (linesOf h bs) g =
     let R : List ℕ = bytesAll blockBytes bs in
     let B : List ℕ = lineHeadBytes h ++ R in
-    rw (le-ltb (length B) 12 (lines-length h R))
-    (ap (λ (x : LineHead). more (openLines x) (each block (all (blockBite (columned (x .flags))) length (drop 12 B)))) (lines-head h R)
+    rw (le-ltb (length B) lineHeadSize (lines-length h R))
+    (ap (λ (x : LineHead). more (openLines x) (each block (all (blockBite (columned (x .flags))) length (drop lineHeadSize B)))) (lines-head h R)
     ∙ ap (λ (x : List ℕ). more (openLines h) (each block (all (blockBite (columned (h .flags))) length x))) (lines-rest h R)
     ∙ ap (λ (l : Listing Block Told). more (openLines h) (each block l))
     (run-forth (blockBite (columned (h .flags))) blockBytes (Filled (columned (h .flags))) (block-sound (columned (h .flags))) (block-ended (columned (h .flags))) (block-forth (columned (h .flags))) bs g)

@@ -15,7 +15,7 @@ use Rattle.body.specs.Words.{wordBytes}
 use Rattle.body.specs.WordsLaws.{word-length, word-append}
 use mathlib.Core.Bool.{Bool}
 use borrow.Author.Tests.{eq-eqb, ne-eqb}
-use Rattle.body.specs.Lines.{lineHeadBytes, blockBytes}
+use Rattle.body.specs.Lines.{lineHeadBytes, blockHeadSize, blockBytes}
 use Rattle.body.specs.Inlinees.{extended, inlineeBytes}
 use Rattle.body.specs.InlineesLaws.{extraLength}
 use Rattle.body.specs.Checksums.{up4, zeros, checksumBytes}
@@ -130,7 +130,7 @@ inlinee-other m a f l ws e =
     ∙ ap (λ (t : Bool). inlineeBytes t (record { inlinee = a; file = f; line = l; extra = ws })) (sym (ne-eqb m 1 e))
 
 pub block-is : (f : ℕ) (xs ys : List ℕ)
-    → (threeWords f (length xs / 2) (12 + 4 * length xs + 4 * length ys) ++ wordBytes xs) ++ wordBytes ys ≡ blockBytes (record { file = f; lines = xs; columns = ys })
+    → (threeWords f (length xs / 2) (blockHeadSize + 4 * length xs + 4 * length ys) ++ wordBytes xs) ++ wordBytes ys ≡ blockBytes (record { file = f; lines = xs; columns = ys })
 block-is f xs ys = simp append-assoc
 
 -- the first bytes of a subsection, made in an array of their own
