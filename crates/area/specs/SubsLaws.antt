@@ -14,6 +14,7 @@ use Rattle.word.specs.WordLaws.{u32-drop}
 use Rattle.walk.specs.Cases.{by-cases, tests}
 use Rattle.walk.specs.Listing.{Move, item, pass, over, fail, Listing, more, ends, fails, gives, none, refuses, onMove, mapped, moved, all, calls, replies, Answer}
 use Rattle.walk.specs.ListingLaws.{To, Every, all-ind, all-unique, calls-are}
+use Rattle.walk.specs.WithinLaws.{Within, within-falls}
 use Rattle.refusal.specs.Told.{Told, told, longest, numberOf}
 use Rattle.refusal.specs.declared.Refusal.the-variants as why
 use Rattle.area.specs.Parts.{Raw, Lack, Parts, bite, parts}
@@ -152,46 +153,37 @@ subs-step rule s p = go (ltb longest (length s)) refl (ltb (length s) p) refl
 pub subs-is : (rule : ℕ → Sort) (s : List ℕ) (p : ℕ) (u : Move ℕ Sub Told) → u ≡ headAt rule s p → onMove (subsFrom rule s) u ≡ subsFrom rule s p
 subs-is rule s p u e = ap (onMove (subsFrom rule s)) e ∙ sym (subs-step rule s p)
 
--- where a head's numbers lie
-abbrev pub Within : ℕ → ℕ → Move ℕ Sub Told → Type 0
-Within m p (item b x) = (b .start ≡ p + 8) × (x ≡ b .start + b .len) × (x ≤ m)
-Within m p (pass x) = (p + 8 ≤ x) × (x ≤ m)
-Within m p over = p ≡ m
-Within m p (fail r) = Unit {0}
+-- where a subsection's numbers lie: the body begins behind the header, and ends at the next place
+abbrev pub SubLies : ℕ → Sub → ℕ → Type 0
+SubLies p b x = (b .start ≡ p + 8) × (x ≡ b .start + b .len)
 
-whole-within : (rule : ℕ → Sort) (m k p n : ℕ) → p + 8 + n ≤ m → Within m p (wholeAs rule k p n)
+whole-within : (rule : ℕ → Sort) (m k p n : ℕ) → p + 8 + n ≤ m → Within 8 SubLies m p (wholeAs rule k p n)
 unfolding wholeAs
 whole-within rule m k p n h = by (rule k)
   where
-    by : (o : Sort) → Within m p (onSort o (item (record { kind = k; start = p + 8; len = n }) (p + 8 + n)) (pass (p + 8 + n)) (fail (told (why.UnknownKind k))))
-    by known = (refl, refl, h)
+    by : (o : Sort) → Within 8 SubLies m p (onSort o (item (record { kind = k; start = p + 8; len = n }) (p + 8 + n)) (pass (p + 8 + n)) (fail (told (why.UnknownKind k))))
+    by known = ((refl, refl), omega arith, h)
     by skipped = omega arith
     by unknown = tt
 
-judged-within : (rule : ℕ → Sort) (s : List ℕ) (p : ℕ) → p ≤ length s → (u : Move (List ℕ) Raw Lack) → Bitten (drop p s) u → Within (length s) p (judged rule p u)
+judged-within : (rule : ℕ → Sort) (s : List ℕ) (p : ℕ) → p ≤ length s → (u : Move (List ℕ) Raw Lack) → Bitten (drop p s) u → Within 8 SubLies (length s) p (judged rule p u)
 judged-within rule s p h (item r t) w = whole-within rule (length s) (r .kind) p (length (r .body)) (omega (arith, length-drop p s))
 judged-within rule s p h (pass t) w = absurd w
 judged-within rule s p h over w = omega (arith, length-drop p s)
 judged-within rule s p h (fail c) w = tt
 
-pub head-within : (rule : ℕ → Sort) (s : List ℕ) (p : ℕ) → Within (length s) p (headAt rule s p)
+pub head-within : (rule : ℕ → Sort) (s : List ℕ) (p : ℕ) → Within 8 SubLies (length s) p (headAt rule s p)
 unfolding headAt
 head-within rule s p =
-    by-cases (Within (length s) p) (ltb longest (length s)) (λ d. tt)
-    (λ d. by-cases (Within (length s) p) (ltb (length s) p) (λ e. tt)
+    by-cases (Within 8 SubLies (length s) p) (ltb longest (length s)) (λ d. tt)
+    (λ d. by-cases (Within 8 SubLies (length s) p) (ltb (length s) p) (λ e. tt)
     (λ e. judged-within rule s p (ltb-false (length s) p e) (bite (drop p s)) (bitten (drop p s))))
 
 abbrev pub left : List ℕ → ℕ → ℕ
 left s p = length s - p
 
-move-falls : (m p : ℕ) (u : Move ℕ Sub Told) → Within m p u → To u (λ t. m - t < m - p)
-move-falls m p (item b x) w = omega arith
-move-falls m p (pass x) w = omega arith
-move-falls m p over w = tt
-move-falls m p (fail r) w = tt
-
 pub falls : (rule : ℕ → Sort) (s : List ℕ) (p : ℕ) → To (headAt rule s p) (λ t. left s t < left s p)
-falls rule s p = move-falls (length s) p (headAt rule s p) (head-within rule s p)
+falls rule s p = within-falls 8 SubLies (length s) p (omega arith) (headAt rule s p) (head-within rule s p)
 
 module _ (rule : ℕ → Sort) (s : List ℕ) (p : ℕ) where
   pub head-falls : (x : ℕ) → pass x ≡ headAt rule s p → length s - x < length s - p
@@ -199,8 +191,8 @@ module _ (rule : ℕ → Sort) (s : List ℕ) (p : ℕ) where
 
   pub step-gives : (b : Sub) (x : ℕ) → item b x ≡ headAt rule s p → gives b x ≡ stepAt rule s p
   step-gives b x e =
-      let w : Within (length s) p (item b x) = subst⁻¹ (Within (length s) p) e (head-within rule s p) in
-      ap (gives b) (w .1) ∙ ap firstOf (subs-is rule s p (item b x) e)
+      let w = subst⁻¹ (λ (u : Move ℕ Sub Told). Within 8 SubLies (length s) p u) e (head-within rule s p) in
+      ap (gives b) (w .0 .1) ∙ ap firstOf (subs-is rule s p (item b x) e)
 
 -- ---- the walk that the code makes, one head behind the other, is the meaning with its places; no other listing has these steps
 
@@ -210,7 +202,7 @@ subs-all rule s p = all-unique (headAt rule s) (left s) (falls rule s) (subsFrom
 -- what holds of each step holds of the whole
 module _ (rule : ℕ → Sort) (s : List ℕ) (P : ℕ → Listing Sub Told → Type 0) where
   abbrev One : (ℕ → Listing Sub Told) → Type 0
-  One L = (p : ℕ) (u : Move ℕ Sub Told) → Within (length s) p u → To u (λ t. P t (L t)) → P p (onMove L u)
+  One L = (p : ℕ) (u : Move ℕ Sub Told) → Within 8 SubLies (length s) p u → To u (λ t. P t (L t)) → P p (onMove L u)
 
   pub subs-ind : One (subsFrom rule s) → (p : ℕ) → P p (subsFrom rule s p)
   subs-ind =
@@ -229,8 +221,8 @@ module _ (rule : ℕ → Sort) (s : List ℕ) where
   earlier p q ends h w = tt
   earlier p q (fails r) h w = tt
 
-  chain : (p : ℕ) (u : Move ℕ Sub Told) → Within (length s) p u → To u (λ t. Chained t (subsFrom rule s t)) → Chained p (onMove (subsFrom rule s) u)
-  chain p (item b x) w f = (ap (subsFrom rule s) (w .1), omega arith, omega arith)
+  chain : (p : ℕ) (u : Move ℕ Sub Told) → Within 8 SubLies (length s) p u → To u (λ t. Chained t (subsFrom rule s t)) → Chained p (onMove (subsFrom rule s) u)
+  chain p (item b x) w f = (ap (subsFrom rule s) (w .0 .1), omega arith, omega arith)
   chain p (pass x) w f = earlier p x (subsFrom rule s x) (omega arith) f
   chain p over w f = tt
   chain p (fail r) w f = tt
@@ -335,7 +327,7 @@ Inside m b = b .start + b .len ≤ m
 pub subs-inside : (rule : ℕ → Sort) (s : List ℕ) (p : ℕ) → Every (Inside (length s)) (subsFrom rule s p)
 subs-inside rule s = subs-ind rule s (λ p l. Every (Inside (length s)) l) by
   where
-    by : (p : ℕ) (u : Move ℕ Sub Told) → Within (length s) p u → To u (λ t. Every (Inside (length s)) (subsFrom rule s t))
+    by : (p : ℕ) (u : Move ℕ Sub Told) → Within 8 SubLies (length s) p u → To u (λ t. Every (Inside (length s)) (subsFrom rule s t))
         → Every (Inside (length s)) (onMove (subsFrom rule s) u)
     by p (item b x) w f = (omega arith, f)
     by p (pass x) w f = f

@@ -14,6 +14,7 @@ use Rattle.word.specs.WordLaws.{u32-drop}
 use Rattle.walk.specs.Cases.{by-cases, tests}
 use Rattle.walk.specs.Listing.{Move, Listing, more, mapped, onMove, moved, Answer, gives, none, refuses, Reply, gave, refused, calls, replies}
 use Rattle.walk.specs.ListingLaws.{To, Holds, Every, all-step, all-ind, all-every, calls-are}
+use Rattle.walk.specs.WithinLaws.{Within, within-falls, within-holds}
 use Rattle.refusal.specs.Told.{Told, told}
 use Rattle.refusal.specs.declared.Refusal.the-variants as why
 use Rattle.body.specs.Checksums.{Checksum, up4, checksumBite, checksums}
@@ -101,43 +102,39 @@ module _ (b : List ℕ) (p : ℕ) where
 
 -- ---- where an entry's numbers lie
 
-abbrev pub Within : ℕ → ℕ → Answer ℕ Entry Told → Type 0
-Within m p (gives e x) = (e .start ≡ p + 6) × (e .start + e .len ≤ x) × (x ≤ m)
-Within m p none = p ≡ m
-Within m p (refuses t) = Unit {0}
+abbrev pub EntryLies : ℕ → Entry → ℕ → Type 0
+EntryLies p e x = (e .start ≡ p + 6) × (e .start + e .len ≤ x)
+
+abbrev pub EntryWithin : ℕ → ℕ → Answer ℕ Entry Told → Type 0
+EntryWithin m p a = Within 6 EntryLies m p (moved a)
 
 kept-below : (k n : ℕ) → keptOf k n ≤ n
 unfolding keptOf
 kept-below k n = by-cases (λ (j : ℕ). j ≤ n) (eqb k 0) (λ e. omega arith) (λ e. omega arith)
 
-closed-within : (m name kind p n : ℕ) → Within m p (closedAs m name kind (p + 6) n)
+closed-within : (m name kind p n : ℕ) → EntryWithin m p (closedAs m name kind (p + 6) n)
 unfolding closedAs
 closed-within m name kind p n =
-    by-cases (Within m p) (ltb 3 kind) (λ e. tt)
-    (λ e. by-cases (Within m p) (ltb m (up4 (p + 6 + n))) (λ f. tt) (λ f. (refl, omega (arith, kept-below kind n), omega (arith, ltb-false))))
+    by-cases (EntryWithin m p) (ltb 3 kind) (λ e. tt)
+    (λ e. by-cases (EntryWithin m p) (ltb m (up4 (p + 6 + n))) (λ f. tt) (λ f. ((refl, omega (arith, kept-below kind n)), omega arith, omega (arith, ltb-false))))
 
-pub entry-within : (b : List ℕ) (p : ℕ) → Within (length b) p (entryAt b p)
+pub entry-within : (b : List ℕ) (p : ℕ) → EntryWithin (length b) p (entryAt b p)
 unfolding entryAt
 entry-within b p =
-    by-cases (Within (length b) p) (ltb (length b) p) (λ a. tt)
-    (λ a. by-cases (Within (length b) p) (eqb (length b - p) 0) (λ c. omega (arith, ltb-false, eqb-true))
-    (λ c. by-cases (Within (length b) p) (ltb (length b - p) 6) (λ d. tt)
-    (λ d. by-cases (Within (length b) p) (ltb (length b - p - 6) (getD b (p + 4) 0)) (λ e. tt)
+    by-cases (EntryWithin (length b) p) (ltb (length b) p) (λ a. tt)
+    (λ a. by-cases (EntryWithin (length b) p) (eqb (length b - p) 0) (λ c. omega (arith, ltb-false, eqb-true))
+    (λ c. by-cases (EntryWithin (length b) p) (ltb (length b - p) 6) (λ d. tt)
+    (λ d. by-cases (EntryWithin (length b) p) (ltb (length b - p - 6) (getD b (p + 4) 0)) (λ e. tt)
     (λ e. closed-within (length b) (u32At b p) (getD b (p + 5) 0) p (getD b (p + 4) 0)))))
 
 -- what an answer of `entry_at` says
-pub entry-lies : (b : List ℕ) (p : ℕ) (e : Entry) (x : ℕ) → gives e x ≡ entryAt b p → (e .start ≡ p + 6) × (e .start + e .len ≤ x) × (x ≤ length b)
-entry-lies b p e x q = subst⁻¹ (Within (length b) p) q (entry-within b p)
+pub entry-lies : (b : List ℕ) (p : ℕ) (e : Entry) (x : ℕ) → gives e x ≡ entryAt b p → EntryWithin (length b) p (gives e x)
+entry-lies b p e x q = subst⁻¹ (EntryWithin (length b) p) q (entry-within b p)
 
 -- ---- one step of the whole
 
-move-falls : (m p : ℕ) (a : Answer ℕ Entry Told) → Within m p a → To (moved a) (λ t. m - t < m - p)
-move-falls m p (gives e x) w = omega arith
-move-falls m p none w = tt
-move-falls m p (refuses t) w = tt
-
 falls : (b : List ℕ) (p : ℕ) → To (moved (entryAt b p)) (λ t. length b - t < length b - p)
-falls b p = move-falls (length b) p (entryAt b p) (entry-within b p)
+falls b p = within-falls 6 EntryLies (length b) p (omega arith) (moved (entryAt b p)) (entry-within b p)
 
 pub entries-step : (b : List ℕ) (p : ℕ) → entriesFrom b p ≡ onMove (entriesFrom b) (moved (entryAt b p))
 unfolding entriesFrom
@@ -149,12 +146,8 @@ In n e = e .start + e .len ≤ n
 
 pub entries-in : (b : List ℕ) (p : ℕ) → Every (In (length b)) (entriesFrom b p)
 unfolding entriesFrom
-entries-in b = all-every (λ (q : ℕ). moved (entryAt b q)) (λ (q : ℕ). length b - q) (falls b) (In (length b)) (λ p. by p (entryAt b p) (entry-within b p))
-  where
-    by : (p : ℕ) (a : Answer ℕ Entry Told) → Within (length b) p a → Holds (In (length b)) (moved a)
-    by p (gives e x) w = omega arith
-    by p none w = tt
-    by p (refuses t) w = tt
+entries-in b = all-every (λ (q : ℕ). moved (entryAt b q)) (λ (q : ℕ). length b - q) (falls b) (In (length b))
+    (λ p. within-holds 6 EntryLies (length b) p (In (length b)) (λ e x w h. omega arith) (moved (entryAt b p)) (entry-within b p))
 
 -- and the entry stands 6 before them
 pub record Stands (b : List ℕ) (e : Entry) : Type 0 where

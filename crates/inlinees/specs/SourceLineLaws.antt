@@ -8,12 +8,13 @@ use native.Mathlib.Nat.{add-zero, add-assoc}
 use lib.ListN.{length, drop, length-drop}
 use lib.Seq.{drop-drop}
 use lib.Dec.{ltb, eqb}
-use borrow.Author.Tests.{eq-eqb, ne-eqb, ltb-true, ltb-false}
+use borrow.Author.Tests.{eq-eqb, ne-eqb, eqb-true, ltb-true, ltb-false}
 use Rattle.word.specs.Word.{u32At}
 use Rattle.word.specs.WordLaws.{u32-drop}
 use Rattle.walk.specs.Cases.{by-cases, tests}
 use Rattle.walk.specs.Listing.{Move, item, pass, over, fail, Listing, more, fails, mapped, onMove, moved, Answer, gives, none, refuses, calls, replies}
-use Rattle.walk.specs.ListingLaws.{To, Holds, Every, all-step, all-ind, all-every, calls-are}
+use Rattle.walk.specs.ListingLaws.{To, Every, all-step, all-ind, all-every, calls-are}
+use Rattle.walk.specs.WithinLaws.{Within, within-to, within-holds}
 use Rattle.refusal.specs.Told.{Told, told}
 use Rattle.refusal.specs.declared.Refusal.the-variants as why
 use Rattle.find.specs.Find.{same}
@@ -97,7 +98,7 @@ Bitten x s (item e t) =
     (headSize x + 4 * length (e .extra) ≤ length s) × (t ≡ drop (headSize x + 4 * length (e .extra)) s)
     × (e .extra ≡ wordsIn (length (e .extra)) (drop (headSize x) s))
 Bitten x s (pass t) = ⊥
-Bitten x s over = Unit {0}
+Bitten x s over = length s ≡ 0
 Bitten x s (fail r) = Unit {0}
 
 extra-bitten : (x : Bool) (s : List ℕ) → 12 ≤ length s → Bitten x s (extraBite x s)
@@ -114,46 +115,44 @@ extra-bitten true s h =
 bitten : (x : Bool) (s : List ℕ) → Bitten x s (inlineeBite x s)
 unfolding inlineeBite
 bitten x s =
-    by-cases (Bitten x s) (eqb (length s) 0) (λ a. tt)
+    by-cases (Bitten x s) (eqb (length s) 0) (λ a. omega (arith, eqb-true))
     (λ a. by-cases (Bitten x s) (ltb (length s) 12) (λ c. tt) (λ c. extra-bitten x s (ltb-false (length s) 12 c)))
 
 head-some : (x : Bool) → 12 ≤ headSize x
 head-some false = omega arith
 head-some true = omega arith
 
-abbrev pub Within : ℕ → ℕ → Answer ℕ SourceLine Told → Type 0
-Within m q (gives e x) = (e .extra + 4 * e .count ≡ x) × (q + 12 ≤ x) × (x ≤ m)
-Within m q none = Unit {0}
-Within m q (refuses t) = Unit {0}
+abbrev pub LineLies : ℕ → SourceLine → ℕ → Type 0
+LineLies q e x = e .extra + 4 * e .count ≡ x
 
-placed-within : (x : Bool) (b : List ℕ) (q : ℕ) → q ≤ length b → (u : Move (List ℕ) Inlinee Told) → Bitten x (drop q b) u → Within (length b) q (inlineePlaced x q u)
+abbrev pub LineWithin : ℕ → ℕ → Answer ℕ SourceLine Told → Type 0
+LineWithin m q a = Within 12 LineLies m q (moved a)
+
+placed-within : (x : Bool) (b : List ℕ) (q : ℕ) → q ≤ length b → (u : Move (List ℕ) Inlinee Told) → Bitten x (drop q b) u → LineWithin (length b) q (inlineePlaced x q u)
 placed-within x b q h (item e t) w = (refl, omega (arith, head-some x), omega (arith, length-drop q b))
-placed-within x b q h (pass t) w = tt
-placed-within x b q h over w = tt
+placed-within x b q h (pass t) w = absurd w
+placed-within x b q h over w = omega (arith, length-drop q b)
 placed-within x b q h (fail r) w = tt
 
-pub line-within : (b : List ℕ) (p : ℕ) → Within (length b) (entryPlace p) (sourceLineAt b p)
+pub line-within : (b : List ℕ) (p : ℕ) → LineWithin (length b) (entryPlace p) (sourceLineAt b p)
 unfolding sourceLineAt
 line-within b p =
     let x = extended (u32At b 0) in
     let q = entryPlace p in
-    by-cases (Within (length b) q) (ltb (length b) 4) (λ a. tt)
-    (λ a. by-cases (Within (length b) q) (ltb (length b) q) (λ c. tt)
+    by-cases (LineWithin (length b) q) (ltb (length b) 4) (λ a. tt)
+    (λ a. by-cases (LineWithin (length b) q) (ltb (length b) q) (λ c. tt)
     (λ c. placed-within x b q (ltb-false (length b) q c) (inlineeBite x (drop q b)) (bitten x (drop q b))))
 
 -- what an answer of `source_line_at` says
-pub line-lies : (b : List ℕ) (p : ℕ) (e : SourceLine) (x : ℕ) → gives e x ≡ sourceLineAt b p → (e .extra + 4 * e .count ≡ x) × (entryPlace p + 12 ≤ x) × (x ≤ length b)
-line-lies b p e x q = subst⁻¹ (Within (length b) (entryPlace p)) q (line-within b p)
+pub line-lies : (b : List ℕ) (p : ℕ) (e : SourceLine) (x : ℕ) → gives e x ≡ sourceLineAt b p → LineWithin (length b) (entryPlace p) (gives e x)
+line-lies b p e x q = subst⁻¹ (LineWithin (length b) (entryPlace p)) q (line-within b p)
 
 -- ---- one step of the whole
 
-move-falls : (m p : ℕ) (a : Answer ℕ SourceLine Told) → Within m (entryPlace p) a → To (moved a) (λ t. m - entryPlace t < m - entryPlace p)
-move-falls m p (gives e x) w = omega (arith, place-is x (omega arith))
-move-falls m p none w = tt
-move-falls m p (refuses t) w = tt
-
 falls : (b : List ℕ) (p : ℕ) → To (moved (sourceLineAt b p)) (λ t. length b - entryPlace t < length b - entryPlace p)
-falls b p = move-falls (length b) p (sourceLineAt b p) (line-within b p)
+falls b p =
+    within-to 12 LineLies (length b) (entryPlace p) (λ (t : ℕ). length b - entryPlace t < length b - entryPlace p) (λ x h i. omega (arith, place-is x (omega arith)))
+    (moved (sourceLineAt b p)) (line-within b p)
 
 pub lines-step : (b : List ℕ) (p : ℕ) → sourceLinesFrom b p ≡ onMove (sourceLinesFrom b) (moved (sourceLineAt b p))
 unfolding sourceLinesFrom
@@ -165,12 +164,8 @@ In n e = e .extra + 4 * e .count ≤ n
 
 pub lines-in : (b : List ℕ) (p : ℕ) → Every (In (length b)) (sourceLinesFrom b p)
 unfolding sourceLinesFrom
-lines-in b = all-every (λ (q : ℕ). moved (sourceLineAt b q)) (λ (q : ℕ). length b - entryPlace q) (falls b) (In (length b)) (λ p. by p (sourceLineAt b p) (line-within b p))
-  where
-    by : (p : ℕ) (a : Answer ℕ SourceLine Told) → Within (length b) (entryPlace p) a → Holds (In (length b)) (moved a)
-    by p (gives e x) w = omega arith
-    by p none w = tt
-    by p (refuses t) w = tt
+lines-in b = all-every (λ (q : ℕ). moved (sourceLineAt b q)) (λ (q : ℕ). length b - entryPlace q) (falls b) (In (length b))
+    (λ p. within-holds 12 LineLies (length b) (entryPlace p) (In (length b)) (λ e x w h. omega arith) (moved (sourceLineAt b p)) (line-within b p))
 
 -- THE WALK over a body: n calls of `source_line_at`, each at the place that the call before handed on, answer the entries in order, and then the
 -- end, or the same refusal, again and again

@@ -23,7 +23,7 @@ use Rattle.line_record.specs.declared.LineRecord.{LineRecord}
 use Rattle.lines.specs.declared.LineHeader.{LineHeader}
 use Rattle.lines.specs.Lines.{countLines}
 use Rattle.lines.specs.Blocks.{LineBlock, blockAt}
-use Rattle.lines.specs.BlocksLaws.{Within, block-within}
+use Rattle.lines.specs.BlocksLaws.{BlockWithin, block-within}
 use Rattle.lines.specs.Slots.{slotAt}
 use Rattle.lines.specs.SlotsLaws.{SlotIn, slot-lies}
 use Rattle.line_step.specs.declared.Held.{Held}
@@ -75,7 +75,7 @@ module _ (rule : ℕ → Sort) (s v : List ℕ) where
   end-less h t Nothing m l e = omega arith
   end-less h t (One r) m l e = by-cases (Less m) (ltb maxOffset (h .offset + h .code)) (λ g. tt) (λ g. l)
 
-  block-less : (p : Place) (t : Rest) (k : Answer ℕ LineBlock Told) → p .lines ≡ 0 → Within (columned (p .head .flags)) (p .end) (p .next) k
+  block-less : (p : Place) (t : Rest) (k : Answer ℕ LineBlock Told) → p .lines ≡ 0 → BlockWithin (columned (p .head .flags)) (p .end) (p .next) k
       → Less (todo rule s (Inside p t)) (blockOf p t k)
   block-less p t (gives k x) h w = omega arith
   block-less p t none h w = end-less (p .head) t (t .held) (todo rule s (Inside p t)) (omega arith) refl
@@ -98,7 +98,7 @@ module _ (rule : ℕ → Sort) (s v : List ℕ) where
       by-cases (Less (todo rule s (Inside p t))) (ltb (length s) (p .end)) (λ g. tt)
       (λ g. by-cases (Less (todo rule s (Inside p t))) (eqb (p .lines) 0)
       (λ e. block-less p t (blockAt (columned (p .head .flags)) b (p .next)) (eqb-true (p .lines) 0 e)
-      (subst (λ (m : ℕ). Within (columned (p .head .flags)) m (p .next) (blockAt (columned (p .head .flags)) b (p .next))) (length-take-le (p .end) s (ltb-false (length s) (p .end) g))
+      (subst (λ (m : ℕ). BlockWithin (columned (p .head .flags)) m (p .next) (blockAt (columned (p .head .flags)) b (p .next))) (length-take-le (p .end) s (ltb-false (length s) (p .end) g))
       (block-within (columned (p .head .flags)) b (p .next))))
       (λ e. line-less p t (lineEntryAt b p) (omega (arith, eqb-false))))
 

@@ -30,7 +30,7 @@ use Rattle.lines.specs.declared.LineHeader.{LineHeader}
 use Rattle.lines.specs.Told.{toldHeader}
 use Rattle.lines.specs.Lines.{countLines}
 use Rattle.lines.specs.Blocks.{LineBlock, blockAt}
-use Rattle.lines.specs.BlocksLaws.{Within, block-within, blocksOn, blocks-step}
+use Rattle.lines.specs.BlocksLaws.{BlockWithin, block-within, blocksOn, blocks-step}
 use Rattle.lines.specs.Slots.{bodyAt, nameThen, named, slotAt, listIn}
 use Rattle.lines.specs.SlotsLaws.{Scans, scans-start, SlotIn, slot-lies, slot-scanned, named-slot}
 use Rattle.lines.specs.LinesLaws.{count-long, counted-short}
@@ -292,7 +292,7 @@ module _ (rule : ℕ → Sort) (s v : List ℕ) where
   columns-in true a n m h = (omega arith, omega arith)
   columns-in false a n m h = (omega arith, omega arith)
 
-  block-kept : (p : Place) (t : Rest) (k : Answer ℕ LineBlock Told) → Walked (Between t) → p .end ≤ length s → Within (columnsOn p) (p .end) (p .next) k
+  block-kept : (p : Place) (t : Rest) (k : Answer ℕ LineBlock Told) → Walked (Between t) → p .end ≤ length s → BlockWithin (columnsOn p) (p .end) (p .next) k
       → Kept (blockOf p t k)
   block-kept p t (gives k x) g l w =
       let q = columns-in (columnsOn p) (k .start) (k .count) (p .end) (omega arith) in
@@ -316,7 +316,7 @@ module _ (rule : ℕ → Sort) (s v : List ℕ) where
       by-cases Kept (ltb (length s) (p .end)) (λ f. tt)
       (λ f. by-cases Kept (eqb (p .lines) 0)
       (λ e. block-kept p t (blockAt (columnsOn p) b (p .next)) (w .0, w .1) (w .2)
-      (subst (λ (m : ℕ). Within (columnsOn p) m (p .next) (blockAt (columnsOn p) b (p .next))) (length-take-le (p .end) s (w .2)) (block-within (columnsOn p) b (p .next))))
+      (subst (λ (m : ℕ). BlockWithin (columnsOn p) m (p .next) (blockAt (columnsOn p) b (p .next))) (length-take-le (p .end) s (w .2)) (block-within (columnsOn p) b (p .next))))
       (λ e. let one : 1 ≤ p .lines = omega (arith, eqb-false) in
       line-kept p t (lineEntryAt b p) (w .0, w .1, w .2, w .3, omega arith, omega arith)))
 

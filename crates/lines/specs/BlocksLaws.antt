@@ -14,7 +14,8 @@ use Rattle.word.specs.Word.{u32At}
 use Rattle.word.specs.WordLaws.{u32-drop}
 use Rattle.walk.specs.Cases.{tests, by-cases}
 use Rattle.walk.specs.Listing.{Move, item, over, fail, Listing, more, ends, fails, mapped, onMove, Answer, gives, none, refuses, moved, calls, replies}
-use Rattle.walk.specs.ListingLaws.{To, Holds, Every, all-step, all-ind, all-every, calls-are}
+use Rattle.walk.specs.ListingLaws.{To, Every, all-step, all-ind, all-every, calls-are}
+use Rattle.walk.specs.WithinLaws.{Within, within-falls, within-holds}
 use Rattle.refusal.specs.Told.{Told, told}
 use Rattle.refusal.specs.declared.Refusal.the-variants as why
 use Rattle.body.specs.Lines.{Block, lineBytes, blockBite, blocks}
@@ -65,37 +66,33 @@ module _ (c : Bool) (b : List ℕ) (p : ℕ) where
 
 -- ---- where a block's numbers lie: its lines and columns begin at `start` and end before the next block
 
-abbrev pub Within : Bool → ℕ → ℕ → Answer ℕ LineBlock Told → Type 0
-Within c m p (gives k x) = (k .start ≡ p + 12) × (k .start + lineBytes c (k .count) ≤ x) × (x ≤ m)
-Within c m p none = p ≡ m
-Within c m p (refuses t) = Unit {0}
+abbrev pub BlockLies : Bool → ℕ → LineBlock → ℕ → Type 0
+BlockLies c p k x = (k .start ≡ p + 12) × (k .start + lineBytes c (k .count) ≤ x)
 
-pub block-within : (c : Bool) (b : List ℕ) (p : ℕ) → Within c (length b) p (blockAt c b p)
+abbrev pub BlockWithin : Bool → ℕ → ℕ → Answer ℕ LineBlock Told → Type 0
+BlockWithin c m p a = Within 12 (BlockLies c) m p (moved a)
+
+pub block-within : (c : Bool) (b : List ℕ) (p : ℕ) → BlockWithin c (length b) p (blockAt c b p)
 unfolding blockAt
 block-within c b p =
-    by-cases (Within c (length b) p) (ltb (length b) p) (λ h. tt)
-    (λ h₁. by-cases (Within c (length b) p) (eqb (length b - p) 0) (λ h. omega (arith, ltb-false, eqb-true))
-    (λ h₂. by-cases (Within c (length b) p) (ltb (length b - p) 12) (λ h. tt)
-    (λ h₃. by-cases (Within c (length b) p) (ltb (u32At b (p + 8)) 12) (λ h. tt)
-    (λ h₄. by-cases (Within c (length b) p) (ltb (length b - p) (u32At b (p + 8))) (λ h. tt)
-    (λ h₅. by-cases (Within c (length b) p) (ltb (u32At b (p + 8) - 12) (lineBytes c (u32At b (p + 4)))) (λ h. tt)
-    (λ h₆. (refl, omega (arith, ltb-false), omega (arith, ltb-false))))))))
+    by-cases (BlockWithin c (length b) p) (ltb (length b) p) (λ h. tt)
+    (λ h₁. by-cases (BlockWithin c (length b) p) (eqb (length b - p) 0) (λ h. omega (arith, ltb-false, eqb-true))
+    (λ h₂. by-cases (BlockWithin c (length b) p) (ltb (length b - p) 12) (λ h. tt)
+    (λ h₃. by-cases (BlockWithin c (length b) p) (ltb (u32At b (p + 8)) 12) (λ h. tt)
+    (λ h₄. by-cases (BlockWithin c (length b) p) (ltb (length b - p) (u32At b (p + 8))) (λ h. tt)
+    (λ h₅. by-cases (BlockWithin c (length b) p) (ltb (u32At b (p + 8) - 12) (lineBytes c (u32At b (p + 4)))) (λ h. tt)
+    (λ h₆. ((refl, omega (arith, ltb-false)), omega (arith, ltb-false), omega (arith, ltb-false))))))))
 
-pub block-in : (c : Bool) (b : List ℕ) (p : ℕ) (k : LineBlock) (x : ℕ) → gives k x ≡ blockAt c b p → Within c (length b) p (gives k x)
-block-in c b p k x e = subst⁻¹ (Within c (length b) p) e (block-within c b p)
+pub block-in : (c : Bool) (b : List ℕ) (p : ℕ) (k : LineBlock) (x : ℕ) → gives k x ≡ blockAt c b p → BlockWithin c (length b) p (gives k x)
+block-in c b p k x e = subst⁻¹ (BlockWithin c (length b) p) e (block-within c b p)
 
 -- ---- the walk from place to place
 
 abbrev left : List ℕ → ℕ → ℕ
 left b p = length b - p
 
-answer-falls : (c : Bool) (m p : ℕ) (a : Answer ℕ LineBlock Told) → Within c m p a → To (moved a) (λ t. m - t < m - p)
-answer-falls c m p (gives k x) w = omega arith
-answer-falls c m p none w = tt
-answer-falls c m p (refuses t) w = tt
-
 falls : (c : Bool) (b : List ℕ) (p : ℕ) → To (moved (blockAt c b p)) (λ t. left b t < left b p)
-falls c b p = answer-falls c (length b) p (blockAt c b p) (block-within c b p)
+falls c b p = within-falls 12 (BlockLies c) (length b) p (omega arith) (moved (blockAt c b p)) (block-within c b p)
 
 pub from-step : (c : Bool) (b : List ℕ) (p : ℕ) → blocksFrom c b p ≡ onMove (blocksFrom c b) (moved (blockAt c b p))
 unfolding blocksFrom
@@ -166,7 +163,7 @@ blocks-are c b =
     all-ind (λ p. moved (blockAt c b p)) (left b) (falls c b) (λ p l. p ≤ length b → mapped (worded c b) same l ≡ blocks c (drop p b))
     (λ p f h. on p (blockAt c b p) (block-within c b p) f ∙ sym (blocks-step c b p h))
   where
-    on : (p : ℕ) (a : Answer ℕ LineBlock Told) → Within c (length b) p a
+    on : (p : ℕ) (a : Answer ℕ LineBlock Told) → BlockWithin c (length b) p a
         → To (moved a) (λ t. t ≤ length b → mapped (worded c b) same (blocksFrom c b t) ≡ blocks c (drop t b))
         → mapped (worded c b) same (onMove (blocksFrom c b) (moved a)) ≡ blocksOn c b a
     on p (gives k x) w f = ap (more (worded c b k)) (f (w .2))
@@ -178,9 +175,4 @@ pub blocks-inside : (c : Bool) (b : List ℕ) (p : ℕ) → Every (λ (k : LineB
 unfolding blocksFrom
 blocks-inside c b =
     all-every (λ p. moved (blockAt c b p)) (left b) (falls c b) (λ (k : LineBlock). k .start + lineBytes c (k .count) ≤ length b)
-    (λ p. by p (blockAt c b p) (block-within c b p))
-  where
-    by : (p : ℕ) (a : Answer ℕ LineBlock Told) → Within c (length b) p a → Holds (λ (k : LineBlock). k .start + lineBytes c (k .count) ≤ length b) (moved a)
-    by p (gives k x) w = omega arith
-    by p none w = tt
-    by p (refuses t) w = tt
+    (λ p. within-holds 12 (BlockLies c) (length b) p (λ (k : LineBlock). k .start + lineBytes c (k .count) ≤ length b) (λ k x w h. omega arith) (moved (blockAt c b p)) (block-within c b p))

@@ -10,11 +10,12 @@ use borrow.Author.Tests.{eqb-true}
 use Rattle.walk.specs.Cases.{by-cases}
 use Rattle.walk.specs.Listing.{Move, item, pass, over, fail, onMove, Listing, more, ends, fails}
 use Rattle.walk.specs.ListingLaws.{To}
+use Rattle.walk.specs.WithinLaws.{Within}
 use Rattle.walk.specs.Pick.{only}
 use Rattle.refusal.specs.Told.{Told}
 use Rattle.area.specs.Kind.{Sort}
 use Rattle.area.specs.Subs.{Sub, subsFrom}
-use Rattle.area.specs.SubsLaws.{Within, Chained, subs-ind, subs-chained}
+use Rattle.area.specs.SubsLaws.{SubLies, Chained, subs-ind, subs-chained}
 use Rattle.find.specs.Find.{is}
 use Rattle.lines.specs.Slots.{bodyIn, bodyFrom}
 use Rattle.lines.specs.SlotsLaws.{body-passed}
@@ -33,7 +34,7 @@ module _ (rule : ℕ → Sort) (s : List ℕ) where
   abbrev Stands : ℕ → Listing Sub Told → Type 0
   Stands p l = l ≡ subsFrom rule s p → Heads l
 
-  stand : (p : ℕ) (u : Move ℕ Sub Told) → Within (length s) p u → To u (λ t. Stands t (subsFrom rule s t))
+  stand : (p : ℕ) (u : Move ℕ Sub Told) → Within 8 SubLies (length s) p u → To u (λ t. Stands t (subsFrom rule s t))
       → Stands p (onMove (subsFrom rule s) u)
   stand p (item b x) w f = λ e. let q : p ≡ b .start - 8 = omega arith in e ∙ ap (subsFrom rule s) q
   stand p (pass x) w f = λ e. f refl

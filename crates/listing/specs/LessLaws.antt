@@ -22,7 +22,7 @@ use Rattle.table.specs.TableLaws.{Finds}
 use Rattle.table.specs.declared.TableWalk.{TableWalk}
 use Rattle.table.specs.declared.TableWalk.the-variants as table
 use Rattle.checksums.specs.Entry.{Entry, entryAt}
-use Rattle.checksums.specs.EntryLaws.{entry-lies}
+use Rattle.checksums.specs.EntryLaws.{EntryWithin, entry-within}
 use Rattle.files.specs.Files.{fileOf, filesSub, fileStep}
 use Rattle.files.specs.FilesLaws.{files-finds}
 use Rattle.line_step.specs.Turn.{turnOf}
@@ -60,16 +60,15 @@ module _ (rule : ℕ → Sort) (s : List ℕ) where
   -- ---- the walks of the stages
 
   files-at : (q : Place) → To (moved (readAt entryAt fileOf s (gave q))) (λ t. filesLeft t < q .len - q .at)
-  files-at q = by (entryAt b (q .at)) (λ e x g. entry-lies b (q .at) e x g)
+  files-at q = by (entryAt b (q .at)) (entry-within b (q .at))
     where
       b : List ℕ
       b = take (q .len) (drop (q .start) s)
 
-      by : (u : Answer ℕ Entry Told) → ((e : Entry) (x : ℕ) → gives e x ≡ u → (e .start ≡ q .at + 6) × (e .start + e .len ≤ x) × (x ≤ length b))
-          → To (moved (shifted fileOf (q .start) (q .len) u)) (λ t. filesLeft t < q .len - q .at)
-      by (gives e x) h = omega (arith, h e x refl, length-take (q .len) (drop (q .start) s))
-      by none h = tt
-      by (refuses t) h = tt
+      by : (u : Answer ℕ Entry Told) → EntryWithin (length b) (q .at) u → To (moved (shifted fileOf (q .start) (q .len) u)) (λ t. filesLeft t < q .len - q .at)
+      by (gives e x) w = omega (arith, length-take (q .len) (drop (q .start) s))
+      by none w = tt
+      by (refuses t) w = tt
 
   -- a spot has no more to do than the walk that it is of
   abbrev Under : ℕ → Reply Place Told → Type 0

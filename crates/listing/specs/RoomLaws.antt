@@ -10,12 +10,13 @@ use lib.Dec.{ltb, eqb}
 use borrow.Author.Tests.{ltb-false}
 use Rattle.walk.specs.Listing.{Move, item, pass, over, fail, Listing, more, fails, onMove, Reply, gave, nothing, refused}
 use Rattle.walk.specs.ListingLaws.{To}
+use Rattle.walk.specs.WithinLaws.{Within}
 use Rattle.walk.specs.Pick.{only}
 use Rattle.refusal.specs.Told.{Told, told}
 use Rattle.refusal.specs.declared.Refusal.the-variants as why
 use Rattle.area.specs.Kind.{Sort}
 use Rattle.area.specs.Subs.{Sub, subsFrom}
-use Rattle.area.specs.SubsLaws.{Within, subs-ind}
+use Rattle.area.specs.SubsLaws.{SubLies, subs-ind}
 use Rattle.find.specs.Find.{is}
 use Rattle.lines.specs.Lines.{headed, plus, countOf, countLines}
 
@@ -29,7 +30,7 @@ module _ (rule : ℕ → Sort) (s : List ℕ) where
   one-more p x n nothing h f e = let z : _≡_ {A = ℕ} 0 1 = cc in absurd (omega arith)
   one-more p x n (refused t) h f e = let z : _≡_ {A = ℕ} 0 1 = cc in absurd (omega arith)
 
-  took : (p : ℕ) (u : Move ℕ Sub Told) → Within (length s) p u → To u (λ t. Took t (subsFrom rule s t)) → Took p (onMove (subsFrom rule s) u)
+  took : (p : ℕ) (u : Move ℕ Sub Told) → Within 8 SubLies (length s) p u → To u (λ t. Took t (subsFrom rule s t)) → Took p (onMove (subsFrom rule s) u)
   unfolding Took headed only countOf
   took p (item b x) w f n e h = by (eqb (b .kind) 0xf2) e
     where
