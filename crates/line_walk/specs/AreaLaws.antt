@@ -12,13 +12,14 @@ use Rattle.walk.specs.FailsLaws.{FailsBy}
 use Rattle.refusal.specs.Told.{Told, told}
 use Rattle.refusal.specs.declared.Refusal.the-variants as why
 use Rattle.area.specs.Kind.{Sort}
-use Rattle.body.specs.Lines.{LineHead, lineHead, columned, Block, blocks}
+use Rattle.body.specs.Lines.{LineHead, lineHeadSize, lineHead, columned, Block, blocks}
 use Rattle.body.specs.LinesLaws.{blocks-by}
 use Rattle.line_record.specs.declared.LineSource.{LineSource}
 use Rattle.line_record.specs.declared.LineRecord.{LineRecord}
 use Rattle.line_record.specs.Flags.{isMarker}
 use Rattle.line_record.specs.Record.{maxOffset, headSource, entryOf, closedAt}
 use Rattle.lines.specs.Lines.{countLines}
+use Rattle.lines.specs.Body.{Body}
 use Rattle.order.specs.Order.{orderOf, ordered, slotsAfter, inOrder}
 use Rattle.order.specs.BuiltLaws.{built-list, built}
 use Rattle.line_step.specs.declared.LineWalk.the-variants.{New}
@@ -68,13 +69,15 @@ module _ (Q : Told → Type 0) (cut : Q (told why.Cut)) (size : Q (told why.Bloc
   blocks-then-by h ends l e g = g
   blocks-then-by h (fails t) l e g = e
 
-  body-by : (b : List ℕ) (l : Events) → FailsBy Q l → FailsBy Q (bodyThen b l)
+  body-by : (b : Body) (l : Events) → FailsBy Q l → FailsBy Q (bodyThen b l)
   unfolding bodyThen
   body-by b l g =
-      by-cases (FailsBy Q) (ltb (length b) 12) (λ e. cut)
-      (λ e. blocks-then-by (lineHead b) (blocks (columned (lineHead b .flags)) (drop 12 b)) l (blocks-by Q cut size (columned (lineHead b .flags)) (drop 12 b)) g)
+      let h = lineHead (b .bytes) in
+      let r = drop lineHeadSize (b .bytes) in
+      by-cases (FailsBy Q) (ltb (length (b .bytes)) lineHeadSize) (λ e. cut)
+      (λ e. blocks-then-by h (blocks (columned (h .flags)) r) l (blocks-by Q cut size (columned (h .flags)) r) g)
 
-  events-by : (bs : List (List ℕ)) → FailsBy Q (eventsOf (before bs ends))
+  events-by : (bs : List Body) → FailsBy Q (eventsOf (before bs ends))
   unfolding eventsOf
   events-by [] = tt
   events-by (b ∷ bs) = body-by b (eventsOf (before bs ends)) (events-by bs)

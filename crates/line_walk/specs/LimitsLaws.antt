@@ -14,6 +14,7 @@ use Rattle.body.specs.Lines.{LineHead, lineHead, columned, Block, blocks}
 use Rattle.line_record.specs.declared.LineRecord.{LineRecord}
 use Rattle.line_record.specs.Record.{maxOffset, headSource, entryOf, closedAt}
 use Rattle.line_record.specs.LimitsLaws.{Limits, entry-limits, close-limits}
+use Rattle.lines.specs.Body.{Body}
 use Rattle.lines.specs.Slots.{listOf}
 use Rattle.line_walk.specs.Meaning.{Event, line, done, Events, entryThen, behind, linesThen, blocksThen, bodyThen, eventsOf, settleOne, settle, recordsOf}
 
@@ -40,13 +41,13 @@ blocks-limits h (more b k) l e = lines-limits h (b .file) (b .lines) (b .columns
 blocks-limits h ends l e = (tt, e)
 blocks-limits h (fails t) l e = tt
 
-pub body-limits : (b : List ℕ) (l : Events) → Every EventIn l → Every EventIn (bodyThen b l)
+pub body-limits : (b : Body) (l : Events) → Every EventIn l → Every EventIn (bodyThen b l)
 unfolding bodyThen
 body-limits b l e =
-    by-cases (Every EventIn) (ltb (length b) 12) (λ g. tt)
-    (λ g. blocks-limits (lineHead b) (blocks (columned (lineHead b .flags)) (drop 12 b)) l e)
+    let h = lineHead (b .bytes) in
+    by-cases (Every EventIn) (ltb (length (b .bytes)) 12) (λ g. tt) (λ g. blocks-limits h (blocks (columned (h .flags)) (drop 12 (b .bytes))) l e)
 
-events-limits : (l : Listing (List ℕ) Told) → Every EventIn (eventsOf l)
+events-limits : (l : Listing Body Told) → Every EventIn (eventsOf l)
 unfolding eventsOf
 events-limits (more b l) = body-limits b (eventsOf l) (events-limits l)
 events-limits ends = tt

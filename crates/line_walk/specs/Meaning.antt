@@ -1,5 +1,5 @@
 -- What the line walk means: the line bodies that the list names, one after the other, as events; and the records that these events settle. There
--- is no state in it and no place. Source: document 01, "Line subsections": markers give no record but use up their column entry; one record is
+-- is no state in it, and no place but where each body starts, which is handed on with its bytes. Source: document 01, "Line subsections": markers give no record but use up their column entry; one record is
 -- held back until its end is known; the ends are the next non-marker line's offset, then section offset plus code size when a subsection's
 -- blocks are done, this also when a later subsection had no line; 8 at a subsection's end only if a record is held.
 -- Definitions only; a reader must believe them.
@@ -12,9 +12,10 @@ use Rattle.walk.specs.Listing.{Listing, more, ends, fails, before, Reply, gave,
 use Rattle.refusal.specs.Told.{Told, told}
 use Rattle.refusal.specs.declared.Refusal.the-variants as why
 use Rattle.area.specs.Kind.{Sort}
-use Rattle.body.specs.Lines.{LineHead, lineHead, columned, Block, blocks}
+use Rattle.body.specs.Lines.{LineHead, lineHeadSize, lineHead, columned, Block, blocks}
 use Rattle.line_record.specs.Record.{maxOffset, headSource, entryOf, closedAt}
 use Rattle.line_record.specs.declared.LineRecord.{LineRecord}
+use Rattle.lines.specs.Body.{Body}
 use Rattle.lines.specs.Slots.{listOf}
 use Rattle.order.specs.Order.{inOrder}
 
@@ -51,12 +52,12 @@ blocksThen h ends l = more (done h) l
 blocksThen h (fails t) l = fails t
 
 -- a line body, and then l
-unfoldable pub bodyThen : List ℕ → Events → Events
+unfoldable pub bodyThen : Body → Events → Events
 bodyThen b l =
-    cond (ltb (length b) 12) (fails (told why.Cut))
-    (blocksThen (lineHead b) (blocks (columned (lineHead b .flags)) (drop 12 b)) l)
+    cond (ltb (length (b .bytes)) lineHeadSize) (fails (told why.Cut))
+    (blocksThen (lineHead (b .bytes)) (blocks (columned (lineHead (b .bytes) .flags)) (drop lineHeadSize (b .bytes))) l)
 
-unfoldable pub eventsOf : Listing (List ℕ) Told → Events
+unfoldable pub eventsOf : Listing Body Told → Events
 eventsOf (more b l) = bodyThen b (eventsOf l)
 eventsOf ends = ends
 eventsOf (fails t) = fails t

@@ -31,6 +31,7 @@ use Rattle.lines.specs.Told.{toldHeader}
 use Rattle.lines.specs.Lines.{countLines}
 use Rattle.lines.specs.Blocks.{LineBlock, blockAt}
 use Rattle.lines.specs.BlocksLaws.{BlockWithin, block-within, blocksOn, blocks-step}
+use Rattle.lines.specs.Body.{bodyOn}
 use Rattle.lines.specs.Slots.{bodyAt, nameThen, named, slotAt, listIn}
 use Rattle.lines.specs.SlotsLaws.{Scans, scans-start, SlotIn, slot-lies, slot-scanned, named-slot}
 use Rattle.lines.specs.LinesLaws.{count-long, counted-short}
@@ -152,7 +153,7 @@ module _ (rule : ℕ → Sort) (s v : List ℕ) where
       (ap (drop 12) (take-behind (a .start) (a .len) s) ∙ drop-drop 12 (a .start) (take (a .start + a .len) s))
 
   enter-right : (t : Rest) (a : Span) → a .start + a .len ≤ length s
-      → Right (heldThen (t .held) (bodyThen (bytesAt s a) (later (restAt t (a .start + a .len))))) (enterAt s t (a .start) (a .len))
+      → Right (heldThen (t .held) (bodyThen (bodyOn s a) (later (restAt t (a .start + a .len))))) (enterAt s t (a .start) (a .len))
   unfolding bodyThen enterAt linesThen wordsIn
   enter-right t a g =
       let n : length (bytesAt s a) ≡ a .len = length-take-le (a .len) (drop (a .start) s) (simp length-drop (omega arith)) in
@@ -172,7 +173,7 @@ module _ (rule : ℕ → Sort) (s v : List ℕ) where
       both false = ap (heldThen (t .held)) (body-blocks a h l)
 
   named-right : (t : Rest) (o : Reply Span Told) → Gives (SlotIn rule s v (t .slot) (t .scan)) o
-      → Right (heldThen (t .held) (eventsOf (nameThen (mapReply (bytesAt s) same o) (named (bodyAt rule s) (t .left - 1) (drop (t .slot + 1) v))))) (namedOf s t o)
+      → Right (heldThen (t .held) (eventsOf (nameThen (mapReply (bodyOn s) same o) (named (bodyAt rule s) (t .left - 1) (drop (t .slot + 1) v))))) (namedOf s t o)
   unfolding eventsOf
   named-right t (gave a) g = enter-right t a (g .1)
   named-right t nothing g = held-fails (t .held) (told why.WrongSlot)

@@ -12,7 +12,7 @@ use Rattle.walk.specs.Listing.{Listing, Answer, gives, none, refuses, moved, al
 use Rattle.refusal.specs.Told.{Told, told}
 use Rattle.refusal.specs.declared.Refusal.the-variants as why
 use Rattle.body.specs.Words.{wordsIn}
-use Rattle.body.specs.Lines.{Block, columnsOf, lineBytes}
+use Rattle.body.specs.Lines.{Block, columnsOf, lineBytes, blockHeadSize}
 
 -- a block as an answer tells it: its file, the number of its lines, and where they begin
 pub record LineBlock : Type 0 where
@@ -24,11 +24,11 @@ unfoldable pub blockAt : Bool → List ℕ → ℕ → Answer ℕ LineBlock Told
 blockAt c b p =
     cond (ltb (length b) p) (refuses (told why.Cut))
     (cond (eqb (length b - p) 0) none
-    (cond (ltb (length b - p) 12) (refuses (told why.Cut))
-    (cond (ltb (u32At b (p + 8)) 12) (refuses (told why.BlockSize))
+    (cond (ltb (length b - p) blockHeadSize) (refuses (told why.Cut))
+    (cond (ltb (u32At b (p + 8)) blockHeadSize) (refuses (told why.BlockSize))
     (cond (ltb (length b - p) (u32At b (p + 8))) (refuses (told why.Cut))
-    (cond (ltb (u32At b (p + 8) - 12) (lineBytes c (u32At b (p + 4)))) (refuses (told why.BlockSize))
-    (gives (record { file = u32At b p; count = u32At b (p + 4); start = p + 12 }) (p + u32At b (p + 8))))))))
+    (cond (ltb (u32At b (p + 8) - blockHeadSize) (lineBytes c (u32At b (p + 4)))) (refuses (told why.BlockSize))
+    (gives (record { file = u32At b p; count = u32At b (p + 4); start = p + blockHeadSize }) (p + u32At b (p + 8))))))))
 
 -- all blocks of a line body from a place on
 unfoldable pub blocksFrom : Bool → List ℕ → ℕ → Listing LineBlock Told

@@ -1,5 +1,6 @@
 pub mod Lines
 pub mod Blocks
+pub mod Body
 pub mod Slots
 pub mod Told
 pub mod Untold

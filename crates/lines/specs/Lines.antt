@@ -11,11 +11,12 @@ use Rattle.refusal.specs.Told.{Told, told}
 use Rattle.refusal.specs.declared.Refusal.the-variants as why
 use Rattle.area.specs.Kind.{Sort}
 use Rattle.area.specs.Subs.{Sub, subsFrom}
+use Rattle.body.specs.Lines.{lineHeadSize}
 use Rattle.find.specs.Find.{is}
 
 -- line subsections, up to the first one with too few bytes for its header
 unfoldable pub headed : Listing Sub Told → Listing Sub Told
-headed (more b l) = cond (ltb (b .len) 12) (fails (told why.Cut)) (more b (headed l))
+headed (more b l) = cond (ltb (b .len) lineHeadSize) (fails (told why.Cut)) (more b (headed l))
 headed ends = ends
 headed (fails t) = fails t
 

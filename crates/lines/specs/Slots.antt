@@ -13,8 +13,9 @@ use Rattle.refusal.specs.Told.{Told, told}
 use Rattle.refusal.specs.declared.Refusal.the-variants as why
 use Rattle.area.specs.Kind.{Sort}
 use Rattle.area.specs.Subs.{Sub, subsFrom}
-use Rattle.find.specs.Find.{same, Span, spanOf, bytesAt}
+use Rattle.find.specs.Find.{same, Span, spanOf}
 use Rattle.lines.specs.Lines.{countLines}
+use Rattle.lines.specs.Body.{Body, bodyOn}
 
 -- a line subsection whose body starts at v
 abbrev pub startsAt : ℕ → Sub → Bool
@@ -27,9 +28,9 @@ bodyIn v l = mapReply spanOf same (firstBy (startsAt v) l)
 abbrev pub bodyFrom : (ℕ → Sort) → List ℕ → ℕ → ℕ → Reply Span Told
 bodyFrom rule s p v = bodyIn v (subsFrom rule s p)
 
--- the bytes of the line body that starts at v
-abbrev pub bodyAt : (ℕ → Sort) → List ℕ → ℕ → Reply (List ℕ) Told
-bodyAt rule s v = mapReply (bytesAt s) same (bodyFrom rule s 0 v)
+-- the line body that starts at v, itself
+abbrev pub bodyAt : (ℕ → Sort) → List ℕ → ℕ → Reply Body Told
+bodyAt rule s v = mapReply (bodyOn s) same (bodyFrom rule s 0 v)
 
 -- what a slot names, and then l
 abbrev pub nameThen : {B : Type 0} → Reply B Told → Listing B Told → Listing B Told
@@ -44,12 +45,12 @@ named f (suc n) [] = fails (told why.WrongSlot)
 named f (suc n) (v ∷ vs) = nameThen (f v) (named f n vs)
 
 -- THE LINE BODIES OF A LIST v: after the tests over the area, as many slots as it has line subsections
-abbrev pub listIn : (ℕ → Sort) → List ℕ → List ℕ → Reply ℕ Told → Listing (List ℕ) Told
+abbrev pub listIn : (ℕ → Sort) → List ℕ → List ℕ → Reply ℕ Told → Listing Body Told
 listIn rule s v (gave n) = named (bodyAt rule s) n v
 listIn rule s v nothing = ends
 listIn rule s v (refused t) = fails t
 
-abbrev pub listOf : (ℕ → Sort) → List ℕ → List ℕ → Listing (List ℕ) Told
+abbrev pub listOf : (ℕ → Sort) → List ℕ → List ℕ → Listing Body Told
 listOf rule s v = listIn rule s v (countLines rule s)
 
 -- ---- one slot, as code reads it

@@ -20,8 +20,9 @@ use Rattle.refusal.specs.declared.Refusal.the-variants as why
 use Rattle.area.specs.Kind.{Sort}
 use Rattle.area.specs.Subs.{Sub, subsFrom, stepAt}
 use Rattle.area.specs.SubsLaws.{Inside, subs-inside, Chained, subs-chained}
-use Rattle.find.specs.Find.{same, Span, spanOf, bytesAt}
+use Rattle.find.specs.Find.{same, Span, spanOf}
 use Rattle.find.specs.FindLaws.{first-hit, first-miss}
+use Rattle.lines.specs.Body.{bodyOn}
 use Rattle.lines.specs.Slots.{startsAt, bodyIn, bodyFrom, bodyAt, nameThen, named, scanFrom, nameOf, slotAt}
 
 -- ---- the loop of `seek`: the laws of `find` for a first one, at this test
@@ -170,16 +171,16 @@ module _ (rule : ℕ → Sort) (s v : List ℕ) (i p : ℕ) where
 
     -- what n slots from the i-th on name: this one, and those behind it
     pub named-slot : (n : ℕ) → 1 ≤ n
-        → named (bodyAt rule s) n (drop i v) ≡ nameThen (mapReply (bytesAt s) same (slotAt rule s v i p)) (named (bodyAt rule s) (n - 1) (drop (i + 1) v))
+        → named (bodyAt rule s) n (drop i v) ≡ nameThen (mapReply (bodyOn s) same (slotAt rule s v i p)) (named (bodyAt rule s) (n - 1) (drop (i + 1) v))
     unfolding slotAt named
     named-slot n h =
         let e : n ≡ suc (n - 1) = omega arith in
         let k = getD v i 0 in
         let scan = sym (scan-right rule s p k g) in
         let next : suc i ≡ i + 1 = sym (add-one i) in
-        by-cases (λ x. named (bodyAt rule s) n (drop i v) ≡ nameThen (mapReply (bytesAt s) same x) (named (bodyAt rule s) (n - 1) (drop (i + 1) v)))
+        by-cases (λ x. named (bodyAt rule s) n (drop i v) ≡ nameThen (mapReply (bodyOn s) same x) (named (bodyAt rule s) (n - 1) (drop (i + 1) v)))
         (leb (length v) i) (λ l j. named (bodyAt rule s) (e j) (drop-of-length-le v (leb-true (length v) i l) j))
         (λ l.
         (λ j. named (bodyAt rule s) (e j) (drop-cons v i 0 (leb-false (length v) i l) j))
-        ∙ name-then (bytesAt s) (bodyFrom rule s 0 k) (named (bodyAt rule s) (n - 1) (drop (suc i) v))
-        ∙ (λ j. nameThen (mapReply (bytesAt s) same (nameOf (scan j))) (named (bodyAt rule s) (n - 1) (drop (next j) v))))
+        ∙ name-then (bodyOn s) (bodyFrom rule s 0 k) (named (bodyAt rule s) (n - 1) (drop (suc i) v))
+        ∙ (λ j. nameThen (mapReply (bodyOn s) same (nameOf (scan j))) (named (bodyAt rule s) (n - 1) (drop (next j) v))))

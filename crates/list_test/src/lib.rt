@@ -13,6 +13,7 @@ ghost use Rattle.list_test.specs.Begin.{goesBack, backs, tested, beginAt
 use area::SubStep;
 use area::sub_at;
 use lines::Counted;
+use lines::LINE_HEAD;
 use lines::count_lines;
 use slot_key::Weighed;
 use slot_key::head_key;
@@ -98,7 +99,7 @@ fn found(area: &[u8], named: &[u32]) -> usize
                 next,
             } => {
                 if kind == 0xf2 {
-                    if len < 12 {
+                    if len < LINE_HEAD {
                         return 0;
                     }
                     behind = slot_behind(area, named, behind, start as u32);

@@ -25,6 +25,7 @@ use Rattle.checksums.specs.Entry.{entryAt, entriesFrom}
 use Rattle.checksums.specs.EntryLaws.{entries-step}
 use Rattle.lines.specs.Lines.{plus, countOf, countLines}
 use Rattle.lines.specs.Lines as lines
+use Rattle.lines.specs.Body.{Body}
 use Rattle.order.specs.Order.{ordered, inRoom, slotsAfter}
 use Rattle.order.specs.BuiltLaws.{built}
 use Rattle.files.specs.Files.{File, fileOf, filesSub, fileStep, filesIn}
@@ -170,7 +171,7 @@ records-built : (rule : ℕ → Sort) (s xs : List ℕ) → Room rule s xs → (
 unfolding filesSub Answers
 records-built rule s xs room (gave n) e a =
     let o : gave n ≡ ordered rule s (length xs) = in-room (length xs) n (room n (sym e)) ∙ ap (inRoom (length xs)) (sym e) in
-    ap (λ (l : Listing (List ℕ) Told). andThen (mapped (fileRow s) same (filesIn rule s)) (mapped recordLine same (settle (eventsOf l)))) (built rule s xs n o)
+    ap (λ (l : Listing Body Told). andThen (mapped (fileRow s) same (filesIn rule s)) (mapped recordLine same (settle (eventsOf l)))) (built rule s xs n o)
 records-built rule s xs room nothing e a = absurd a
 records-built rule s xs room (refused t) e a = rw e
 

@@ -7,7 +7,7 @@ use Rattle.walk.specs.Listing.{run, all}
 use Rattle.walk.specs.Pick.{lastBy, only}
 use Rattle.area.specs.Parts.{bite, parts}
 use Rattle.area.specs.Kind.{crateRule}
-use Rattle.area.specs.Subs.{placed, subsFrom, bodiesIn, bodies}
+use Rattle.area.specs.Subs.{placed, subsFrom}
 use Rattle.body.specs.Words.{wordsIn}
 use Rattle.body.specs.Lines.{blockBite, blocks}
 use Rattle.table.specs.Table.{spotIn}
@@ -36,5 +36,5 @@ lines =
 
 pub example : textOf crateRule (checksums ++ lines)
     ≡ ascii "c13 80 bytes\nsub f4 24\nsub f2 40\nfile 0 name 1 md5 000102030405060708090a0b0c0d0e0f\nline 1:1000 len 8 file 0 10-10 - st\nline 1:1008 len 24 file 0 12-12 - st\nend\n"
-unfolding le16 le32 u16At u32At run all lastBy only bite parts crateRule placed subsFrom bodiesIn bodies wordsIn blockBite blocks spotIn keptOf closedAs entryAt entriesFrom headed countOf filesSub partOf insBy sortBy listed keyOf lineKind isMarker entryOf shorterOf closedAt linesThen blocksThen bodyThen eventsOf settleOne settle ascii glyph numeralIn numeral hexBytes bytesText closing sheetLines sheetBytes
+unfolding le16 le32 u16At u32At run all lastBy only bite parts crateRule placed subsFrom wordsIn blockBite blocks spotIn keptOf closedAs entryAt entriesFrom headed countOf filesSub partOf insBy sortBy listed keyOf lineKind isMarker entryOf shorterOf closedAt linesThen blocksThen bodyThen eventsOf settleOne settle ascii glyph numeralIn numeral hexBytes bytesText closing sheetLines sheetBytes
 example = refl

@@ -16,10 +16,12 @@ use Rattle.walk.specs.Listing.{Listing, more, ends, fails, mapped, before, Repl
 use Rattle.walk.specs.Pick.{only, firstBy, mapReply}
 use Rattle.refusal.specs.Told.{Told, longest, numberOf}
 use Rattle.area.specs.Kind.{Sort}
-use Rattle.area.specs.Subs.{Sub, subsFrom}
+use Rattle.area.specs.Parts.{Raw}
+use Rattle.area.specs.Subs.{Sub, subsFrom, bodies}
 use Rattle.area.specs.SubsLaws.{Chained, subs-chained, bodied, area-bodies}
-use Rattle.find.specs.Find.{same, is, spanOf, bytesAt}
+use Rattle.find.specs.Find.{same, is, spanOf}
 use Rattle.lines.specs.Lines.{headed, countOf, countLines}
+use Rattle.lines.specs.Body.{Body, bodyOn}
 use Rattle.lines.specs.Slots.{bodyIn, bodyFrom, bodyAt, nameThen, named, listIn, listOf}
 use Rattle.lines.specs.SlotsLaws.{body-passed}
 use Rattle.lines.specs.LinesLaws.{counted-short}
@@ -27,7 +29,7 @@ use Rattle.slot_key.specs.Sort.{sortBy}
 use Rattle.slot_key.specs.SortLaws.{Each, each-map, each-sort, map-sort, length-sort}
 use Rattle.slot_key.specs.Rank.{keyAt}
 use Rattle.slot_key.specs.RankLaws.{After, Ascends, stable}
-use Rattle.order.specs.Order.{listed, subStart, startsFrom, orderOf, inRoom, ordered, slotsBy, slotsAfter, isLines, bodyOf, lineBodies, keyOf, inOrder}
+use Rattle.order.specs.Order.{listed, subStart, startsFrom, orderOf, inRoom, ordered, slotsBy, slotsAfter, bodyOf, lineBodies, keyOf, inOrder}
 use Rattle.order.specs.OrderLaws.{plus-one, counted-starts}
 
 abbrev lines : Listing Sub Told → List Sub
@@ -79,18 +81,15 @@ order-stable rule s h = stable s (startsFrom rule s 0) (ascends rule s h (subsFr
 
 -- ---- the key of a body is that of its place
 
-abbrev bytesOf : List ℕ → Sub → List ℕ
-bytesOf s b = bytesAt s (spanOf b)
-
 abbrev weightOf : List ℕ → Sub → ℕ
 weightOf s b = keyAt s (b .start)
 
-same-key : (s : List ℕ) (b : Sub) → 12 ≤ b .len → keyOf (bytesOf s b) ≡ weightOf s b
+same-key : (s : List ℕ) (b : Sub) → 12 ≤ b .len → keyOf (bodyOf s b) ≡ weightOf s b
 unfolding keyOf keyAt
 same-key s b h =
     let a = b .start in
-    let e₁ : u16At (bytesOf s b) 4 ≡ u16At s (a + 4) = u16-take (drop a s) (b .len) 4 (omega arith) ∙ u16-drop s a 4 in
-    let e₂ : u32At (bytesOf s b) 0 ≡ u32At s a = u32-take (drop a s) (b .len) 0 (omega arith) ∙ u32-drop s a 0 ∙ ap (u32At s) (add-zero a) in
+    let e₁ : u16At (bodyOf s b .bytes) 4 ≡ u16At s (a + 4) = u16-take (drop a s) (b .len) 4 (omega arith) ∙ u16-drop s a 4 in
+    let e₂ : u32At (bodyOf s b .bytes) 0 ≡ u32At s a = u32-take (drop a s) (b .len) 0 (omega arith) ∙ u32-drop s a 0 ∙ ap (u32At s) (add-zero a) in
     λ i. e₁ i * 0x1_0000_0000 + e₂ i
 
 -- ---- the tests were passed
@@ -104,7 +103,7 @@ whole (more b l) n =
 whole ends n = λ q. tt
 whole (fails t) n = λ q. tt
 
--- ---- the bodies with places are those without
+-- ---- the bodies without their starts
 
 module _ {B C R Q : Type 0} (g : B → C) (h : R → Q) (f : C → Bool) where
   only-mapped : (l : Listing B R) → mapped g h (only (λ (b : B). f (g b)) l) ≡ only f (mapped g h l)
@@ -124,27 +123,37 @@ listed-mapped g h (more b l) = ap (λ k. g b ∷ k) (listed-mapped g h l)
 listed-mapped g h ends = refl
 listed-mapped g h (fails r) = refl
 
+abbrev isLines : Raw → Bool
+isLines r = eqb (r .kind) 0xf2
+
+abbrev rawBody : Raw → List ℕ
+rawBody r = r .body
+
+abbrev bytesIn : Body → List ℕ
+bytesIn b = b .bytes
+
 pub map-map : {A B C : Type 0} (g : A → B) (f : B → C) (xs : List A) → map (λ (x : A). f (g x)) xs ≡ map f (map g xs)
 map-map g f [] = refl
 map-map g f (x ∷ xs) = ap (λ l. f (g x) ∷ l) (map-map g f xs)
 
-pub line-bodies : (rule : ℕ → Sort) (s : List ℕ) → map (bytesOf s) (lines (subsFrom rule s 0)) ≡ lineBodies rule s
-line-bodies rule s =
-    map-map (bodied s) bodyOf (lines (subsFrom rule s 0))
-    ∙ ap (map bodyOf) (listed-mapped (bodied s) numberOf (only (is 0xf2) (subsFrom rule s 0))
+-- their bytes are the line bodies of the area's description, in which there is no place
+pub line-bytes : (rule : ℕ → Sort) (s : List ℕ) → map bytesIn (lineBodies rule s) ≡ map rawBody (listed (only isLines (bodies rule s)))
+line-bytes rule s =
+    sym (map-map (bodyOf s) bytesIn (lines (subsFrom rule s 0))) ∙ map-map (bodied s) rawBody (lines (subsFrom rule s 0))
+    ∙ ap (map rawBody) (listed-mapped (bodied s) numberOf (only (is 0xf2) (subsFrom rule s 0))
     ∙ ap listed (only-mapped (bodied s) numberOf isLines (subsFrom rule s 0) ∙ ap (only isLines) (area-bodies rule s)))
 
 -- ---- what the slots name
 
 name-all : (rule : ℕ → Sort) (s : List ℕ) (bs : List Sub) (vs : List ℕ) (n : ℕ) → length bs ≡ n
     → Each (λ b. bodyFrom rule s 0 (b .start) ≡ gave (spanOf b)) bs
-    → named (bodyAt rule s) n (map subStart bs ++ vs) ≡ before (map (bytesOf s) bs) ends
+    → named (bodyAt rule s) n (map subStart bs ++ vs) ≡ before (map (bodyOf s) bs) ends
 unfolding named
 name-all rule s [] vs n h e = ap (λ k. named (bodyAt rule s) k vs) (sym h)
 name-all rule s (b ∷ bs) vs n h e =
     ap (λ k. named (bodyAt rule s) k (b .start ∷ (map subStart bs ++ vs))) (sym h)
-    ∙ ap (λ x. nameThen (mapReply (bytesAt s) same x) (named (bodyAt rule s) (length bs) (map subStart bs ++ vs))) (e .0)
-    ∙ ap (more (bytesOf s b)) (name-all rule s bs vs (length bs) refl (e .1))
+    ∙ ap (λ x. nameThen (mapReply (bodyOn s) same x) (named (bodyAt rule s) (length bs) (map subStart bs ++ vs))) (e .0)
+    ∙ ap (more (bodyOf s b)) (name-all rule s bs vs (length bs) refl (e .1))
 
 -- the list takes n slots only after the tests, and if there are so many
 room : (m : ℕ) (x : Reply ℕ Told) (n : ℕ) → gave n ≡ inRoom m x → gave n ≡ x
@@ -168,11 +177,10 @@ module _ (rule : ℕ → Sort) (s : List ℕ) (n : ℕ) (e : gave n ≡ countLin
       each-all [] = tt
       each-all (d ∷ ds) = (refl, each-all ds)
 
-  bodies-are : map (bytesOf s) sorted ≡ inOrder rule s
+  bodies-are : map (bodyOf s) sorted ≡ inOrder rule s
   unfolding sorted bs
   bodies-are =
-      map-sort (weightOf s) keyOf (bytesOf s) bs (each-map (λ b. 12 ≤ b .len) (λ b. keyOf (bytesOf s b) ≡ weightOf s b) (same-key s) bs (whole (only (is 0xf2) (subsFrom rule s 0)) n e))
-      ∙ ap (sortBy keyOf) (line-bodies rule s)
+      map-sort (weightOf s) keyOf (bodyOf s) bs (each-map (λ b. 12 ≤ b .len) (λ b. keyOf (bodyOf s b) ≡ weightOf s b) (same-key s) bs (whole (only (is 0xf2) (subsFrom rule s 0)) n e))
 
   -- THE THEOREM for the list: behind the first n slots nothing is read, and those name the area's line bodies in walk order
   pub built-list : (vs : List ℕ) → listOf rule s (orderOf rule s ++ vs) ≡ before (inOrder rule s) ends

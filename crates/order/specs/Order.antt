@@ -4,19 +4,19 @@
 -- Definitions only; a reader must believe them.
 use Prim.Native.Nat.{ℕ, _+_, _*_}
 use mathlib.Core.List.{List, [], _∷_, _++_, map}
-use mathlib.Core.Bool.{Bool, cond}
+use mathlib.Core.Bool.{cond}
 use lib.ListN.{length, drop}
-use lib.Dec.{ltb, eqb}
+use lib.Dec.{ltb}
 use Rattle.walk.specs.Listing.{Listing, more, ends, fails, Reply, gave, nothing, refused}
 use Rattle.walk.specs.Pick.{only}
 use Rattle.refusal.specs.Told.{Told, told}
 use Rattle.refusal.specs.declared.Refusal.the-variants as why
-use Rattle.area.specs.Parts.{Raw}
 use Rattle.area.specs.Kind.{Sort}
-use Rattle.area.specs.Subs.{Sub, subsFrom, bodies}
+use Rattle.area.specs.Subs.{Sub, subsFrom}
 use Rattle.body.specs.Lines.{lineHead}
-use Rattle.find.specs.Find.{is}
+use Rattle.find.specs.Find.{is, spanOf}
 use Rattle.lines.specs.Lines.{countLines}
+use Rattle.lines.specs.Body.{Body, bodyOn}
 use Rattle.slot_key.specs.Sort.{sortBy}
 use Rattle.slot_key.specs.Rank.{rank}
 
@@ -55,19 +55,16 @@ slotsBy rule s xs (refused t) = xs
 abbrev pub slotsAfter : (ℕ → Sort) → List ℕ → List ℕ → List ℕ
 slotsAfter rule s xs = slotsBy rule s xs (ordered rule s (length xs))
 
--- ---- the line bodies of an area themselves, in walk order, with no place in sight
+-- ---- the line bodies of an area themselves, in walk order
 
-abbrev pub isLines : Raw → Bool
-isLines r = eqb (r .kind) 0xf2
+abbrev pub bodyOf : List ℕ → Sub → Body
+bodyOf s b = bodyOn s (spanOf b)
 
-abbrev pub bodyOf : Raw → List ℕ
-bodyOf r = r .body
+abbrev pub lineBodies : (ℕ → Sort) → List ℕ → List Body
+lineBodies rule s = map (bodyOf s) (listed (only (is 0xf2) (subsFrom rule s 0)))
 
-abbrev pub lineBodies : (ℕ → Sort) → List ℕ → List (List ℕ)
-lineBodies rule s = map bodyOf (listed (only isLines (bodies rule s)))
+unfoldable pub keyOf : Body → ℕ
+keyOf b = lineHead (b .bytes) .section * 0x1_0000_0000 + lineHead (b .bytes) .offset
 
-unfoldable pub keyOf : List ℕ → ℕ
-keyOf b = lineHead b .section * 0x1_0000_0000 + lineHead b .offset
-
-abbrev pub inOrder : (ℕ → Sort) → List ℕ → List (List ℕ)
+abbrev pub inOrder : (ℕ → Sort) → List ℕ → List Body
 inOrder rule s = sortBy keyOf (lineBodies rule s)

@@ -36,9 +36,10 @@ use Rattle.checksums.specs.Entry.{shown}
 use Rattle.files.specs.Files.{ifPassed, filesSub, filesIn}
 use Rattle.files.specs.Files as file
 use Rattle.files.specs.FilesLaws.{files-mean}
+use Rattle.lines.specs.Body.{Body}
 use Rattle.lines.specs.Lines.{headed, linesFrom, plus, countOf}
-use Rattle.order.specs.Order.{listed, lineBodies}
-use Rattle.order.specs.BuiltLaws.{map-map, line-bodies}
+use Rattle.order.specs.Order.{listed, bodyOf, lineBodies}
+use Rattle.order.specs.BuiltLaws.{map-map}
 use Rattle.reading.specs.Reading.{Item, openLines, block, checksum, inlinee, imports, exports, Items, each, linesItems, checksumsItems, inlineesItems, importsItems, exportsItems, itemsOf, subItems, reading}
 use Rattle.reading_agrees.specs.Chapters.{chapters, begins, records, recordsIn, dropped}
 use Rattle.reading_agrees.specs.ChaptersLaws.{Whole, first-chapter, last-chapter, only-chapters, whole-left, whole-right, spreads}
@@ -228,14 +229,14 @@ module _ (rule : ℕ → Sort) (s : List ℕ) (h : Whole (reading rule s)) where
   lines-whole = failure-only (is 0xf2) (subsFrom rule s 0) ∙ subs-whole (subsFrom rule s 0) (spreads rule s h)
 
   -- the line bodies of the area, each with its header and its blocks, are the line subsections of the reading
-  pub lines-agree : only (begins 0xf2) (chapters (reading rule s)) ≡ before (map lineItems (lineBodies rule s)) ends
+  pub lines-agree : only (begins 0xf2) (chapters (reading rule s)) ≡ before (map (λ (b : Body). lineItems (b .bytes)) (lineBodies rule s)) ends
   lines-agree =
       let subs = subsFrom rule s 0 in
       only-chapters rule s h 0xf2
       ∙ each-line subs (spreads rule s h)
       ∙ all-listed lineItemsAt (only (is 0xf2) subs) lines-whole
       ∙ ap (λ (ls : List Items). before ls ends)
-      (map-map (λ (b : Sub). bytesAt s (spanOf b)) lineItems (listed (only (is 0xf2) subs)) ∙ ap (map lineItems) (line-bodies rule s))
+      (map-map (bodyOf s) (λ (b : Body). lineItems (b .bytes)) (listed (only (is 0xf2) subs)))
 
   -- ---- and the tests before the files pass
 

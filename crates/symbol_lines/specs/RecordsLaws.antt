@@ -13,10 +13,11 @@ use Rattle.walk.specs.Pick.{orElse, firstBy, lastBy, mapReply}
 use Rattle.walk.specs.PickLaws.{Gives, map-or, first-map, last-map, first-holds, last-holds}
 use Rattle.refusal.specs.Told.{Told, longest}
 use Rattle.area.specs.Kind.{Sort}
-use Rattle.find.specs.Find.{same, Span, bytesAt}
+use Rattle.find.specs.Find.{same, Span}
 use Rattle.line_record.specs.LimitsLaws.{Limits}
 use Rattle.lines.specs.Lines.{countLines}
 use Rattle.lines.specs.LinesLaws.{count-long}
+use Rattle.lines.specs.Body.{Body, bodyOn}
 use Rattle.lines.specs.Slots.{bodyAt, nameThen, named, slotAt, listIn, listOf}
 use Rattle.lines.specs.SlotsLaws.{scans-start, named-slot}
 use Rattle.line_step.specs.declared.LineWalk.{LineWalk}
@@ -29,10 +30,10 @@ use Rattle.symbol_lines.specs.SymbolLaws.{symbol-refused}
 
 -- ---- the numbers are those of the slots
 
-abbrev bodyOf : Numbered → List ℕ
+abbrev bodyOf : Numbered → Body
 bodyOf k = k .body
 
-bodies-numbered : (i : ℕ) (l : Listing (List ℕ) Told) → mapped bodyOf same (numbered i l) ≡ l
+bodies-numbered : (i : ℕ) (l : Listing Body Told) → mapped bodyOf same (numbered i l) ≡ l
 unfolding numbered
 bodies-numbered i (more b l) = ap (more b) (bodies-numbered (i + 1) l)
 bodies-numbered i ends = refl
@@ -49,13 +50,13 @@ module _ (rule : ℕ → Sort) (s v : List ℕ) where
   names (suc n) i =
       let e : suc n - 1 ≡ n = omega arith in
       let g = named-slot rule s v i 0 (scans-start rule s) in
-      subst⁻¹ (λ (l : Listing (List ℕ) Told). Every Names (numbered i l))
-      (g (suc n) (omega arith) ∙ ap (λ m. nameThen (mapReply (bytesAt s) same (slotAt rule s v i 0)) (named (bodyAt rule s) m (drop (i + 1) v))) e)
+      subst⁻¹ (λ (l : Listing Body Told). Every Names (numbered i l))
+      (g (suc n) (omega arith) ∙ ap (λ m. nameThen (mapReply (bodyOn s) same (slotAt rule s v i 0)) (named (bodyAt rule s) m (drop (i + 1) v))) e)
       (by (slotAt rule s v i 0) (g 1 (omega arith)) (names n (i + 1)))
     where
-      by : (x : Reply Span Told) → named (bodyAt rule s) 1 (drop i v) ≡ nameThen (mapReply (bytesAt s) same x) (named (bodyAt rule s) (1 - 1) (drop (i + 1) v))
+      by : (x : Reply Span Told) → named (bodyAt rule s) 1 (drop i v) ≡ nameThen (mapReply (bodyOn s) same x) (named (bodyAt rule s) (1 - 1) (drop (i + 1) v))
           → Every Names (numbered (i + 1) (named (bodyAt rule s) n (drop (i + 1) v)))
-          → Every Names (numbered i (nameThen (mapReply (bytesAt s) same x) (named (bodyAt rule s) n (drop (i + 1) v))))
+          → Every Names (numbered i (nameThen (mapReply (bodyOn s) same x) (named (bodyAt rule s) n (drop (i + 1) v))))
       by (gave a) e r = (e, r)
       by nothing e r = tt
       by (refused t) e r = tt
@@ -128,7 +129,7 @@ module _ (rule : ℕ → Sort) (s v : List ℕ) where
 pub symbol-limits : (rule : ℕ → Sort) (s v : List ℕ) (section offset : ℕ) → Every Limits (symbolRecords rule s v section offset)
 symbol-limits rule s v section offset = by (symbolBody section offset (listOf rule s v))
   where
-    by : (x : Reply (List ℕ) Told) → Every Limits (bodyRecords x)
+    by : (x : Reply Body Told) → Every Limits (bodyRecords x)
     by (gave b) = settle-limits (bodyThen b ends) (body-limits b ends tt)
     by nothing = tt
     by (refused t) = tt

@@ -13,6 +13,7 @@ use Rattle.refusal.specs.Told.{Told}
 use Rattle.area.specs.Kind.{Sort}
 use Rattle.body.specs.Lines.{LineHead, lineHead}
 use Rattle.find.specs.Find.{same}
+use Rattle.lines.specs.Body.{Body}
 use Rattle.lines.specs.Slots.{listOf}
 use Rattle.line_step.specs.declared.Held.the-variants.{Nothing}
 use Rattle.line_step.specs.declared.LineWalk.{LineWalk}
@@ -26,18 +27,18 @@ headIs section offset h = eqb (h .section) section && eqb (h .offset) offset
 abbrev pub headBefore : ℕ → ℕ → LineHead → Bool
 headBefore section offset h = eqb (h .section) section && ltb (h .offset) offset
 
-abbrev pub isAt : ℕ → ℕ → List ℕ → Bool
-isAt section offset b = headIs section offset (lineHead b)
+abbrev pub isAt : ℕ → ℕ → Body → Bool
+isAt section offset b = headIs section offset (lineHead (b .bytes))
 
-abbrev pub isBefore : ℕ → ℕ → List ℕ → Bool
-isBefore section offset b = headBefore section offset (lineHead b)
+abbrev pub isBefore : ℕ → ℕ → Body → Bool
+isBefore section offset b = headBefore section offset (lineHead (b .bytes))
 
 -- of the bodies of a list, the one that the symbol's lines stand in
-abbrev pub symbolBody : ℕ → ℕ → Listing (List ℕ) Told → Reply (List ℕ) Told
+abbrev pub symbolBody : ℕ → ℕ → Listing Body Told → Reply Body Told
 symbolBody section offset l = orElse (firstBy (isAt section offset) l) (lastBy (isBefore section offset) l)
 
 -- the records of one body alone
-abbrev pub bodyRecords : Reply (List ℕ) Told → Records
+abbrev pub bodyRecords : Reply Body Told → Records
 bodyRecords (gave b) = settle (bodyThen b ends)
 bodyRecords nothing = ends
 bodyRecords (refused t) = fails t
@@ -50,9 +51,9 @@ symbolRecords rule s v section offset = bodyRecords (symbolBody section offset (
 
 pub record Numbered : Type 0 where
   pub slot : ℕ
-  pub body : List ℕ
+  pub body : Body
 
-unfoldable pub numbered : ℕ → Listing (List ℕ) Told → Listing Numbered Told
+unfoldable pub numbered : ℕ → Listing Body Told → Listing Numbered Told
 numbered i (more b l) = more (record { slot = i; body = b }) (numbered (i + 1) l)
 numbered i ends = ends
 numbered i (fails t) = fails t
@@ -66,7 +67,7 @@ atSlot section offset k = isAt section offset (k .body)
 abbrev pub beforeSlot : ℕ → ℕ → Numbered → Bool
 beforeSlot section offset k = isBefore section offset (k .body)
 
-abbrev pub slotIn : ℕ → ℕ → Listing (List ℕ) Told → Reply ℕ Told
+abbrev pub slotIn : ℕ → ℕ → Listing Body Told → Reply ℕ Told
 slotIn section offset l =
     mapReply slotOf same (orElse (firstBy (atSlot section offset) (numbered 0 l)) (lastBy (beforeSlot section offset) (numbered 0 l)))
 

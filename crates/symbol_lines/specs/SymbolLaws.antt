@@ -15,6 +15,7 @@ use Rattle.area.specs.Kind.{Sort}
 use Rattle.body.specs.Lines.{LineHead, lineHead}
 use Rattle.find.specs.Find.{same, Span, bytesAt}
 use Rattle.lines.specs.Lines.{countLines}
+use Rattle.lines.specs.Body.{Body, bodyOn}
 use Rattle.lines.specs.Slots.{bodyAt, nameThen, named, slotAt, listIn}
 use Rattle.lines.specs.SlotsLaws.{Scans, named-slot}
 use Rattle.symbol_lines.specs.Symbol.{headIs, isAt, isBefore, Numbered, numbered, slotOf, atSlot, beforeSlot, slotIn, better, walkTo, symbolWalk, walkOf}
@@ -50,13 +51,13 @@ module _ (rule : ℕ → Sort) (s v : List ℕ) (n : ℕ) where
 
   module _ (i p : ℕ) (g : Scans rule s p) where
     slot-step : i < n → (x : Reply Span Told) → x ≡ slotAt rule s v i p
-        → numbered i (nameThen (mapReply (bytesAt s) same x) (named (bodyAt rule s) (n - (i + 1)) (drop (i + 1) v))) ≡ slotFrom i
+        → numbered i (nameThen (mapReply (bodyOn s) same x) (named (bodyAt rule s) (n - (i + 1)) (drop (i + 1) v))) ≡ slotFrom i
     slot-step h x e =
         let m : n - (i + 1) ≡ n - i - 1 = omega arith in
-        (λ j. numbered i (nameThen (mapReply (bytesAt s) same (e j)) (named (bodyAt rule s) (m j) (drop (i + 1) v))))
+        (λ j. numbered i (nameThen (mapReply (bodyOn s) same (e j)) (named (bodyAt rule s) (m j) (drop (i + 1) v))))
         ∙ ap (numbered i) (sym (named-slot rule s v i p g (n - i) (omega arith)))
 
-    pub slot-more : i < n → (a : Span) → gave a ≡ slotAt rule s v i p → more (record { slot = i; body = bytesAt s a }) (slotFrom (i + 1)) ≡ slotFrom i
+    pub slot-more : i < n → (a : Span) → gave a ≡ slotAt rule s v i p → more (record { slot = i; body = bodyOn s a }) (slotFrom (i + 1)) ≡ slotFrom i
     unfolding numbered
     slot-more h a e = slot-step h (gave a) e
 
@@ -80,7 +81,7 @@ module _ (section offset : ℕ) where
   abbrev pub bestOf : Listing Numbered Told → Reply ℕ Told → Reply ℕ Told
   bestOf l y = orElse (at l) (orElse (below l) y)
 
-  pub best-first : (l : Listing (List ℕ) Told) → bestOf (numbered 0 l) nothing ≡ slotIn section offset l
+  pub best-first : (l : Listing Body Told) → bestOf (numbered 0 l) nothing ≡ slotIn section offset l
   best-first l =
       ap (orElse (at (numbered 0 l))) (or-nothing (below (numbered 0 l)))
       ∙ sym (map-or slotOf same (firstBy (atSlot section offset) (numbered 0 l)) (lastBy (beforeSlot section offset) (numbered 0 l)))
@@ -91,7 +92,7 @@ module _ (section offset : ℕ) where
     best-hit k r e h = rw (← e, h)
 
     pub best-on : (k : Numbered) (r : Listing Numbered Told) → more k r ≡ l → isAt section offset (k .body) ≡ false
-        → bestOf r (better section offset (lineHead (k .body)) (k .slot) y) ≡ bestOf l y
+        → bestOf r (better section offset (lineHead (k .body .bytes)) (k .slot) y) ≡ bestOf l y
     unfolding firstBy lastBy
     best-on k r e h =
         ap (orElse (at r)) (both (isBefore section offset (k .body)))
@@ -128,14 +129,14 @@ module _ (rule : ℕ → Sort) (s v : List ℕ) (n section offset : ℕ) where
 
       pub turn-hit : headIs section offset h ≡ true → gave i ≡ bestOf section offset (slotFrom rule s v n i) y
       turn-hit t =
-          best-hit section offset (slotFrom rule s v n i) y (record { slot = i; body = bytesAt s a }) (slotFrom rule s v n (i + 1))
+          best-hit section offset (slotFrom rule s v n i) y (record { slot = i; body = bodyOn s a }) (slotFrom rule s v n (i + 1))
           (slot-more rule s v n i p g h₁ a e) (ap (headIs section offset) (sym header-is) ∙ t)
 
       pub turn-on : headIs section offset h ≡ false
           → bestOf section offset (slotFrom rule s v n (i + 1)) (better section offset h i y) ≡ bestOf section offset (slotFrom rule s v n i) y
       turn-on t =
           ap (λ (x : LineHead). bestOf section offset (slotFrom rule s v n (i + 1)) (better section offset x i y)) header-is
-          ∙ best-on section offset (slotFrom rule s v n i) y (record { slot = i; body = bytesAt s a }) (slotFrom rule s v n (i + 1))
+          ∙ best-on section offset (slotFrom rule s v n i) y (record { slot = i; body = bodyOn s a }) (slotFrom rule s v n (i + 1))
           (slot-more rule s v n i p g h₁ a e) (ap (headIs section offset) (sym header-is) ∙ t)
 
     pub turn-refused : (t : Told) → refused t ≡ slotAt rule s v i p → refused t ≡ bestOf section offset (slotFrom rule s v n i) y
