@@ -4,7 +4,7 @@
 use Prim.Native.Nat.{ℕ, suc, _≤_}
 use mathlib.Core.Path.{_≡_}
 use mathlib.Core.List.{List, [], _∷_, _++_}
-use mathlib.Core.Bool.{cond}
+use mathlib.Core.Bool.{Bool, true, false, cond}
 use lib.ListN.{length}
 use lib.Dec.{ltb}
 use Rattle.walk.specs.Listing.{Listing, more, ends, fails, mapped, andThen, Reply, gave, nothing, refused}
@@ -39,13 +39,25 @@ closing (more x l) = more x (closing l)
 closing ends = more endOfText ends
 closing (fails t) = more (refusal t) ends
 
+-- the lines behind the head: the subsections, the files and the line records, to their end or to the first refusal
+abbrev pub sheetRows : (ℕ → Sort) → List ℕ → Listing Pieces Told
+sheetRows rule s =
+    andThen (mapped subRow same (subsFrom rule s 0))
+    (andThen (mapped (fileRow s) same (filesIn rule s)) (mapped recordLine same (areaRecords rule s)))
+
 -- THE LINES of the text
 unfoldable pub sheetLines : (ℕ → Sort) → List ℕ → Listing Pieces Told
 sheetLines rule s =
-    cond (ltb mostBytes (length s)) (more (refusal (told why.TooLong)) ends)
-    (more (headLine (length s))
-    (closing (andThen (mapped subRow same (subsFrom rule s 0))
-    (andThen (mapped (fileRow s) same (filesIn rule s)) (mapped recordLine same (areaRecords rule s))))))
+    cond (ltb mostBytes (length s)) (more (refusal (told why.TooLong)) ends) (more (headLine (length s)) (closing (sheetRows rule s)))
+
+-- whether a listing is refused, and whether the text is
+abbrev pub endsRefused : {B R : Type 0} → Listing B R → Bool
+endsRefused (more b l) = endsRefused l
+endsRefused ends = false
+endsRefused (fails r) = true
+
+unfoldable pub sheetRefused : (ℕ → Sort) → List ℕ → Bool
+sheetRefused rule s = cond (ltb mostBytes (length s)) true (endsRefused (sheetRows rule s))
 
 -- the bytes of lines, one line after the other
 unfoldable pub sheetBytes : Listing Pieces Told → List ℕ
