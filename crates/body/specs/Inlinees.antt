@@ -45,3 +45,8 @@ extraBytes true ws = le32 (length ws) ++ wordBytes ws
 
 abbrev pub inlineeBytes : Bool → Inlinee → List ℕ
 inlineeBytes x e = le32 (e .inlinee) ++ (le32 (e .file) ++ (le32 (e .line) ++ extraBytes x (e .extra)))
+
+-- how many bytes come behind inlinee, file and line, with n extra files
+abbrev pub extraLength : Bool → ℕ → ℕ
+extraLength false n = 0
+extraLength true n = 4 + 4 * n

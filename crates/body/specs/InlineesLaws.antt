@@ -14,7 +14,7 @@ use Rattle.walk.specs.Cases.{by-cases}
 use Rattle.walk.specs.Listing.{Move, item, over}
 use Rattle.refusal.specs.Told.{Told}
 use Rattle.body.specs.Words.{wordsIn, wordBytes}
-use Rattle.body.specs.Inlinees.{Inlinee, extraBite, inlineeBite, extraBytes, inlineeBytes}
+use Rattle.body.specs.Inlinees.{Inlinee, extraBite, inlineeBite, extraBytes, inlineeBytes, extraLength}
 use Rattle.body.specs.WordsLaws.{word-length, words-length, words-back, u32-at, peel32, peel-words}
 use Rattle.body.specs.RunLaws.{nil-of, Sound, sound-drop, Fronts}
 
@@ -22,11 +22,6 @@ use Rattle.body.specs.RunLaws.{nil-of, Sound, sound-drop, Fronts}
 abbrev pub Fits : Bool → Inlinee → Type 0
 Fits false e = e .extra ≡ []
 Fits true e = Unit {0}
-
--- how many bytes behind the first 12
-abbrev pub extraLength : Bool → ℕ → ℕ
-extraLength false n = 0
-extraLength true n = 4 + 4 * n
 
 extra-length : (x : Bool) (ws : List ℕ) → length (extraBytes x ws) ≡ extraLength x (length ws)
 extra-length false ws = refl

@@ -20,8 +20,7 @@ use Rattle.line_record.specs.declared.LineSource.{LineSource}
 use Rattle.lines.specs.Lines.{countLines}
 use Rattle.lines.specs.Blocks.{LineBlock, blockAt}
 use Rattle.lines.specs.Slots.{slotAt}
-use Rattle.lines.specs.Told.{toldHeader}
-use Rattle.lines.specs.Untold.{untoldHeader}
+use Rattle.lines.specs.Told.{toldHeader, untoldHeader}
 use Rattle.lines.specs.declared.LineHeader.{LineHeader}
 use Rattle.line_step.specs.declared.Held.{Held}
 use Rattle.line_step.specs.declared.Held.the-variants.{Nothing, One}

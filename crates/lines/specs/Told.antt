@@ -17,6 +17,10 @@ use Rattle.lines.specs.declared.Named.the-variants as name
 abbrev pub toldHeader : LineHeader → LineHead
 toldHeader h = record { offset = h .offset; section = h .section; flags = h .flags; code = h .code }
 
+-- the header that tells it
+abbrev pub untoldHeader : LineHead → LineHeader
+untoldHeader h = record { offset = h .offset; section = h .section; flags = h .flags; code = h .code }
+
 abbrev pub toldBlock : BlockStep → Answer ℕ LineBlock Told
 toldBlock (block.Block f n a x) = gives (record { file = f; count = n; start = a }) x
 toldBlock block.None = none

@@ -14,10 +14,7 @@ use Rattle.lines.specs.declared.Counted.{Counted}
 use Rattle.lines.specs.declared.Counted.the-variants as counted
 use Rattle.lines.specs.declared.Named.{Named}
 use Rattle.lines.specs.declared.Named.the-variants as name
-use Rattle.lines.specs.Told.{toldHeader, toldBlock, toldCounted, toldNamed}
-
-abbrev pub untoldHeader : LineHead → LineHeader
-untoldHeader h = record { offset = h .offset; section = h .section; flags = h .flags; code = h .code }
+use Rattle.lines.specs.Told.{toldHeader, untoldHeader, toldBlock, toldCounted, toldNamed}
 
 pub untold-header : (h : LineHeader) → untoldHeader (toldHeader h) ≡ h
 untold-header h = refl

@@ -2,7 +2,7 @@
 use mathlib.Core.Path.{_≡_, refl, ap}
 use Rattle.walk.specs.Listing.{gives, none, refuses}
 use Rattle.refusal.specs.Untold.{untold, untold-told}
-use Rattle.lines.specs.Untold.{untoldHeader}
+use Rattle.lines.specs.Told.{untoldHeader}
 use Rattle.reading_record.specs.Item.{ToldColumns, columnsAt, noColumns}
 use Rattle.reading_record.specs.Item as item
 use Rattle.reading_record.specs.Record.{ItemAnswer}

@@ -16,8 +16,7 @@ use Rattle.body.specs.WordsLaws.{word-length, word-append}
 use mathlib.Core.Bool.{Bool}
 use borrow.Author.Tests.{eq-eqb, ne-eqb}
 use Rattle.body.specs.Lines.{lineHeadBytes, blockHeadSize, blockBytes}
-use Rattle.body.specs.Inlinees.{extended, inlineeBytes}
-use Rattle.body.specs.InlineesLaws.{extraLength}
+use Rattle.body.specs.Inlinees.{extended, inlineeBytes, extraLength}
 use Rattle.body.specs.Checksums.{up4, zeros, checksumBytes}
 use Rattle.body.specs.ChecksumsLaws.{padding}
 use Rattle.plain.specs.Plain.{sizeOf}

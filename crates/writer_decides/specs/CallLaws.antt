@@ -15,8 +15,7 @@ use Rattle.refusal.specs.Told.{Told, told}
 use Rattle.refusal.specs.declared.Refusal.the-variants as why
 use Rattle.body.specs.Lines.{columned, columnsOf}
 use Rattle.body.specs.Checksums.{up4}
-use Rattle.body.specs.Inlinees.{extended}
-use Rattle.body.specs.InlineesLaws.{extraLength}
+use Rattle.body.specs.Inlinees.{extended, extraLength}
 use Rattle.reading.specs.Reading.{Item, openLines, block, openChecksums, checksum, openInlinees, inlinee, openImports, imports, openExports, exports, opaque, opens}
 use Rattle.plain.specs.Plain.{sizeOf, isOpaque, Last, plainOf}
 use Rattle.plain.specs.RecordLaws.{padding-two}

@@ -6,8 +6,8 @@ use mathlib.Core.Path.{refl}
 use native.Mathlib.Omega.{arith}
 use Prim.Native.Nat.{_+_}
 use lib.ListN.{length}
-use Rattle.body.specs.Inlinees.{extended}
-use Rattle.body.specs.InlineesLaws.{extraLength, inlinee-length}
+use Rattle.body.specs.Inlinees.{extended, extraLength}
+use Rattle.body.specs.InlineesLaws.{inlinee-length}
 use Rattle.writer_decides.specs.Calls.{callInlinee}
 use Rattle.writer_decides.specs.CallLaws.{extra-small}
 use Rattle.writer.specs.AddLaws.{Adds, adds-known, adds-room, adds-length, adds-goes, adds-stops}

@@ -5,8 +5,7 @@ use borrow.Author.Needs.{needs}
 use Prim.Native.Nat.{_+_}
 use mathlib.Core.Path.{sym, ap, _∙_}
 use lib.ListN.{length}
-use Rattle.body.specs.Inlinees.{extended}
-use Rattle.body.specs.InlineesLaws.{extraLength}
+use Rattle.body.specs.Inlinees.{extended, extraLength}
 use Rattle.plain.specs.Told.{toldPlain}
 use Rattle.writer_decides.specs.Calls.{extraRule}
 use Rattle.writer_decides.specs.CallLaws.{grow-none, grow-some, extra-yes, extra-no}
