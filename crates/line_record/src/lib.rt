@@ -64,7 +64,7 @@ impl LineRecord {
 pub fn start_line(flags: u32) -> u32
     ensures { λ r. ⌜ r ≡ startLine flags ⌝ }
 {
-    flags % 0x100_0000
+    flags % (LineRecord::MAX_START_LINE + 1)
 }
 
 // The end line as the crate reads it: the start line. Its `flags & 0x7f00_0000 >> 24` shifts first, so that it masks with 0x7f and takes the
