@@ -10,11 +10,11 @@ use exports::Lookup;
 use files::FileAnswer;
 use imports::Resolved;
 use libc::STDOUT_FILENO;
-use line_record::Column;
 use line_record::Entry;
 use line_record::Length;
 use line_record::LineKind;
 use line_record::LineRecord;
+use line_record::LineSource;
 use line_step::LineWalk;
 use line_walk::LineStep;
 use lines::BlockStep;
@@ -103,7 +103,13 @@ fn line(r: LineRecord) {
 }
 
 fn flags(word: u32) {
-    match line_record::entry_of(1, 0, 0, 0, word, Column::None, Column::None) {
+    let source = LineSource {
+        section: 1,
+        base: 0,
+        file: 0,
+        columns: false,
+    };
+    match line_record::entry_of(source, 0, word, 0) {
         Entry::Line(r) => line(r),
         Entry::Marker => say(b"marker "),
         Entry::Refused(why) => refused(why),
