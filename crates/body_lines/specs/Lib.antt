@@ -1,4 +1,4 @@
 pub mod FillLaws
-pub mod GoesLaws
-pub mod Stretch
-pub mod StretchLaws
+pub mod TurnsLaws
+pub mod BodyLines
+pub mod BodyLinesLaws

@@ -9,7 +9,7 @@ ghost use Rattle.word.specs.Word.{u32At, store};
 ghost use Rattle.line_record.specs.Record.{columnIf, maxOffset};
 ghost use Rattle.line_state_words.specs.LineWords.{recordWords};
 ghost use Rattle.line_step.specs.Turn.{columnPlace};
-ghost use Rattle.body_lines.specs.Stretch.{atLine, plainOf, Fit, Stride, Strode, HeldPut, FirstLine, Ran, OpenedIs, Rode};
+ghost use Rattle.body_lines.specs.BodyLines.{atLine, heldRecord, LinesFit, LinePut, LinesPut, HeldPut, FirstLine, BlockPut, OpenedIs, BodyPut};
 use line_record::LineRecord;
 use line_record::closed;
 use line_record::is_marker;
@@ -53,13 +53,13 @@ fn column_at(area: &[u8], columns: bool, at: usize) -> u32
 
 // The record of an entry whose sum and words these are.
 fn record_in(p: Place, offset: u32, flags: u32, word: u32) -> LineRecord
-    ensures { λ r. ⌜ r ≡ plainOf p offset flags word ⌝ }
+    ensures { λ r. ⌜ r ≡ heldRecord p offset flags word ⌝ }
 {
     record_of(source_of(p), offset, flags, word)
 }
 
 // How far a stretch has come: the records that are put, the lines that are done, and of the held record its offset and words.
-pub struct Plain {
+pub struct LineHeld {
     pub n: usize,
     pub done: usize,
     pub offset: u32,
@@ -76,10 +76,10 @@ fn put_words(out: &mut [u64], at: usize, r: LineRecord)
 }
 
 // A line that gives a record: the held one is put, closed by it, and the line's own is held.
-fn stride(area: &[u8], p: Place, x: Plain, e: Line, out: &mut [u64]) -> Plain
-    requires { ⌜ Fit (now area) p ⌝ }
+fn put_line(area: &[u8], p: Place, x: LineHeld, e: Line, out: &mut [u64]) -> LineHeld
+    requires { ⌜ LinesFit (now area) p ⌝ }
     requires { ⌜ (x .done < p .lines) × (12 * x .n + 12 ≤ length (now out)) × (p .head .offset + e .offset ≤ maxOffset) ⌝ }
-    ensures { λ r. ⌜ Stride (now (area .entry)) p x (e .offset) (e .flags) (now (out .entry)) r (now (out .exit)) ⌝ }
+    ensures { λ r. ⌜ LinePut (now (area .entry)) p x (e .offset) (e .flags) (now (out .entry)) r (now (out .exit)) ⌝ }
 {
     let at = 12 * x.n;
     let n = x.n + 1;
@@ -89,7 +89,7 @@ fn stride(area: &[u8], p: Place, x: Plain, e: Line, out: &mut [u64]) -> Plain
     let word = column_at(area, has_columns(h.flags), p.column + 4 * x.done);
     let r = record_in(p, x.offset, x.flags, x.word);
     put_words(out, at, closed(r, h.section, end));
-    Plain {
+    LineHeld {
         n,
         done,
         offset: end,
@@ -99,10 +99,10 @@ fn stride(area: &[u8], p: Place, x: Plain, e: Line, out: &mut [u64]) -> Plain
 }
 
 // The lines of a block from `first` on, until there are no more, or no room for another record, or one that is refused.
-fn stretch(area: &[u8], p: Place, first: Plain, room: usize, out: &mut [u64]) -> Plain
-    requires { ⌜ Fit (now area) p ⌝ }
+fn put_lines(area: &[u8], p: Place, first: LineHeld, room: usize, out: &mut [u64]) -> LineHeld
+    requires { ⌜ LinesFit (now area) p ⌝ }
     requires { ⌜ (first .n ≤ room) × (first .done ≤ p .lines) × (12 * room ≤ length (now out)) ⌝ }
-    ensures { λ r. ⌜ Strode (now (area .entry)) p room first (now (out .entry)) r (now (out .exit)) ⌝ }
+    ensures { λ r. ⌜ LinesPut (now (area .entry)) p room first (now (out .entry)) r (now (out .exit)) ⌝ }
 {
     let h = p.head;
     let mut x = first;
@@ -117,7 +117,7 @@ fn stretch(area: &[u8], p: Place, first: Plain, room: usize, out: &mut [u64]) ->
             if LineRecord::MAX_OFFSET - h.offset < e.offset {
                 return x;
             }
-            x = stride(area, p, x, e, out);
+            x = put_line(area, p, x, e, out);
         }
     }
     x
@@ -156,7 +156,7 @@ fn put_held(out: &mut [u64], n: usize, held: Held, section: u16, end: u32) -> us
 }
 
 // How far the walk has come in a body. `stuck`: there is no room for another record, or it stands before a turn that is left to others.
-pub struct Lined {
+pub struct InBody {
     pub n: usize,
     pub place: Place,
     pub held: Held,
@@ -172,28 +172,28 @@ fn first_line(
     e: Line,
     room: usize,
     out: &mut [u64],
-) -> Lined
-    requires { ⌜ Fit (now area) p ⌝ }
+) -> InBody
+    requires { ⌜ LinesFit (now area) p ⌝ }
     requires { ⌜ (1 ≤ p .lines) × (n < room) × (12 * room ≤ length (now out)) ⌝ }
     requires { ⌜ FirstLine (now area) p (e .offset) (e .flags) ⌝ }
-    ensures { λ r. ⌜ Ran (now (area .entry)) room p held n (now (out .entry)) r (now (out .exit)) ⌝ }
+    ensures { λ r. ⌜ BlockPut (now (area .entry)) room p held n (now (out .entry)) r (now (out .exit)) ⌝ }
     ensures { λ r. ⌜ (r .stuck ≡ false → (r .n < room) × (r .place .lines < p .lines)) ⌝ }
 {
     let h = p.head;
     let offset = h.offset + e.offset;
     let word = column_at(area, has_columns(h.flags), p.column);
     let m = put_held(out, n, held, h.section, offset);
-    let first = Plain {
+    let first = LineHeld {
         n: m,
         done: 1,
         offset,
         flags: e.flags,
         word,
     };
-    let x = stretch(area, p, first, room, out);
+    let x = put_lines(area, p, first, room, out);
     let place = at_line(p, x.done);
     let r = record_in(p, x.offset, x.flags, x.word);
-    Lined {
+    InBody {
         n: x.n,
         place,
         held: Held::One(r),
@@ -202,17 +202,17 @@ fn first_line(
 }
 
 // The lines of a block, of which there is one at least.
-fn block_lines(area: &[u8], p: Place, held: Held, n: usize, room: usize, out: &mut [u64]) -> Lined
-    requires { ⌜ Fit (now area) p ⌝ }
+fn block_lines(area: &[u8], p: Place, held: Held, n: usize, room: usize, out: &mut [u64]) -> InBody
+    requires { ⌜ LinesFit (now area) p ⌝ }
     requires { ⌜ (1 ≤ p .lines) × (n < room) × (12 * room ≤ length (now out)) ⌝ }
-    ensures { λ r. ⌜ Ran (now (area .entry)) room p held n (now (out .entry)) r (now (out .exit)) ⌝ }
+    ensures { λ r. ⌜ BlockPut (now (area .entry)) room p held n (now (out .entry)) r (now (out .exit)) ⌝ }
     ensures { λ r. ⌜ (r .stuck ≡ false → (r .n < room) × (r .place .lines < p .lines)) ⌝ }
 {
     let h = p.head;
     let e = line_at(area, p.line);
     if is_marker(e.flags) {
         let place = at_line(p, 1);
-        return Lined {
+        return InBody {
             n,
             place,
             held,
@@ -220,7 +220,7 @@ fn block_lines(area: &[u8], p: Place, held: Held, n: usize, room: usize, out: &m
         };
     }
     if LineRecord::MAX_OFFSET - h.offset < e.offset {
-        return Lined {
+        return InBody {
             n,
             place: p,
             held,
@@ -249,7 +249,7 @@ enum Opened {
 }
 
 fn open_block(area: &[u8], p: Place) -> Opened
-    requires { ⌜ Fit (now area) p ⌝ }
+    requires { ⌜ LinesFit (now area) p ⌝ }
     ensures { λ r. ⌜ OpenedIs (now (area .entry)) p r ⌝ }
 {
     let end = p.end;
@@ -280,7 +280,7 @@ fn open_block(area: &[u8], p: Place) -> Opened
 
 // Do the lines of the place, and their columns, lie in its body, and that in an area that is not too long?
 fn fits(area: &[u8], p: Place) -> bool
-    ensures { λ r. ⌜ (r ≡ true → Fit (now (area .entry)) p) ⌝ }
+    ensures { λ r. ⌜ (r ≡ true → LinesFit (now (area .entry)) p) ⌝ }
 {
     let end = p.end;
     let lines = p.lines;
@@ -303,10 +303,10 @@ fn fits(area: &[u8], p: Place) -> bool
 }
 
 // The blocks of a body from a place on, and their lines, until the body is used up or the walk is stuck.
-fn blocks(area: &[u8], first: Lined, room: usize, out: &mut [u64]) -> Lined
-    requires { ⌜ Fit (now area) (first .place) ⌝ }
+fn blocks(area: &[u8], first: InBody, room: usize, out: &mut [u64]) -> InBody
+    requires { ⌜ LinesFit (now area) (first .place) ⌝ }
     requires { ⌜ (first .n < room) × (12 * room ≤ length (now out)) ⌝ }
-    ensures { λ r. ⌜ Rode (now (area .entry)) room (first .place) (first .held) (first .n) (now (out .entry)) r (now (out .exit)) ⌝ }
+    ensures { λ r. ⌜ BodyPut (now (area .entry)) room (first .place) (first .held) (first .n) (now (out .entry)) r (now (out .exit)) ⌝ }
 {
     let mut x = first;
     loop {
@@ -316,7 +316,7 @@ fn blocks(area: &[u8], first: Lined, room: usize, out: &mut [u64]) -> Lined
         if p.lines == 0 {
             match open_block(area, p) {
                 Opened::At(place) => {
-                    x = Lined {
+                    x = InBody {
                         n,
                         place,
                         held,
@@ -324,7 +324,7 @@ fn blocks(area: &[u8], first: Lined, room: usize, out: &mut [u64]) -> Lined
                     };
                 }
                 Opened::End => {
-                    return Lined {
+                    return InBody {
                         n,
                         place: p,
                         held,
@@ -332,7 +332,7 @@ fn blocks(area: &[u8], first: Lined, room: usize, out: &mut [u64]) -> Lined
                     };
                 }
                 Opened::Stuck => {
-                    return Lined {
+                    return InBody {
                         n,
                         place: p,
                         held,
@@ -357,10 +357,10 @@ pub fn body_lines(
     n: usize,
     room: usize,
     out: &mut [u64],
-) -> Lined
-    ensures { λ r. ⌜ Rode (now (area .entry)) room place held n (now (out .entry)) r (now (out .exit)) ⌝ }
+) -> InBody
+    ensures { λ r. ⌜ BodyPut (now (area .entry)) room place held n (now (out .entry)) r (now (out .exit)) ⌝ }
 {
-    let x = Lined {
+    let x = InBody {
         n,
         place,
         held,

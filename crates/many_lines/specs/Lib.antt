@@ -1,7 +1,7 @@
 pub mod Lines
 pub mod Told
 pub mod Untold
-pub mod Led
-pub mod LedLaws
-pub mod Went
-pub mod WentLaws
+pub mod ByList
+pub mod ByListLaws
+pub mod Bodies
+pub mod BodiesLaws

@@ -3,7 +3,7 @@
 //
 // The records before an end or a refusal are given first, and the next call, from the walk answered, tells it.
 //
-// A turn tells every answer. Between two turns the walk goes on body after body, as far as nothing is to be told (`faster`).
+// A turn tells every answer. Between two turns the walk goes on body after body, as far as nothing is to be told (`bodies_from`).
 ghost use mathlib.Core.Path.{_≡_};
 ghost use Prim.Native.Nat.{_+_, _<_, _≤_, _^_};
 ghost use mathlib.Core.Bool.{cond};
@@ -21,13 +21,13 @@ ghost use Rattle.line_walk.specs.Told.{toldLine};
 ghost use Rattle.line_step.specs.Turn.{enterAt, betweenTurn, turnOf};
 ghost use Rattle.line_step.specs.declared.LineWalk.the-variants.{New, Between, Inside};
 ghost use Rattle.line_step.specs.Told.{toldTurn};
-ghost use Rattle.many_lines.specs.Led.{scanOf, fewLeft, testedFor, ledRest};
-ghost use Rattle.many_lines.specs.LedLaws.{Led};
+ghost use Rattle.many_lines.specs.ByList.{scanOf, fewLeft, testedFor, restByList};
+ghost use Rattle.many_lines.specs.ByListLaws.{ListLeads};
 ghost use Rattle.answer_words.specs.Fill.{noRoom};
 ghost use Rattle.many_lines.specs.Lines.{linesOf, linesCounted, linesFilled};
 ghost use Rattle.many_lines.specs.Told.{toldLines};
-ghost use Rattle.many_lines.specs.Went.{nowhere, standsAt, LookedIs, EndedIs, EnteredIs, Went};
-use body_lines::Lined;
+ghost use Rattle.many_lines.specs.Bodies.{nowhere, standsAt, LookedIs, EndedIs, EnteredIs, BodiesPut};
+use body_lines::InBody;
 use body_lines::body_lines;
 use line_record::LineRecord;
 use line_record::closed;
@@ -109,8 +109,8 @@ fn tested_for(area: &[u8], slots: &[u32], walk: LineWalk) -> usize
 }
 
 // Before another subsection the search for its body begins where a list says that was tested as a whole.
-fn led_rest(slots: &[u32], whole: usize, t: Rest) -> Rest
-    ensures { λ r. ⌜ r ≡ ledRest (now (slots .entry)) whole t ⌝ }
+fn rest_by_list(slots: &[u32], whole: usize, t: Rest) -> Rest
+    ensures { λ r. ⌜ r ≡ restByList (now (slots .entry)) whole t ⌝ }
 {
     if t.left == 0 {
         return t;
@@ -126,8 +126,8 @@ fn led_rest(slots: &[u32], whole: usize, t: Rest) -> Rest
 }
 
 // A turn from between two bodies, over a list of which the first `whole` slots are tested: the same as any other turn, found sooner.
-fn led_between(area: &[u8], slots: &[u32], whole: usize, t: Rest) -> Turn
-    requires { ⌜ Led crateRule (now area) (now slots) whole (Between t) ⌝ }
+fn between_by_list(area: &[u8], slots: &[u32], whole: usize, t: Rest) -> Turn
+    requires { ⌜ ListLeads crateRule (now area) (now slots) whole (Between t) ⌝ }
     ensures { λ r. ⌜ toldTurn r ≡ turnOf crateRule (now (area .entry)) (now (slots .entry)) (Between t) ⌝ }
 {
     if LONGEST < area.len() {
@@ -136,31 +136,35 @@ fn led_between(area: &[u8], slots: &[u32], whole: usize, t: Rest) -> Turn
     if t.left == 0 {
         return finish(t);
     }
-    take_turn(area, slots, LineWalk::Between(led_rest(slots, whole, t)))
+    take_turn(
+        area,
+        slots,
+        LineWalk::Between(rest_by_list(slots, whole, t)),
+    )
 }
 
 // A turn from anywhere, over such a list.
-fn led_turn(area: &[u8], slots: &[u32], whole: usize, walk: LineWalk) -> Turn
-    requires { ⌜ Led crateRule (now area) (now slots) whole walk ⌝ }
+fn turn_by_list(area: &[u8], slots: &[u32], whole: usize, walk: LineWalk) -> Turn
+    requires { ⌜ ListLeads crateRule (now area) (now slots) whole walk ⌝ }
     ensures { λ r. ⌜ toldTurn r ≡ turnOf crateRule (now (area .entry)) (now (slots .entry)) walk ⌝ }
 {
     match walk {
         LineWalk::New => take_turn(area, slots, LineWalk::New),
-        LineWalk::Between(t) => led_between(area, slots, whole, t),
+        LineWalk::Between(t) => between_by_list(area, slots, whole, t),
         LineWalk::Inside(p, t) => take_turn(area, slots, LineWalk::Inside(p, t)),
     }
 }
 
 // The walk behind the first n records.
 fn behind(area: &[u8], slots: &[u32], whole: usize, walk: LineWalk, n: usize) -> LineWalk
-    requires { ⌜ Led crateRule (now area) (now slots) whole walk ⌝ }
+    requires { ⌜ ListLeads crateRule (now area) (now slots) whole walk ⌝ }
     ensures { λ r. ⌜ r ≡ many (nextOf crateRule (now (area .entry)) (now (slots .entry))) n walk .next ⌝ }
 {
     let mut left = n;
     let mut last = walk;
     let mut w = walk;
     while 0 < left {
-        match led_turn(area, slots, whole, w) {
+        match turn_by_list(area, slots, whole, w) {
             Turn::Line(_, t) => {
                 left -= 1;
                 last = t;
@@ -181,7 +185,7 @@ fn behind(area: &[u8], slots: &[u32], whole: usize, walk: LineWalk, n: usize) ->
 }
 
 // How far the walk has come.
-struct Stood {
+struct Reached {
     n: usize,
     walk: LineWalk,
 }
@@ -193,7 +197,7 @@ enum Ended {
 }
 
 // Behind the lines of a body. If it is used up its end closes the record that is held.
-fn end_body(x: Lined, t: Rest) -> Ended
+fn end_body(x: InBody, t: Rest) -> Ended
     ensures { λ r. ⌜ EndedIs x t r ⌝ }
 {
     let held = x.held;
@@ -311,7 +315,7 @@ fn named_body(area: &[u8], slots: &[u32], slot: usize, begin: usize) -> Named
 
 // Into the body that the next slot names.
 fn next_body(area: &[u8], slots: &[u32], whole: usize, t: Rest) -> Entered
-    requires { ⌜ Led crateRule (now area) (now slots) whole (Between t) ⌝ }
+    requires { ⌜ ListLeads crateRule (now area) (now slots) whole (Between t) ⌝ }
     ensures { λ r. ⌜ EnteredIs (betweenTurn crateRule (now (area .entry)) (now (slots .entry)) t) t r ⌝ }
 {
     if t.left == 0 {
@@ -334,10 +338,10 @@ fn bodies(
     place: Place,
     rest: Rest,
     out: &mut [u64],
-) -> Stood
-    requires { ⌜ Led crateRule (now area) (now slots) whole (standsAt within place rest) ⌝ }
+) -> Reached
+    requires { ⌜ ListLeads crateRule (now area) (now slots) whole (standsAt within place rest) ⌝ }
     requires { ⌜ (n0 < room) × (length (now area) ≤ longest) ⌝ }
-    ensures { λ r. ⌜ Went (now (area .entry)) (now (slots .entry)) whole room n0 (standsAt within place rest) (now (out .entry)) r (now (out .exit)) ⌝ }
+    ensures { λ r. ⌜ BodiesPut (now (area .entry)) (now (slots .entry)) whole room n0 (standsAt within place rest) (now (out .entry)) r (now (out .exit)) ⌝ }
 {
     let mut n = n0;
     let mut inside = within;
@@ -356,7 +360,7 @@ fn bodies(
                 Ended::Stuck(u) => {
                     let q = x.place;
                     let walk = LineWalk::Inside(q, u);
-                    return Stood { n, walk };
+                    return Reached { n, walk };
                 }
             }
         } else {
@@ -368,7 +372,7 @@ fn bodies(
                 }
                 Entered::Stuck => {
                     let walk = LineWalk::Between(t);
-                    return Stood { n, walk };
+                    return Reached { n, walk };
                 }
             }
         }
@@ -398,7 +402,7 @@ fn nowhere() -> Place
 
 // How many line subsections there are: as many as the slots of a list that was tested.
 fn count_of(area: &[u8], slots: &[u32], whole: usize) -> Counted
-    requires { ⌜ Led crateRule (now area) (now slots) whole New ⌝ }
+    requires { ⌜ ListLeads crateRule (now area) (now slots) whole New ⌝ }
     ensures { λ r. ⌜ toldCounted r ≡ countLines crateRule (now (area .entry)) ⌝ }
 {
     if 0 < whole {
@@ -408,10 +412,17 @@ fn count_of(area: &[u8], slots: &[u32], whole: usize) -> Counted
 }
 
 // Body after body, from a walk's beginning.
-fn opened(area: &[u8], slots: &[u32], whole: usize, n: usize, room: usize, out: &mut [u64]) -> Stood
-    requires { ⌜ Led crateRule (now area) (now slots) whole New ⌝ }
+fn opened(
+    area: &[u8],
+    slots: &[u32],
+    whole: usize,
+    n: usize,
+    room: usize,
+    out: &mut [u64],
+) -> Reached
+    requires { ⌜ ListLeads crateRule (now area) (now slots) whole New ⌝ }
     requires { ⌜ (n < room) × (length (now area) ≤ longest) ⌝ }
-    ensures { λ r. ⌜ Went (now (area .entry)) (now (slots .entry)) whole room n New (now (out .entry)) r (now (out .exit)) ⌝ }
+    ensures { λ r. ⌜ BodiesPut (now (area .entry)) (now (slots .entry)) whole room n New (now (out .entry)) r (now (out .exit)) ⌝ }
 {
     match count_of(area, slots, whole) {
         Counted::Lines(left) => {
@@ -423,7 +434,7 @@ fn opened(area: &[u8], slots: &[u32], whole: usize, n: usize, room: usize, out: 
             };
             bodies(area, slots, whole, n, room, false, nowhere(), t, out)
         }
-        Counted::Refused(_) => Stood {
+        Counted::Refused(_) => Reached {
             n,
             walk: LineWalk::New,
         },
@@ -431,7 +442,7 @@ fn opened(area: &[u8], slots: &[u32], whole: usize, n: usize, room: usize, out: 
 }
 
 // As many turns at once as can be made.
-fn faster(
+fn bodies_from(
     area: &[u8],
     slots: &[u32],
     whole: usize,
@@ -439,19 +450,19 @@ fn faster(
     room: usize,
     w: LineWalk,
     out: &mut [u64],
-) -> Stood
-    requires { ⌜ Led crateRule (now area) (now slots) whole w ⌝ }
+) -> Reached
+    requires { ⌜ ListLeads crateRule (now area) (now slots) whole w ⌝ }
     requires { ⌜ n < room ⌝ }
-    ensures { λ r. ⌜ Went (now (area .entry)) (now (slots .entry)) whole room n w (now (out .entry)) r (now (out .exit)) ⌝ }
+    ensures { λ r. ⌜ BodiesPut (now (area .entry)) (now (slots .entry)) whole room n w (now (out .entry)) r (now (out .exit)) ⌝ }
 {
     if LONGEST < area.len() {
-        return Stood { n, walk: w };
+        return Reached { n, walk: w };
     }
     match w {
         LineWalk::New => opened(area, slots, whole, n, room, out),
         LineWalk::Between(t) => {
             if t.left == 0 {
-                return Stood { n, walk: w };
+                return Reached { n, walk: w };
             }
             bodies(area, slots, whole, n, room, false, nowhere(), t, out)
         }
@@ -471,7 +482,7 @@ fn stopped(
     exact: bool,
     told: LinesStep,
 ) -> LinesStep
-    requires { ⌜ Led crateRule (now area) (now slots) whole walk ⌝ }
+    requires { ⌜ ListLeads crateRule (now area) (now slots) whole walk ⌝ }
     ensures { λ r. ⌜ toldLines r ≡ cond (eqb n 0) (toldLines told) (gives n (cond exact w (many (nextOf crateRule (now (area .entry)) (now (slots .entry))) n walk .next))) ⌝ }
 {
     if n == 0 {
@@ -498,13 +509,13 @@ fn fill(area: &[u8], slots: &[u32], walk: LineWalk, out: &mut [u64]) -> LinesSte
     let mut fast = true;
     while n < room {
         if fast {
-            let x = faster(area, slots, whole, n, room, w, out);
+            let x = bodies_from(area, slots, whole, n, room, w, out);
             n = x.n;
             w = x.walk;
             exact = false;
             fast = false;
         } else {
-            match led_turn(area, slots, whole, w) {
+            match turn_by_list(area, slots, whole, w) {
                 Turn::Line(r, t) => {
                     let at = RECORD * n;
                     n += 1;

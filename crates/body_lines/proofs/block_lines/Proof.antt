@@ -3,7 +3,7 @@
 use native.Mathlib.Omega.{arith}
 use Rattle.line_step.specs.declared.Place.{Place}
 use mathlib.Core.Path.{sym, ap, _∙_}
-use Rattle.body_lines.specs.StretchLaws.{ran-same, ran-marker, not-false}
+use Rattle.body_lines.specs.BodyLinesLaws.{block-put-same, block-put-marker, not-false}
 use borrow.Author.Needs.{needs}
 use Rattle.body_lines.proofs.block_lines.Statement.{statement}
 use Rattle.body_lines.proofs.block_lines.Tie as tie
@@ -21,7 +21,7 @@ returns : tie.Need-returns
 returns c =
     let q = c .before .before .before in
     let r = q .before .before .before .before .pre in
-    (ran-marker _ _ _ _ _ _ (r .0) (omega (arith, r .1)) (omega (arith, r .1)) _ _ (q .line-at .ensures .1) (sym (c .before .before .is-marker .ensures) ∙ c .before .if1 .taken) (c .at-line .ensures), λ e. (omega (arith, r .1), omega (arith, ap (λ (x : Place). x .lines) (c .at-line .ensures), r .1)))
+    (block-put-marker _ _ _ _ _ _ (r .0) (omega (arith, r .1)) (omega (arith, r .1)) _ _ (q .line-at .ensures .1) (sym (c .before .before .is-marker .ensures) ∙ c .before .if1 .taken) (c .at-line .ensures), λ e. (omega (arith, r .1), omega (arith, ap (λ (x : Place). x .lines) (c .at-line .ensures), r .1)))
 
 sub-if2 : tie.Need-sub-if2
 sub-if2 c = search needs
@@ -29,7 +29,7 @@ sub-if2 c = search needs
 returns-2 : tie.Need-returns-2
 returns-2 c =
     let r = c .before .before .before .before .before .before .before .before .before .pre in
-    (ran-same _ _ _ _ _ _ (r .0) (omega (arith, r .1)) _, not-false)
+    (block-put-same _ _ _ _ _ _ (r .0) (omega (arith, r .1)) _, not-false)
 
 first-line-requires : tie.Need-first-line-requires
 first-line-requires c κs =

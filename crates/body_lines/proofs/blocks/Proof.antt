@@ -1,23 +1,23 @@
--- `body_lines::blocks` meets its contract. The invariant: the walk stands in the same body, with room (`Riding`). The measure: the bytes behind the next block,
+-- `body_lines::blocks` meets its contract. The invariant: the walk stands in the same body, with room (`BlocksPut`). The measure: the bytes behind the next block,
 -- and the lines left.
 -- Assumes nothing.
 use borrow.Author.Needs.{needs}
 use native.Mathlib.Omega.{arith}
 use Prim.Native.Nat.{_+_, _-_, _*_}
 use mathlib.Core.Path.{subst}
-use Rattle.body_lines.specs.Stretch.{Opens, OpenedIs}
-use Rattle.body_lines.specs.StretchLaws.{Riding, ride-start, ride-block, ride-lines, rode-stuck, rode-refused, rode-used}
+use Rattle.body_lines.specs.BodyLines.{Opens, OpenedIs}
+use Rattle.body_lines.specs.BodyLinesLaws.{BlocksPut, blocks-put-start, blocks-put-block, blocks-put-lines, body-put-stuck, body-put-refused, body-put-used}
 use Rattle.body_lines.proofs.blocks.Statement.{statement}
 use Rattle.body_lines.proofs.blocks.Tie as tie
 
 abbrev Inv-loop : tie.InvT-loop
-Inv-loop area room out₀ x₀ out x = Riding area room (x₀ .place) (x₀ .held) (x₀ .n) out₀ x out
+Inv-loop area room out₀ x₀ out x = BlocksPut area room (x₀ .place) (x₀ .held) (x₀ .n) out₀ x out
 
 abbrev μ-loop : tie.MeasureT-loop
 μ-loop area room out₀ x₀ out x = x .place .end - x .place .next + 2 * x .place .lines
 
 loop-holds : tie.Need-loop-holds Inv-loop μ-loop
-loop-holds c = ride-start _ _ _ _ _ _ (c .before .before .pre .0) (omega (arith, c .before .before .pre .1)) _
+loop-holds c = blocks-put-start _ _ _ _ _ _ (c .before .before .pre .0) (omega (arith, c .before .before .pre .1)) _
 
 open-block-requires : tie.Need-open-block-requires Inv-loop μ-loop
 open-block-requires c κs = c .before .before .before .loop .inv .fit
@@ -33,7 +33,7 @@ loop-less c =
 loop-again : tie.Need-loop-again Inv-loop μ-loop
 loop-again c =
     let l = c .before .before .before .before .before .before .before .loop in
-    ride-block _ _ _ _ _ _ (l .x) (l .out) (l .inv) (c .before .before .before .before .if1 .taken) _ _ (subst (OpenedIs _ _) (c .before .place .given .1) (c .before .before .before .open-block .ensures))
+    blocks-put-block _ _ _ _ _ _ (l .x) (l .out) (l .inv) (c .before .before .before .before .if1 .taken) _ _ (subst (OpenedIs _ _) (c .before .place .given .1) (c .before .before .before .open-block .ensures))
 
 enum-told : tie.Need-enum-told Inv-loop μ-loop
 enum-told c = search needs
@@ -44,7 +44,7 @@ same-length c = search needs
 returns : tie.Need-returns Inv-loop μ-loop
 returns c =
     let l = c .before .before .before .before .before .before .loop in
-    rode-used _ _ _ _ _ _ (l .x) (l .out) (l .inv) (c .before .before .before .if1 .taken) (subst (OpenedIs _ _) (c .enum-told .given .1) (c .before .before .open-block .ensures))
+    body-put-used _ _ _ _ _ _ (l .x) (l .out) (l .inv) (c .before .before .before .if1 .taken) (subst (OpenedIs _ _) (c .enum-told .given .1) (c .before .before .open-block .ensures))
 
 enum-told-2 : tie.Need-enum-told-2 Inv-loop μ-loop
 enum-told-2 c = search needs
@@ -55,7 +55,7 @@ same-length-2 c = search needs
 returns-2 : tie.Need-returns-2 Inv-loop μ-loop
 returns-2 c =
     let l = c .before .before .before .before .before .before .loop in
-    rode-refused _ _ _ _ _ _ (l .x) (l .out) (l .inv)
+    body-put-refused _ _ _ _ _ _ (l .x) (l .out) (l .inv)
 
 block-lines-requires : tie.Need-block-lines-requires Inv-loop μ-loop
 block-lines-requires c κs =
@@ -69,7 +69,7 @@ same-length-3 c = search needs
 returns-3 : tie.Need-returns-3 Inv-loop μ-loop
 returns-3 c =
     let l = c .before .before .before .before .before .before .before .before .loop in
-    rode-stuck _ _ _ _ _ _ (l .x) (l .out) (l .inv) _ _ (c .before .before .before .block-lines .ensures .0) (c .if2 .taken)
+    body-put-stuck _ _ _ _ _ _ (l .x) (l .out) (l .inv) _ _ (c .before .before .before .block-lines .ensures .0) (c .if2 .taken)
 
 loop-less-2 : tie.Need-loop-less-2 Inv-loop μ-loop
 loop-less-2 c =
@@ -81,7 +81,7 @@ loop-again-2 : tie.Need-loop-again-2 Inv-loop μ-loop
 loop-again-2 c =
     let l = c .before .before .before .before .before .before .before .before .loop in
     let k = c .before .before .before .block-lines .ensures in
-    ride-lines _ _ _ _ _ _ (l .x) (l .out) (l .inv) _ _ (k .0) (k .1 (c .if2 .left) .0)
+    blocks-put-lines _ _ _ _ _ _ (l .x) (l .out) (l .inv) _ _ (k .0) (k .1 (c .if2 .left) .0)
 
 pub blocks-spec : {M : Type 1} → statement M
 blocks-spec =

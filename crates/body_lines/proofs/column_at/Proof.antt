@@ -4,7 +4,7 @@ use borrow.Author.Needs.{needs}
 use native.Mathlib.Omega.{arith}
 use mathlib.Core.Path.{ap, _∙_}
 use Rattle.line_record.specs.Record.{columnIf}
-use Rattle.body_lines.specs.StretchLaws.{part-word, no-columns}
+use Rattle.body_lines.specs.BodyLinesLaws.{part-word, no-columns}
 use Rattle.body_lines.proofs.column_at.Statement.{statement}
 use Rattle.body_lines.proofs.column_at.Tie as tie
 

@@ -4,7 +4,7 @@ use native.Mathlib.Omega.{arith}
 use Rattle.line_step.specs.declared.Place.{Place}
 use borrow.Author.Tests.{eqb-false}
 use mathlib.Core.Path.{ap}
-use Rattle.body_lines.specs.StretchLaws.{columns-as, held-most, held-size, ran-first}
+use Rattle.body_lines.specs.BodyLinesLaws.{columns-as, held-most, held-size, block-put-first}
 use borrow.Author.Needs.{needs}
 use Rattle.body_lines.proofs.first_line.Statement.{statement}
 use Rattle.body_lines.proofs.first_line.Tie as tie
@@ -21,8 +21,8 @@ column-at-requires c κs = search needs
 put-held-requires : tie.Need-put-held-requires
 put-held-requires c κs = search needs
 
-stretch-requires : tie.Need-stretch-requires
-stretch-requires c κs =
+put-lines-requires : tie.Need-put-lines-requires
+put-lines-requires c κs =
     let q = c .before .before .before in
     let a = q .before .before .before .before .before .before .before .before .before .args in
     let r = q .before .before .before .before .before .before .before .before .before .pre in
@@ -47,8 +47,8 @@ returns c =
     let a = q .before .before .before .before .before .before .before .before .before .args in
     let r = q .before .before .before .before .before .before .before .before .before .pre in
     let w = columns-as _ _ _ _ (q .before .before .before .has-columns .ensures) (q .before .before .column-at .ensures) in
-    let x = y .stretch .ensures in
-    (ran-first (a .area .now) (a .room) (a .p) (a .held) (a .n) (a .out .now) (r .0) (omega (arith, r .1 .0)) (omega (arith, r .1 .0)) _ _ _ _ _ (r .1 .1) w (omega (arith, r .1 .0)) (q .put-held .ensures) _ _ _ _ _ x (c .before .before .at-line .ensures) (c .before .record-in .ensures), λ e. (omega (arith, x .most, eqb-false), omega (arith, ap (λ (k : Place). k .lines) (c .before .before .at-line .ensures), x .on, r .1 .0)))
+    let x = y .put-lines .ensures in
+    (block-put-first (a .area .now) (a .room) (a .p) (a .held) (a .n) (a .out .now) (r .0) (omega (arith, r .1 .0)) (omega (arith, r .1 .0)) _ _ _ _ _ (r .1 .1) w (omega (arith, r .1 .0)) (q .put-held .ensures) _ _ _ _ _ x (c .before .before .at-line .ensures) (c .before .record-in .ensures), λ e. (omega (arith, x .most, eqb-false), omega (arith, ap (λ (k : Place). k .lines) (c .before .before .at-line .ensures), x .on, r .1 .0)))
 
 pub first-line-spec : {M : Type 1} → statement M
 first-line-spec =
@@ -58,7 +58,7 @@ first-line-spec =
     has-columns-requires
     column-at-requires
     put-held-requires
-    stretch-requires
+    put-lines-requires
     at-line-requires
     record-in-requires
     same-length

@@ -1,8 +1,8 @@
--- `body_lines::fits` meets its contract: each test is one of `Fit`.
+-- `body_lines::fits` meets its contract: each test is one of `LinesFit`.
 -- Assumes nothing.
 use native.Mathlib.Omega.{arith}
 use borrow.Author.Tests.{leb-true}
-use Rattle.body_lines.specs.StretchLaws.{false-not, fit-from}
+use Rattle.body_lines.specs.BodyLinesLaws.{false-not, lines-fit-from}
 use Rattle.body_lines.proofs.fits.Statement.{statement}
 use Rattle.body_lines.proofs.fits.Tie as tie
 
@@ -24,7 +24,7 @@ returns-5 c = false-not
 returns-6 : tie.Need-returns-6
 returns-6 c = λ e.
     let a = c .before .before .before .before .before .before .before .before .before .args in
-    fit-from (a .area .now) (a .p) (omega arith) (omega arith) (omega arith) (omega arith) (omega arith) (leb-true _ _ e)
+    lines-fit-from (a .area .now) (a .p) (omega arith) (omega arith) (omega arith) (omega arith) (omega arith) (leb-true _ _ e)
 
 pub fits-spec : {M : Type 1} → statement M
 fits-spec = tie.close (tie.spec returns returns-2 returns-3 returns-4 returns-5 returns-6)

@@ -4,7 +4,7 @@ use borrow.Author.Needs.{needs}
 use native.Mathlib.Omega.{arith}
 use Prim.Native.Nat.{_+_}
 use mathlib.Core.Path.{_∙_}
-use Rattle.body_lines.specs.StretchLaws.{part-word}
+use Rattle.body_lines.specs.BodyLinesLaws.{part-word}
 use Rattle.body_lines.proofs.line_at.Statement.{statement}
 use Rattle.body_lines.proofs.line_at.Tie as tie
 

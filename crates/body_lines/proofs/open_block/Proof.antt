@@ -5,7 +5,7 @@ use mathlib.Core.Path.{sym, ap, _∙_}
 use lib.Seq.{length-take-le}
 use Rattle.lines.specs.Told.{toldBlock}
 use Rattle.lines.specs.BlocksLaws.{block-in}
-use Rattle.body_lines.specs.StretchLaws.{opened-at, opened-end}
+use Rattle.body_lines.specs.BodyLinesLaws.{opened-at, opened-end}
 use borrow.Author.Needs.{needs}
 use Rattle.body_lines.proofs.open_block.Statement.{statement}
 use Rattle.body_lines.proofs.open_block.Tie as tie

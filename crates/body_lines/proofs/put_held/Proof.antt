@@ -1,6 +1,6 @@
 -- `body_lines::put_held` meets its contract: each case is one of `HeldPut`.
 -- Assumes nothing.
-use Rattle.body_lines.specs.StretchLaws.{held-none, held-some}
+use Rattle.body_lines.specs.BodyLinesLaws.{held-none, held-some}
 use borrow.Author.Needs.{needs}
 use Rattle.body_lines.proofs.put_held.Statement.{statement}
 use Rattle.body_lines.proofs.put_held.Tie as tie

@@ -1,4 +1,4 @@
--- `many_lines::bodies` meets its contract. The invariant: the walk went from where it began to the place p of a body, or to between two (`Went`). The
+-- `many_lines::bodies` meets its contract. The invariant: the walk went from where it began to the place p of a body, or to between two (`BodiesPut`). The
 -- measure: the subsections left, and whether it is inside one.
 -- Assumes nothing.
 use borrow.Author.Needs.{needs}
@@ -8,14 +8,14 @@ use mathlib.Core.Path.{refl, subst}
 use mathlib.Core.Bool.{true, false}
 use lib.ListN.{length}
 use Rattle.refusal.specs.Told.{longest}
-use Rattle.many_lines.specs.Went.{standsAt, Leaves, EndedIs, EntersTo, EnteredIs, Went}
-use Rattle.many_lines.specs.WentLaws.{toGo, go-first, go-turn, went-same, went-at, went-stuck, went-used, went-enter}
+use Rattle.many_lines.specs.Bodies.{standsAt, Leaves, EndedIs, EntersTo, EnteredIs, BodiesPut}
+use Rattle.many_lines.specs.BodiesLaws.{toGo, go-first, go-turn, bodies-put-same, bodies-put-at, bodies-put-stuck, bodies-put-used, bodies-put-enter}
 use Rattle.many_lines.proofs.bodies.Statement.{statement}
 use Rattle.many_lines.proofs.bodies.Tie as tie
 
 abbrev Inv-loop : tie.InvT-loop
 Inv-loop area slots whole n0 room within out₀ n₀ inside₀ p₀ t₀ out n inside p t =
-    Went area slots whole room n₀ (standsAt inside₀ p₀ t₀) out₀ (record { n = n; walk = standsAt inside p t }) out × (n < room) × (length area ≤ longest)
+    BodiesPut area slots whole room n₀ (standsAt inside₀ p₀ t₀) out₀ (record { n = n; walk = standsAt inside p t }) out × (n < room) × (length area ≤ longest)
 
 abbrev μ-loop : tie.MeasureT-loop
 μ-loop area slots whole n0 room within out₀ n₀ inside₀ p₀ t₀ out n inside p t = toGo inside (t .left)
@@ -23,7 +23,7 @@ abbrev μ-loop : tie.MeasureT-loop
 loop-holds : tie.Need-loop-holds Inv-loop μ-loop
 loop-holds c =
     let p = c .before .before .before .pre in
-    (went-same _ _ _ _ _ _ _ (p .0) _ refl, p .1 .0, p .1 .1)
+    (bodies-put-same _ _ _ _ _ _ _ (p .0) _ refl, p .1 .0, p .1 .1)
 
 loop-less : tie.Need-loop-less Inv-loop μ-loop
 loop-less c =
@@ -39,7 +39,7 @@ loop-again c =
     let l = b .before .before .loop in
     let r = a .before .body-lines .ensures in
     let k : Leaves _ _ _ = subst (EndedIs _ _) (c .before .v .given .1) (m .before .end-body .ensures) in
-    (went-used _ _ _ _ _ _ _ (l .n) (l .out) (l .p) (l .t) _ _ _ (went-at _ _ _ _ _ _ _ _ true (b .before .if1 .taken) (l .n) (l .p) (l .t) (l .out) (l .inv .0)) r k, r .used (k .free) .less, l .inv .2)
+    (bodies-put-used _ _ _ _ _ _ _ (l .n) (l .out) (l .p) (l .t) _ _ _ (bodies-put-at _ _ _ _ _ _ _ _ true (b .before .if1 .taken) (l .n) (l .p) (l .t) (l .out) (l .inv .0)) r k, r .used (k .free) .less, l .inv .2)
 
 returns : tie.Need-returns Inv-loop μ-loop
 returns c =
@@ -47,12 +47,12 @@ returns c =
     let a = m .before .before .before in
     let b = a .before .before in
     let l = b .before .loop in
-    went-stuck _ _ _ _ _ _ _ (l .n) (l .out) (l .p) (l .t) _ _ _ (went-at _ _ _ _ _ _ _ _ true (b .if1 .taken) (l .n) (l .p) (l .t) (l .out) (l .inv .0)) (a .body-lines .ensures) (subst (EndedIs _ _) (c .before .before .u .given .1) (m .end-body .ensures))
+    bodies-put-stuck _ _ _ _ _ _ _ (l .n) (l .out) (l .p) (l .t) _ _ _ (bodies-put-at _ _ _ _ _ _ _ _ true (b .if1 .taken) (l .n) (l .p) (l .t) (l .out) (l .inv .0)) (a .body-lines .ensures) (subst (EndedIs _ _) (c .before .before .u .given .1) (m .end-body .ensures))
 
 next-body-requires : tie.Need-next-body-requires Inv-loop μ-loop
 next-body-requires c κs =
     let l = c .before .loop in
-    went-at _ _ _ _ _ _ _ _ false (c .if1 .left) (l .n) (l .p) (l .t) (l .out) (l .inv .0) .led
+    bodies-put-at _ _ _ _ _ _ _ _ false (c .if1 .left) (l .n) (l .p) (l .t) (l .out) (l .inv .0) .leads
 
 loop-less-2 : tie.Need-loop-less-2 Inv-loop μ-loop
 loop-less-2 c =
@@ -65,12 +65,12 @@ loop-again-2 c =
     let b = c .before .before .before in
     let l = b .before .before .loop in
     let z : EntersTo _ _ _ _ = subst (EnteredIs _ _) (c .before .a .given .1) (b .next-body .ensures) in
-    (went-enter _ _ _ _ _ _ _ _ _ _ _ _ (l .inv .2) (l .inv .1) (went-at _ _ _ _ _ _ _ _ false (b .before .if1 .left) (l .n) (l .p) (l .t) (l .out) (l .inv .0)) z, l .inv .1, l .inv .2)
+    (bodies-put-enter _ _ _ _ _ _ _ _ _ _ _ _ (l .inv .2) (l .inv .1) (bodies-put-at _ _ _ _ _ _ _ _ false (b .before .if1 .left) (l .n) (l .p) (l .t) (l .out) (l .inv .0)) z, l .inv .1, l .inv .2)
 
 returns-2 : tie.Need-returns-2 Inv-loop μ-loop
 returns-2 c =
     let l = c .before .before .before .before .loop in
-    went-at _ _ _ _ _ _ _ _ false (c .before .before .before .if1 .left) (l .n) (l .p) (l .t) (l .out) (l .inv .0)
+    bodies-put-at _ _ _ _ _ _ _ _ false (c .before .before .before .if1 .left) (l .n) (l .p) (l .t) (l .out) (l .inv .0)
 
 pub bodies-spec : {M : Type 1} → statement M
 bodies-spec =

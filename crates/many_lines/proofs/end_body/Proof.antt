@@ -3,7 +3,7 @@
 use borrow.Author.Needs.{needs}
 use native.Mathlib.Omega.{arith}
 use Rattle.line_step.specs.Turn.{withHeld}
-use Rattle.many_lines.specs.WentLaws.{ends-nothing, ends-one}
+use Rattle.many_lines.specs.BodiesLaws.{ends-nothing, ends-one}
 use Rattle.many_lines.proofs.end_body.Statement.{statement}
 use Rattle.many_lines.proofs.end_body.Tie as tie
 

@@ -3,7 +3,7 @@
 use borrow.Author.Needs.{needs}
 use native.Mathlib.Omega.{arith}
 use native.Mathlib.Nat.{add-sub-cancel-left}
-use Rattle.many_lines.specs.WentLaws.{enters-in}
+use Rattle.many_lines.specs.BodiesLaws.{enters-in}
 use Rattle.many_lines.proofs.enter_body.Statement.{statement}
 use Rattle.many_lines.proofs.enter_body.Tie as tie
 

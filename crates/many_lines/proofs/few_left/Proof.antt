@@ -2,7 +2,7 @@
 -- Assumes nothing.
 use borrow.Author.Needs.{needs}
 use mathlib.Core.Path.{sym, ap}
-use Rattle.many_lines.specs.Led.{fewLeft}
+use Rattle.many_lines.specs.ByList.{fewLeft}
 use Rattle.many_lines.proofs.few_left.Statement.{statement}
 use Rattle.many_lines.proofs.few_left.Tie as tie
 

@@ -3,7 +3,7 @@
 use borrow.Author.Needs.{needs}
 use native.Mathlib.Omega.{arith}
 use Prim.Native.Nat.{_+_}
-use Rattle.body_lines.specs.StretchLaws.{part-word}
+use Rattle.body_lines.specs.BodyLinesLaws.{part-word}
 use Rattle.many_lines.proofs.first_look.Statement.{statement}
 use Rattle.many_lines.proofs.first_look.Tie as tie
 

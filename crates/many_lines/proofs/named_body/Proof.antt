@@ -5,8 +5,8 @@ use native.Mathlib.Omega.{arith}
 use mathlib.Core.Path.{refl, subst}
 use mir.Facts.{fits-32-64}
 use Rattle.lines.specs.SlotsLaws.{slot-missing}
-use Rattle.many_lines.specs.Went.{Look, LookedIs}
-use Rattle.many_lines.specs.WentLaws.{look-slot}
+use Rattle.many_lines.specs.Bodies.{Look, LookedIs}
+use Rattle.many_lines.specs.BodiesLaws.{look-slot}
 use Rattle.many_lines.proofs.named_body.Statement.{statement}
 use Rattle.many_lines.proofs.named_body.Tie as tie
 

@@ -5,7 +5,7 @@ use native.Mathlib.Omega.{arith}
 use mathlib.Core.Path.{sym, ap, _∙_}
 use Rattle.lines.specs.Told.{toldNamed}
 use Rattle.lines.specs.SlotsLaws.{slot-inside}
-use Rattle.many_lines.specs.WentLaws.{enters-next}
+use Rattle.many_lines.specs.BodiesLaws.{enters-next}
 use Rattle.many_lines.proofs.next_body.Statement.{statement}
 use Rattle.many_lines.proofs.next_body.Tie as tie
 

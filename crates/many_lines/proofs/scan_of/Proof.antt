@@ -2,7 +2,7 @@
 -- Assumes nothing.
 use borrow.Author.Needs.{needs}
 use mathlib.Core.Path.{sym, ap}
-use Rattle.many_lines.specs.Led.{scanOf}
+use Rattle.many_lines.specs.ByList.{scanOf}
 use Rattle.many_lines.proofs.scan_of.Statement.{statement}
 use Rattle.many_lines.proofs.scan_of.Tie as tie
 

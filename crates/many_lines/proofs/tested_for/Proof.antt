@@ -2,7 +2,7 @@
 -- Assumes nothing.
 use borrow.Author.Needs.{needs}
 use mathlib.Core.Path.{sym, _∙_}
-use Rattle.many_lines.specs.LedLaws.{for-few, for-many}
+use Rattle.many_lines.specs.ByListLaws.{for-few, for-many}
 use Rattle.many_lines.proofs.tested_for.Statement.{statement}
 use Rattle.many_lines.proofs.tested_for.Tie as tie
 

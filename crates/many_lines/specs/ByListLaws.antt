@@ -32,10 +32,10 @@ use Rattle.line_step.specs.declared.LineWalk.the-variants.{New, Between, Inside
 use Rattle.line_step.specs.Turn.{LineMove, lineEntryAt, withHeld, pastLine, holdIn, lineOf, endIn, blockOf, insideTurn, enterAt, namedOf, finishIn, betweenTurn, openOf, turnIn, turnOf}
 use Rattle.list_test.specs.Begin.{tested, beginAt}
 use Rattle.list_test.specs.BeginLaws.{begin-past, begin-scans, tested-right, tested-counted}
-use Rattle.many_lines.specs.Led.{scanOf, fewLeft, testedFor, withScan, ledRest}
+use Rattle.many_lines.specs.ByList.{scanOf, fewLeft, testedFor, withScan, restByList}
 
 -- if n is not 0 it is what a test of the list answered, at some place, and the walk's place is one at which a search may begin
-pub record Led (rule : ℕ → Sort) (s v : List ℕ) (n : ℕ) (w : LineWalk) : Type 0 where
+pub record ListLeads (rule : ℕ → Sort) (s v : List ℕ) (n : ℕ) (w : LineWalk) : Type 0 where
   pub place : ℕ
   pub whole : 0 < n → n ≡ tested rule s v place
   pub right : 0 < n → Scans rule s (scanOf w)
@@ -49,15 +49,15 @@ module _ (rule : ℕ → Sort) (s v : List ℕ) (n : ℕ) where
   named-same t p nothing = refl
   named-same t p (refused e) = refl
 
-  pub begin-same : (t : Rest) → Led rule s v n (Between t) → slotAt rule s v (t .slot) (beginAt v n (t .slot) (t .scan)) ≡ slotAt rule s v (t .slot) (t .scan)
+  pub begin-same : (t : Rest) → ListLeads rule s v n (Between t) → slotAt rule s v (t .slot) (beginAt v n (t .slot) (t .scan)) ≡ slotAt rule s v (t .slot) (t .scan)
   begin-same t h = ⊎-elim
       (λ (z : n ≤ 0). ap (slotAt rule s v (t .slot)) (sym (begin-past v n (t .slot) (t .scan) (omega arith))))
       (λ (z : 0 < n).
       slot-same rule s v (t .slot) (beginAt v n (t .slot) (t .scan)) (t .scan) (begin-scans rule s v (h .place) n (t .slot) (t .scan) (beginAt v n (t .slot) (t .scan)) (h .whole z) (h .right z) refl) (h .right z))
       (le-or-gt n 0)
 
-  between-same : (t : Rest) → Led rule s v n (Between t) → betweenTurn rule s v (ledRest v n t) ≡ betweenTurn rule s v t
-  unfolding betweenTurn ledRest
+  between-same : (t : Rest) → ListLeads rule s v n (Between t) → betweenTurn rule s v (restByList v n t) ≡ betweenTurn rule s v t
+  unfolding betweenTurn restByList
   between-same t h = both (eqb (t .left) 0) refl
     where
       both : (c : Bool) → eqb (t .left) 0 ≡ c
@@ -71,25 +71,25 @@ module _ (rule : ℕ → Sort) (s v : List ℕ) (n : ℕ) where
           ∙ ap (λ k. cond k (finishIn (t .held) t) (namedOf s t (slotAt rule s v (t .slot) (t .scan)))) (sym e)
 
   -- the same as code has it: u is the rest that is led, and x what the turn tells
-  pub led-turn-is : (t u : Rest) (x : LineMove) → Led rule s v n (Between t) → u ≡ ledRest v n t → x ≡ turnOf rule s v (Between u) → x ≡ turnOf rule s v (Between t)
+  pub turn-by-list-is : (t u : Rest) (x : LineMove) → ListLeads rule s v n (Between t) → u ≡ restByList v n t → x ≡ turnOf rule s v (Between u) → x ≡ turnOf rule s v (Between t)
   unfolding turnOf
-  led-turn-is t u x h e q =
+  turn-by-list-is t u x h e q =
       q ∙ ap (λ y. turnOf rule s v (Between y)) e ∙ ap (λ y. cond (ltb longest (length s)) (fail (told why.TooLong)) y) (between-same t h)
 
   -- what was tested is how many line bodies there are
-  pub led-counted : (w : LineWalk) → Led rule s v n w → 0 < n → gave n ≡ countLines rule s
-  led-counted w h z = tested-counted rule s v (h .place) n (h .whole z) z
+  pub list-leads-counted : (w : LineWalk) → ListLeads rule s v n w → 0 < n → gave n ≡ countLines rule s
+  list-leads-counted w h z = tested-counted rule s v (h .place) n (h .whole z) z
 
 -- ---- each way out of the code's tests
 
 module _ (v : List ℕ) (n : ℕ) where
   module _ (t : Rest) where
-    pub rest-last : t .left ≡ 0 → t ≡ ledRest v n t
-    unfolding ledRest
+    pub rest-last : t .left ≡ 0 → t ≡ restByList v n t
+    unfolding restByList
     rest-last h = simp tests
 
-    pub rest-more : (t .left ≡ 0 → ⊥) → (p : ℕ) → p ≡ beginAt v n (t .slot) (t .scan) → withScan t p ≡ ledRest v n t
-    unfolding ledRest
+    pub rest-more : (t .left ≡ 0 → ⊥) → (p : ℕ) → p ≡ beginAt v n (t .slot) (t .scan) → withScan t p ≡ restByList v n t
+    unfolding restByList
     rest-more h p e = ap (withScan t) e ∙ sym (simp tests)
 
 -- ---- the turns keep the place
@@ -160,22 +160,22 @@ module _ (rule : ℕ → Sort) (s v : List ℕ) where
   unfolding turnOf
   keeps w g = by-cases Kept (ltb longest (length s)) (λ e. tt) (λ e. turn-right w g)
 
-  module _ (n : ℕ) (w : LineWalk) (h : Led rule s v n w) where
-    led-to : (u : LineMove) → (0 < n → To u Right) → To u (Led rule s v n)
-    led-to (item r t) f = record { place = h .place; whole = h .whole; right = f }
-    led-to (pass t) f = record { place = h .place; whole = h .whole; right = f }
-    led-to over f = tt
-    led-to (fail e) f = tt
+  module _ (n : ℕ) (w : LineWalk) (h : ListLeads rule s v n w) where
+    list-leads-to : (u : LineMove) → (0 < n → To u Right) → To u (ListLeads rule s v n)
+    list-leads-to (item r t) f = record { place = h .place; whole = h .whole; right = f }
+    list-leads-to (pass t) f = record { place = h .place; whole = h .whole; right = f }
+    list-leads-to over f = tt
+    list-leads-to (fail e) f = tt
 
-    pub led-kept : (u : LineMove) → u ≡ turnOf rule s v w → To u (Led rule s v n)
-    led-kept u e = led-to u (λ z. subst⁻¹ Kept e (keeps w (h .right z)))
+    pub list-leads-kept : (u : LineMove) → u ≡ turnOf rule s v w → To u (ListLeads rule s v n)
+    list-leads-kept u e = list-leads-to u (λ z. subst⁻¹ Kept e (keeps w (h .right z)))
 
   -- what is tested for a walk leads it
-  pub led-start : (w : LineWalk) (n : ℕ) → n ≡ testedFor rule s v w → Led rule s v n w
+  pub list-leads-start : (w : LineWalk) (n : ℕ) → n ≡ testedFor rule s v w → ListLeads rule s v n w
   unfolding testedFor
-  led-start w n e = by (fewLeft w) refl
+  list-leads-start w n e = by (fewLeft w) refl
     where
-      by : (t : Bool) → fewLeft w ≡ t → Led rule s v n w
+      by : (t : Bool) → fewLeft w ≡ t → ListLeads rule s v n w
       by true q =
           let z : n ≡ 0 = e ∙ ap (λ (t : Bool). cond t 0 (tested rule s v (scanOf w))) q in
           record { place = 0; whole = λ h. absurd (omega arith); right = λ h. absurd (omega arith) }

@@ -1,11 +1,11 @@
--- `body_lines::stride` meets its contract: the held record is put as its end closes it, and the line's words are kept.
+-- `body_lines::put_line` meets its contract: the held record is put as its end closes it, and the line's words are kept.
 -- Assumes nothing.
 use mathlib.Core.Path.{refl}
 use native.Mathlib.Omega.{arith}
-use Rattle.body_lines.specs.StretchLaws.{columns-as, put-closed}
+use Rattle.body_lines.specs.BodyLinesLaws.{columns-as, put-closed}
 use borrow.Author.Needs.{needs}
-use Rattle.body_lines.proofs.stride.Statement.{statement}
-use Rattle.body_lines.proofs.stride.Tie as tie
+use Rattle.body_lines.proofs.put_line.Statement.{statement}
+use Rattle.body_lines.proofs.put_line.Tie as tie
 
 mul-at : tie.Need-mul-at
 mul-at c = search needs
@@ -55,8 +55,8 @@ returns c =
       words = put-closed _ _ _ _ _ _ _ _ (c .before .before .before .before .before .record-in .ensures) (c .before .before .before .closed .ensures) (c .before .before .put-words .ensures);
     }
 
-pub stride-spec : {M : Type 1} → statement M
-stride-spec =
+pub put-line-spec : {M : Type 1} → statement M
+put-line-spec =
     tie.close
     (tie.spec
     mul-at

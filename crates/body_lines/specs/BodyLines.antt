@@ -21,11 +21,11 @@ use Rattle.line_step.specs.declared.Rest.{Rest}
 use Rattle.line_step.specs.declared.Place.{Place}
 use Rattle.line_step.specs.declared.LineWalk.{LineWalk}
 use Rattle.line_step.specs.declared.LineWalk.the-variants.{Inside}
-use Rattle.body_lines.specs.declared.Plain.{Plain}
-use Rattle.body_lines.specs.declared.Lined.{Lined}
+use Rattle.body_lines.specs.declared.LineHeld.{LineHeld}
+use Rattle.body_lines.specs.declared.InBody.{InBody}
 use Rattle.body_lines.specs.declared.Opened.{Opened}
 use Rattle.body_lines.specs.declared.Opened.the-variants as opened
-use Rattle.body_lines.specs.GoesLaws.{Goes}
+use Rattle.body_lines.specs.TurnsLaws.{TurnsPut}
 
 -- the place behind i lines more of its block
 abbrev pub atLine : Place → ℕ → Place
@@ -33,35 +33,35 @@ atLine p i =
     record { head = p .head; end = p .end; next = p .next; file = p .file; lines = p .lines - i; line = p .line + 8 * i; column = p .column + 4 * i }
 
 -- the record of an entry whose sum and words these are
-abbrev pub plainOf : Place → ℕ → ℕ → ℕ → LineRecord
-plainOf p offset flags word = recordOf (sourceOf p) offset flags (columnIf (sourceOf p .columns) word)
+abbrev pub heldRecord : Place → ℕ → ℕ → ℕ → LineRecord
+heldRecord p offset flags word = recordOf (sourceOf p) offset flags (columnIf (sourceOf p .columns) word)
 
 -- the lines of the place, and their columns, lie in its body, and that in the area s
-pub record Fit (s : List ℕ) (p : Place) : Type 0 where
+pub record LinesFit (s : List ℕ) (p : Place) : Type 0 where
   pub short : length s ≤ longest
   pub body : p .end ≤ length s
   pub lines : p .line + 8 * p .lines ≤ p .end
   pub columns : p .column + 4 * p .lines ≤ p .end
 
 -- from x to y over a line that gives a record, whose words are a and g, the words o being o′ then
-pub record Stride (s : List ℕ) (p : Place) (x : Plain) (a g : ℕ) (o : List ℕ) (y : Plain) (o′ : List ℕ) : Type 0 where
+pub record LinePut (s : List ℕ) (p : Place) (x : LineHeld) (a g : ℕ) (o : List ℕ) (y : LineHeld) (o′ : List ℕ) : Type 0 where
   pub n : y .n ≡ x .n + 1
   pub done : y .done ≡ x .done + 1
   pub offset : y .offset ≡ p .head .offset + a
   pub flags : y .flags ≡ g
   pub word : columnIf (columned (p .head .flags)) (y .word) ≡ columnIf (columned (p .head .flags)) (u32At s (p .column + 4 * x .done))
-  pub words : o′ ≡ store o (12 * x .n) (recordWords (closedAt (p .head .section) (p .head .offset + a) (plainOf p (x .offset) (x .flags) (x .word))))
+  pub words : o′ ≡ store o (12 * x .n) (recordWords (closedAt (p .head .section) (p .head .offset + a) (heldRecord p (x .offset) (x .flags) (x .word))))
 
-abbrev pub insideAt : Place → Rest → Plain → LineWalk
-insideAt p t x = Inside (atLine p (x .done)) (withHeld t (One (plainOf p (x .offset) (x .flags) (x .word))))
+abbrev pub insideAt : Place → Rest → LineHeld → LineWalk
+insideAt p t x = Inside (atLine p (x .done)) (withHeld t (One (heldRecord p (x .offset) (x .flags) (x .word))))
 
 -- from x to y, the words o being o′ then
-pub record Strode (s : List ℕ) (p : Place) (room : ℕ) (x : Plain) (o : List ℕ) (y : Plain) (o′ : List ℕ) : Type 0 where
+pub record LinesPut (s : List ℕ) (p : Place) (room : ℕ) (x : LineHeld) (o : List ℕ) (y : LineHeld) (o′ : List ℕ) : Type 0 where
   pub most : y .n ≤ room
   pub on : x .done ≤ y .done
   pub inside : y .done ≤ p .lines
   pub size : length o′ ≡ length o
-  pub goes : (v : List ℕ) (t : Rest) → Goes s v room (x .n) (insideAt p t x) o (y .n) (insideAt p t y) o′
+  pub turns : (v : List ℕ) (t : Rest) → TurnsPut s v room (x .n) (insideAt p t x) o (y .n) (insideAt p t y) o′
 
 -- how many records are put where `held` is closed by an end, and the words then
 abbrev pub PutAs : Held → ℕ → ℕ → ℕ → List ℕ → ℕ → List ℕ → Type 0
@@ -80,21 +80,21 @@ pub record FirstLine (s : List ℕ) (p : Place) (a g : ℕ) : Type 0 where
 
 -- q is the place in the block behind p
 pub record Opens (s : List ℕ) (p q : Place) : Type 0 where
-  pub fit : Fit s q
+  pub fit : LinesFit s q
   pub head : q .head ≡ p .head
   pub end : q .end ≡ p .end
   pub less : q .end - q .next + 2 * q .lines < p .end - p .next
   pub turn : (t : Rest) → pass (Inside q t) ≡ blockTurn (take (p .end) s) p t
 
 -- from a place of a body, with a held record or none and n records put, to another place of it
-pub record Ran (s : List ℕ) (room : ℕ) (p : Place) (held : Held) (n : ℕ) (o : List ℕ) (r : Lined) (o′ : List ℕ) : Type 0 where
+pub record BlockPut (s : List ℕ) (room : ℕ) (p : Place) (held : Held) (n : ℕ) (o : List ℕ) (r : InBody) (o′ : List ℕ) : Type 0 where
   pub most : r .n ≤ room
   pub size : length o′ ≡ length o
-  pub fit : Fit s (r .place)
+  pub fit : LinesFit s (r .place)
   pub head : r .place .head ≡ p .head
   pub end : r .place .end ≡ p .end
   pub next : r .place .next ≡ p .next
-  pub goes : (v : List ℕ) (t : Rest) → Goes s v room n (Inside p (withHeld t held)) o (r .n) (Inside (r .place) (withHeld t (r .held))) o′
+  pub turns : (v : List ℕ) (t : Rest) → TurnsPut s v room n (Inside p (withHeld t held)) o (r .n) (Inside (r .place) (withHeld t (r .held))) o′
 
 -- what the block behind a place is, the area being s: a turn goes into it, or there is none; where the turn is refused nothing is said
 abbrev pub OpenedIs : List ℕ → Place → Opened → Type 0
@@ -103,16 +103,16 @@ OpenedIs s p opened.End = none ≡ blockAt (columned (p .head .flags)) (take (p 
 OpenedIs s p opened.Stuck = Unit {0}
 
 -- the body is used up, and there is room for another record
-pub record Used (s : List ℕ) (room : ℕ) (r : Lined) : Type 0 where
-  pub fit : Fit s (r .place)
+pub record Used (s : List ℕ) (room : ℕ) (r : InBody) : Type 0 where
+  pub fit : LinesFit s (r .place)
   pub less : r .n < room
   pub lines : r .place .lines ≡ 0
   pub over : none ≡ blockAt (columned (r .place .head .flags)) (take (r .place .end) s) (r .place .next)
 
 -- from a place of a body on, to its end if the walk is not stuck
-pub record Rode (s : List ℕ) (room : ℕ) (p : Place) (held : Held) (n : ℕ) (o : List ℕ) (r : Lined) (o′ : List ℕ) : Type 0 where
+pub record BodyPut (s : List ℕ) (room : ℕ) (p : Place) (held : Held) (n : ℕ) (o : List ℕ) (r : InBody) (o′ : List ℕ) : Type 0 where
   pub size : length o′ ≡ length o
   pub head : r .place .head ≡ p .head
   pub end : r .place .end ≡ p .end
-  pub goes : (v : List ℕ) (t : Rest) → Goes s v room n (Inside p (withHeld t held)) o (r .n) (Inside (r .place) (withHeld t (r .held))) o′
+  pub turns : (v : List ℕ) (t : Rest) → TurnsPut s v room n (Inside p (withHeld t held)) o (r .n) (Inside (r .place) (withHeld t (r .held))) o′
   pub used : r .stuck ≡ false → Used s room r

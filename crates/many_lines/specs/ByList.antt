@@ -1,4 +1,4 @@
--- A walk whose next search begins where a list says that was tested as a whole. No answer depends on it: that the turns are the same is `led-turn` of
+-- A walk whose next search begins where a list says that was tested as a whole. No answer depends on it: that the turns are the same is `turn-by-list` of
 -- LedLaws. The number 16 is a matter of cost.
 -- Definitions only; no public contract cites them.
 use Prim.Native.Nat.{ℕ}
@@ -30,5 +30,5 @@ abbrev pub withScan : Rest → ℕ → Rest
 withScan t p = record { slot = t .slot; left = t .left; scan = p; held = t .held }
 
 -- v being the slots, of which the first n are tested
-unfoldable pub ledRest : List ℕ → ℕ → Rest → Rest
-ledRest v n t = cond (eqb (t .left) 0) t (withScan t (beginAt v n (t .slot) (t .scan)))
+unfoldable pub restByList : List ℕ → ℕ → Rest → Rest
+restByList v n t = cond (eqb (t .left) 0) t (withScan t (beginAt v n (t .slot) (t .scan)))

@@ -28,10 +28,10 @@ use Rattle.line_step.specs.declared.Held.the-variants.{Nothing, One}
 use Rattle.line_step.specs.declared.Rest.{Rest}
 use Rattle.line_step.specs.declared.Place.{Place}
 use Rattle.line_step.specs.declared.LineWalk.the-variants.{Inside}
-use Rattle.body_lines.specs.declared.Plain.{Plain}
-use Rattle.body_lines.specs.declared.Lined.{Lined}
-use Rattle.body_lines.specs.GoesLaws.{Goes, goes-same, goes-pass, goes-record, goes-on}
-use Rattle.body_lines.specs.Stretch.{atLine, plainOf, Fit, Stride, insideAt, Strode, PutAs, HeldPut, FirstLine, Opens, Ran, Rode}
+use Rattle.body_lines.specs.declared.LineHeld.{LineHeld}
+use Rattle.body_lines.specs.declared.InBody.{InBody}
+use Rattle.body_lines.specs.TurnsLaws.{TurnsPut, turns-put-same, turns-put-pass, turns-put-record, turns-put-on}
+use Rattle.body_lines.specs.BodyLines.{atLine, heldRecord, LinesFit, LinePut, insideAt, LinesPut, PutAs, HeldPut, FirstLine, Opens, BlockPut, BodyPut}
 
 -- ---- words of a part
 
@@ -51,12 +51,12 @@ pub put-closed : (o o′ : List ℕ) (at section end : ℕ) (r k x : LineRecord)
 put-closed o o′ at section end r k x er ek eo = eo ∙ ap (λ d. store o at (recordWords d)) (ek ∙ ap (closedAt section end) er)
 
 -- a record as code makes it
-pub record-plain : (p : Place) (offset flags w : ℕ) (x : LineSource) (r : LineRecord) → x ≡ sourceOf p → r ≡ recordOf x offset flags (columnIf (x .columns) w) → r ≡ plainOf p offset flags w
-record-plain p offset flags w x r ex er = er ∙ ap (λ y. recordOf y offset flags (columnIf (y .columns) w)) ex
+pub record-held : (p : Place) (offset flags w : ℕ) (x : LineSource) (r : LineRecord) → x ≡ sourceOf p → r ≡ recordOf x offset flags (columnIf (x .columns) w) → r ≡ heldRecord p offset flags w
+record-held p offset flags w x r ex er = er ∙ ap (λ y. recordOf y offset flags (columnIf (y .columns) w)) ex
 
 -- ---- a line is a turn
 
-module _ (s v : List ℕ) (p : Place) (f : Fit s p) (i : ℕ) (l : i < p .lines) where
+module _ (s v : List ℕ) (p : Place) (f : LinesFit s p) (i : ℕ) (l : i < p .lines) where
   body-length : length (take (p .end) s) ≡ p .end
   body-length = length-take-le (p .end) s (f .body)
 
@@ -90,19 +90,19 @@ module _ (s v : List ℕ) (p : Place) (f : Fit s p) (i : ℕ) (l : i < p .lines)
         ∙ line-turn-is t
 
     turn-line : isMarker g ≡ false → p .head .offset + o ≤ maxOffset → (t : Rest) (h : Held)
-        → holdIn h (plainOf p (p .head .offset + o) g w) (Inside (atLine p (i + 1)) (withHeld t (One (plainOf p (p .head .offset + o) g w))))
+        → holdIn h (heldRecord p (p .head .offset + o) g w) (Inside (atLine p (i + 1)) (withHeld t (One (heldRecord p (p .head .offset + o) g w))))
         ≡ turnOf crateRule s v (Inside (atLine p i) (withHeld t h))
     turn-line m k t h =
-        ap (λ q. holdIn h (plainOf p (p .head .offset + o) g w) (Inside q (withHeld t (One (plainOf p (p .head .offset + o) g w))))) (sym past-line)
+        ap (λ q. holdIn h (heldRecord p (p .head .offset + o) g w) (Inside q (withHeld t (One (heldRecord p (p .head .offset + o) g w))))) (sym past-line)
         ∙ ap (lineOf (atLine p i) (withHeld t h)) (entry-line _ _ _ _ m k ∙ entry-words)
         ∙ line-turn-is (withHeld t h)
 
     pub turn-first : isMarker g ≡ false → p .head .offset + o ≤ maxOffset → (t : Rest)
-        → pass (Inside (atLine p (i + 1)) (withHeld t (One (plainOf p (p .head .offset + o) g w)))) ≡ turnOf crateRule s v (Inside (atLine p i) (withHeld t Nothing))
+        → pass (Inside (atLine p (i + 1)) (withHeld t (One (heldRecord p (p .head .offset + o) g w)))) ≡ turnOf crateRule s v (Inside (atLine p i) (withHeld t Nothing))
     turn-first m k t = turn-line m k t Nothing
 
     pub turn-next : isMarker g ≡ false → p .head .offset + o ≤ maxOffset → (t : Rest) (r : LineRecord)
-        → item (closedAt (p .head .section) (p .head .offset + o) r) (Inside (atLine p (i + 1)) (withHeld t (One (plainOf p (p .head .offset + o) g w))))
+        → item (closedAt (p .head .section) (p .head .offset + o) r) (Inside (atLine p (i + 1)) (withHeld t (One (heldRecord p (p .head .offset + o) g w))))
         ≡ turnOf crateRule s v (Inside (atLine p i) (withHeld t (One r)))
     turn-next m k t r = turn-line m k t (One r)
 
@@ -112,35 +112,35 @@ stored-length o at r o′ e h = ap length (record-is o o′ at r e h) ∙ put-le
 
 -- ---- the loop
 
-module _ (s : List ℕ) (p : Place) (room : ℕ) (x : Plain) (o : List ℕ) where
-  pub strode-start : x .n ≤ room → x .done ≤ p .lines → Strode s p room x o x o
-  strode-start h l = record { most = h; on = omega arith; inside = l; size = refl; goes = λ v t. goes-same s v room }
+module _ (s : List ℕ) (p : Place) (room : ℕ) (x : LineHeld) (o : List ℕ) where
+  pub lines-put-start : x .n ≤ room → x .done ≤ p .lines → LinesPut s p room x o x o
+  lines-put-start h l = record { most = h; on = omega arith; inside = l; size = refl; turns = λ v t. turns-put-same s v room }
 
-  module _ (f : Fit s p) (y : Plain) (o′ : List ℕ) (h : Strode s p room x o y o′) (less : y .n < room) (l : y .done < p .lines) where
-    pub strode-marker : (g : ℕ) → g ≡ u32At s (p .line + 8 * y .done + 4) → isMarker g ≡ true
-        → Strode s p room x o (record { n = y .n; done = y .done + 1; offset = y .offset; flags = y .flags; word = y .word }) o′
-    strode-marker g eg m = record {
+  module _ (f : LinesFit s p) (y : LineHeld) (o′ : List ℕ) (h : LinesPut s p room x o y o′) (less : y .n < room) (l : y .done < p .lines) where
+    pub lines-put-marker : (g : ℕ) → g ≡ u32At s (p .line + 8 * y .done + 4) → isMarker g ≡ true
+        → LinesPut s p room x o (record { n = y .n; done = y .done + 1; offset = y .offset; flags = y .flags; word = y .word }) o′
+    lines-put-marker g eg m = record {
       most = h .most;
       on = omega (arith, h .on);
       inside = omega arith;
       size = h .size;
-      goes = λ v t. goes-on s v room (h .goes v t)
-          (goes-pass s v room less (Inside (atLine p (y .done + 1)) (withHeld t (One (plainOf p (y .offset) (y .flags) (y .word)))))
-          (turn-marker s v p f (y .done) l (u32At s (p .line + 8 * y .done)) g (u32At s (p .column + 4 * y .done)) refl eg refl m (withHeld t (One (plainOf p (y .offset) (y .flags) (y .word))))));
+      turns = λ v t. turns-put-on s v room (h .turns v t)
+          (turns-put-pass s v room less (Inside (atLine p (y .done + 1)) (withHeld t (One (heldRecord p (y .offset) (y .flags) (y .word)))))
+          (turn-marker s v p f (y .done) l (u32At s (p .line + 8 * y .done)) g (u32At s (p .column + 4 * y .done)) refl eg refl m (withHeld t (One (heldRecord p (y .offset) (y .flags) (y .word))))));
     }
 
-    pub strode-line : (a g : ℕ) (z : Plain) (o″ : List ℕ) → a ≡ u32At s (p .line + 8 * y .done) → g ≡ u32At s (p .line + 8 * y .done + 4) → isMarker g ≡ false
-        → p .head .offset + a ≤ maxOffset → 12 * room ≤ length o → Stride s p y a g o′ z o″ → Strode s p room x o z o″
-    strode-line a g z o″ ea eg m k fits d =
-        let r = plainOf p (y .offset) (y .flags) (y .word) in
+    pub lines-put-line : (a g : ℕ) (z : LineHeld) (o″ : List ℕ) → a ≡ u32At s (p .line + 8 * y .done) → g ≡ u32At s (p .line + 8 * y .done + 4) → isMarker g ≡ false
+        → p .head .offset + a ≤ maxOffset → 12 * room ≤ length o → LinePut s p y a g o′ z o″ → LinesPut s p room x o z o″
+    lines-put-line a g z o″ ea eg m k fits d =
+        let r = heldRecord p (y .offset) (y .flags) (y .word) in
         let c = closedAt (p .head .section) (p .head .offset + a) r in
         record {
           most = omega (arith, d .n);
           on = omega (arith, d .done, h .on);
           inside = omega (arith, d .done);
           size = stored-length o′ (12 * y .n) c o″ (d .words) (omega (arith, h .size)) ∙ h .size;
-          goes = λ v t. goes-on s v room (h .goes v t)
-              (rw (d .n, d .done, d .offset, d .flags) (goes-record s v room less c (Inside (atLine p (y .done + 1)) (withHeld t (One (plainOf p (p .head .offset + a) g (z .word))))) o″
+          turns = λ v t. turns-put-on s v room (h .turns v t)
+              (rw (d .n, d .done, d .offset, d .flags) (turns-put-record s v room less c (Inside (atLine p (y .done + 1)) (withHeld t (One (heldRecord p (p .head .offset + a) g (z .word))))) o″
               (turn-next s v p f (y .done) l a g (z .word) ea eg (d .word) m k t r) (d .words)));
         }
 
@@ -157,9 +157,9 @@ pub false-not : {A : Type 0} → false ≡ true → A
 false-not e = let z : _≡_ {A = ℕ} 0 1 = cc in absurd (omega arith)
 
 -- the tests as code makes them
-pub fit-from : (s : List ℕ) (p : Place) → length s ≤ longest → p .end ≤ length s → p .line ≤ p .end → p .lines ≤ (p .end - p .line) / 8 → p .column ≤ p .end
-    → p .lines ≤ (p .end - p .column) / 4 → Fit s p
-fit-from s p a b c d e f = record { short = a; body = b; lines = omega arith; columns = omega arith }
+pub lines-fit-from : (s : List ℕ) (p : Place) → length s ≤ longest → p .end ≤ length s → p .line ≤ p .end → p .lines ≤ (p .end - p .line) / 8 → p .column ≤ p .end
+    → p .lines ≤ (p .end - p .column) / 4 → LinesFit s p
+lines-fit-from s p a b c d e f = record { short = a; body = b; lines = omega arith; columns = omega arith }
 
 -- what is asked of a walk that goes on, where it does not
 pub not-false : {A : Type 0} → true ≡ false → A
@@ -173,29 +173,29 @@ at-none p =
     let c : p .column + 4 * 0 ≡ p .column = omega arith in
     λ j. record { head = p .head; end = p .end; next = p .next; file = p .file; lines = a j; line = b j; column = c j }
 
-fit-on : (s : List ℕ) (p : Place) → Fit s p → (i : ℕ) → i ≤ p .lines → Fit s (atLine p i)
-fit-on s p f i h =
+lines-fit-on : (s : List ℕ) (p : Place) → LinesFit s p → (i : ℕ) → i ≤ p .lines → LinesFit s (atLine p i)
+lines-fit-on s p f i h =
     record { short = f .short; body = f .body; lines = omega (arith, f .lines); columns = omega (arith, f .columns) }
 
-module _ (s : List ℕ) (room : ℕ) (p : Place) (held : Held) (n : ℕ) (o : List ℕ) (f : Fit s p) (less : n < room) where
+module _ (s : List ℕ) (room : ℕ) (p : Place) (held : Held) (n : ℕ) (o : List ℕ) (f : LinesFit s p) (less : n < room) where
   -- it stays
-  pub ran-same : (stuck : Bool) → Ran s room p held n o (record { n = n; place = p; held = held; stuck = stuck }) o
-  ran-same stuck =
-      record { most = omega arith; size = refl; fit = f; head = refl; end = refl; next = refl; goes = λ v t. goes-same s v room }
+  pub block-put-same : (stuck : Bool) → BlockPut s room p held n o (record { n = n; place = p; held = held; stuck = stuck }) o
+  block-put-same stuck =
+      record { most = omega arith; size = refl; fit = f; head = refl; end = refl; next = refl; turns = λ v t. turns-put-same s v room }
 
   module _ (l : 1 ≤ p .lines) where
-    pub ran-marker : (g : ℕ) (q : Place) → g ≡ u32At s (p .line + 4) → isMarker g ≡ true → q ≡ atLine p 1 → Ran s room p held n o (record { n = n; place = q; held = held; stuck = false }) o
-    ran-marker g q eg m eq =
+    pub block-put-marker : (g : ℕ) (q : Place) → g ≡ u32At s (p .line + 4) → isMarker g ≡ true → q ≡ atLine p 1 → BlockPut s room p held n o (record { n = n; place = q; held = held; stuck = false }) o
+    block-put-marker g q eg m eq =
         let e₀ : p .line ≡ p .line + 8 * 0 = omega arith in
         let e : g ≡ u32At s (p .line + 8 * 0 + 4) = eg ∙ ap (λ (x : ℕ). u32At s (x + 4)) e₀ in
         rw eq (record {
           most = omega arith;
           size = refl;
-          fit = fit-on s p f 1 l;
+          fit = lines-fit-on s p f 1 l;
           head = refl;
           end = refl;
           next = refl;
-          goes = λ v t. goes-pass s v room less (Inside (atLine p 1) (withHeld t held))
+          turns = λ v t. turns-put-pass s v room less (Inside (atLine p 1) (withHeld t held))
               (turn-marker s v p f 0 (omega arith) (u32At s (p .line + 8 * 0)) g (u32At s (p .column + 4 * 0)) refl e refl m (withHeld t held)
               ∙ ap (λ x. turnOf crateRule s v (Inside x (withHeld t held))) (at-none p));
         })
@@ -204,7 +204,7 @@ module _ (s : List ℕ) (room : ℕ) (p : Place) (held : Held) (n : ℕ) (o : Li
     module _ (a g w m : ℕ) (o₁ : List ℕ) (d : FirstLine s p a g)
         (ew : columnIf (columned (p .head .flags)) w ≡ columnIf (columned (p .head .flags)) (u32At s (p .column))) (fits : 12 * room ≤ length o)
         (put : HeldPut held (p .head .section) (p .head .offset + a) n o m o₁) where
-      abbrev first : Plain
+      abbrev first : LineHeld
       first = record { n = m; done = 1; offset = p .head .offset + a; flags = g; word = w }
 
       pub held-most : m ≤ room
@@ -221,9 +221,9 @@ module _ (s : List ℕ) (room : ℕ) (p : Place) (held : Held) (n : ℕ) (o : Li
           go Nothing q = ap length (q .1)
           go (One r) q = stored-length o (12 * n) (closedAt (p .head .section) (p .head .offset + a) r) o₁ (q .1) (omega arith)
 
-      first-goes : (v : List ℕ) (t : Rest) (h : Held) → PutAs h (p .head .section) (p .head .offset + a) n o m o₁
-          → Goes s v room n (Inside p (withHeld t h)) o m (insideAt p t first) o₁
-      first-goes v t h q =
+      first-turns : (v : List ℕ) (t : Rest) (h : Held) → PutAs h (p .head .section) (p .head .offset + a) n o m o₁
+          → TurnsPut s v room n (Inside p (withHeld t h)) o m (insideAt p t first) o₁
+      first-turns v t h q =
           let e₀ : p .line ≡ p .line + 8 * 0 = omega arith in
           let e₁ : p .column ≡ p .column + 4 * 0 = omega arith in
           let ea : a ≡ u32At s (p .line + 8 * 0) = d .offset ∙ ap (u32At s) e₀ in
@@ -235,24 +235,24 @@ module _ (s : List ℕ) (room : ℕ) (p : Place) (held : Held) (n : ℕ) (o : Li
           (λ r x. turn-next s v p f 0 l₀ a g w ea eg ec (d .line) (d .sum) x r ∙ ap (λ y. turnOf crateRule s v (Inside y (withHeld x (One r)))) (at-none p))
         where
           go : (h : Held) → PutAs h (p .head .section) (p .head .offset + a) n o m o₁
-              → ((x : Rest) → pass (Inside (atLine p 1) (withHeld x (One (plainOf p (p .head .offset + a) g w)))) ≡ turnOf crateRule s v (Inside p (withHeld x Nothing)))
-              → ((r : LineRecord) (x : Rest) → item (closedAt (p .head .section) (p .head .offset + a) r) (Inside (atLine p 1) (withHeld x (One (plainOf p (p .head .offset + a) g w)))) ≡ turnOf crateRule s v (Inside p (withHeld x (One r))))
-              → Goes s v room n (Inside p (withHeld t h)) o m (insideAt p t first) o₁
-          go Nothing q one two = rw (q .0, q .1) (goes-pass s v room less (insideAt p t first) (one t))
+              → ((x : Rest) → pass (Inside (atLine p 1) (withHeld x (One (heldRecord p (p .head .offset + a) g w)))) ≡ turnOf crateRule s v (Inside p (withHeld x Nothing)))
+              → ((r : LineRecord) (x : Rest) → item (closedAt (p .head .section) (p .head .offset + a) r) (Inside (atLine p 1) (withHeld x (One (heldRecord p (p .head .offset + a) g w)))) ≡ turnOf crateRule s v (Inside p (withHeld x (One r))))
+              → TurnsPut s v room n (Inside p (withHeld t h)) o m (insideAt p t first) o₁
+          go Nothing q one two = rw (q .0, q .1) (turns-put-pass s v room less (insideAt p t first) (one t))
           go (One r) q one two =
-              rw (q .0) (goes-record s v room less (closedAt (p .head .section) (p .head .offset + a) r) (insideAt p t first) o₁ (two r t) (q .1))
+              rw (q .0) (turns-put-record s v room less (closedAt (p .head .section) (p .head .offset + a) r) (insideAt p t first) o₁ (two r t) (q .1))
 
-      pub ran-first : (x : Plain) (o₂ : List ℕ) (q : Place) (r : LineRecord) (stuck : Bool) → Strode s p room first o₁ x o₂ → q ≡ atLine p (x .done)
-          → r ≡ plainOf p (x .offset) (x .flags) (x .word) → Ran s room p held n o (record { n = x .n; place = q; held = One r; stuck = stuck }) o₂
-      ran-first x o₂ q r stuck k eq er =
+      pub block-put-first : (x : LineHeld) (o₂ : List ℕ) (q : Place) (r : LineRecord) (stuck : Bool) → LinesPut s p room first o₁ x o₂ → q ≡ atLine p (x .done)
+          → r ≡ heldRecord p (x .offset) (x .flags) (x .word) → BlockPut s room p held n o (record { n = x .n; place = q; held = One r; stuck = stuck }) o₂
+      block-put-first x o₂ q r stuck k eq er =
           rw (eq, er) (record {
             most = k .most;
             size = k .size ∙ held-size;
-            fit = fit-on s p f (x .done) (k .inside);
+            fit = lines-fit-on s p f (x .done) (k .inside);
             head = refl;
             end = refl;
             next = refl;
-            goes = λ v t. goes-on s v room (first-goes v t held (put .words)) (k .goes v t);
+            turns = λ v t. turns-put-on s v room (first-turns v t held (put .words)) (k .turns v t);
           })
 
 -- ---- the next block
@@ -262,7 +262,7 @@ bytes-columns : (c : Bool) (a n : ℕ) → columnPlace c a n + 4 * n ≤ a + lin
 bytes-columns true a n = omega arith
 bytes-columns false a n = omega arith
 
-module _ (s : List ℕ) (p : Place) (f : Fit s p) (c : Bool) (ec : c ≡ columned (p .head .flags)) where
+module _ (s : List ℕ) (p : Place) (f : LinesFit s p) (c : Bool) (ec : c ≡ columned (p .head .flags)) where
   pub opened-end : none ≡ blockAt c (take (p .end) s) (p .next) → none ≡ blockAt (columned (p .head .flags)) (take (p .end) s) (p .next)
   opened-end e = e ∙ ap (λ x. blockAt x (take (p .end) s) (p .next)) ec
 
@@ -283,66 +283,66 @@ module _ (s : List ℕ) (p : Place) (f : Fit s p) (c : Bool) (ec : c ≡ columne
 -- ---- block after block: what the loop keeps
 
 -- x stands in the body of p, with room for another record
-pub record Riding (s : List ℕ) (room : ℕ) (p : Place) (held : Held) (n : ℕ) (o : List ℕ) (x : Lined) (o′ : List ℕ) : Type 0 where
-  pub fit : Fit s (x .place)
+pub record BlocksPut (s : List ℕ) (room : ℕ) (p : Place) (held : Held) (n : ℕ) (o : List ℕ) (x : InBody) (o′ : List ℕ) : Type 0 where
+  pub fit : LinesFit s (x .place)
   pub less : x .n < room
   pub size : length o′ ≡ length o
   pub head : x .place .head ≡ p .head
   pub end : x .place .end ≡ p .end
-  pub goes : (v : List ℕ) (t : Rest) → Goes s v room n (Inside p (withHeld t held)) o (x .n) (Inside (x .place) (withHeld t (x .held))) o′
+  pub turns : (v : List ℕ) (t : Rest) → TurnsPut s v room n (Inside p (withHeld t held)) o (x .n) (Inside (x .place) (withHeld t (x .held))) o′
 
 module _ (s : List ℕ) (room : ℕ) (p : Place) (held : Held) (n : ℕ) (o : List ℕ) where
-  pub ride-start : Fit s p → n < room → (stuck : Bool) → Riding s room p held n o (record { n = n; place = p; held = held; stuck = stuck }) o
-  ride-start f l stuck = record { fit = f; less = l; size = refl; head = refl; end = refl; goes = λ v t. goes-same s v room }
+  pub blocks-put-start : LinesFit s p → n < room → (stuck : Bool) → BlocksPut s room p held n o (record { n = n; place = p; held = held; stuck = stuck }) o
+  blocks-put-start f l stuck = record { fit = f; less = l; size = refl; head = refl; end = refl; turns = λ v t. turns-put-same s v room }
 
-  module _ (x : Lined) (o′ : List ℕ) (h : Riding s room p held n o x o′) where
+  module _ (x : InBody) (o′ : List ℕ) (h : BlocksPut s room p held n o x o′) where
     block-turn-is : x .place .lines ≡ 0 → (v : List ℕ) (t : Rest) → blockTurn (take (x .place .end) s) (x .place) t ≡ turnOf crateRule s v (Inside (x .place) t)
     block-turn-is z v t =
         inside-block s (x .place) t (h .fit .body) z ∙ turn-is crateRule s v (Inside (x .place) t) (h .fit .short) (Inside (x .place) t) refl
 
-    pub ride-block : x .place .lines ≡ 0 → (q : Place) (stuck : Bool) → Opens s (x .place) q → Riding s room p held n o (record { n = x .n; place = q; held = x .held; stuck = stuck }) o′
-    ride-block z q stuck k = record {
+    pub blocks-put-block : x .place .lines ≡ 0 → (q : Place) (stuck : Bool) → Opens s (x .place) q → BlocksPut s room p held n o (record { n = x .n; place = q; held = x .held; stuck = stuck }) o′
+    blocks-put-block z q stuck k = record {
       fit = k .fit;
       less = h .less;
       size = h .size;
       head = k .head ∙ h .head;
       end = k .end ∙ h .end;
-      goes = λ v t. goes-on s v room (h .goes v t) (goes-pass s v room (h .less) (Inside q (withHeld t (x .held))) (k .turn (withHeld t (x .held)) ∙ block-turn-is z v (withHeld t (x .held))));
+      turns = λ v t. turns-put-on s v room (h .turns v t) (turns-put-pass s v room (h .less) (Inside q (withHeld t (x .held))) (k .turn (withHeld t (x .held)) ∙ block-turn-is z v (withHeld t (x .held))));
     }
 
-    pub ride-lines : (y : Lined) (o″ : List ℕ) → Ran s room (x .place) (x .held) (x .n) o′ y o″ → y .n < room → Riding s room p held n o y o″
-    ride-lines y o″ k l = record {
+    pub blocks-put-lines : (y : InBody) (o″ : List ℕ) → BlockPut s room (x .place) (x .held) (x .n) o′ y o″ → y .n < room → BlocksPut s room p held n o y o″
+    blocks-put-lines y o″ k l = record {
       fit = k .fit;
       less = l;
       size = k .size ∙ h .size;
       head = k .head ∙ h .head;
       end = k .end ∙ h .end;
-      goes = λ v t. goes-on s v room (h .goes v t) (k .goes v t);
+      turns = λ v t. turns-put-on s v room (h .turns v t) (k .turns v t);
     }
 
     -- ---- how it ends
 
-    pub rode-stuck : (y : Lined) (o″ : List ℕ) → Ran s room (x .place) (x .held) (x .n) o′ y o″ → y .stuck ≡ true → Rode s room p held n o y o″
-    rode-stuck y o″ k e = record {
+    pub body-put-stuck : (y : InBody) (o″ : List ℕ) → BlockPut s room (x .place) (x .held) (x .n) o′ y o″ → y .stuck ≡ true → BodyPut s room p held n o y o″
+    body-put-stuck y o″ k e = record {
       size = k .size ∙ h .size;
       head = k .head ∙ h .head;
       end = k .end ∙ h .end;
-      goes = λ v t. goes-on s v room (h .goes v t) (k .goes v t);
+      turns = λ v t. turns-put-on s v room (h .turns v t) (k .turns v t);
       used = λ z. not-false (sym e ∙ z);
     }
 
-    pub rode-refused : Rode s room p held n o (record { n = x .n; place = x .place; held = x .held; stuck = true }) o′
-    rode-refused = record { size = h .size; head = h .head; end = h .end; goes = h .goes; used = not-false }
+    pub body-put-refused : BodyPut s room p held n o (record { n = x .n; place = x .place; held = x .held; stuck = true }) o′
+    body-put-refused = record { size = h .size; head = h .head; end = h .end; turns = h .turns; used = not-false }
 
-    pub rode-used : x .place .lines ≡ 0 → none ≡ blockAt (columned (x .place .head .flags)) (take (x .place .end) s) (x .place .next)
-        → Rode s room p held n o (record { n = x .n; place = x .place; held = x .held; stuck = false }) o′
-    rode-used z e = record {
+    pub body-put-used : x .place .lines ≡ 0 → none ≡ blockAt (columned (x .place .head .flags)) (take (x .place .end) s) (x .place .next)
+        → BodyPut s room p held n o (record { n = x .n; place = x .place; held = x .held; stuck = false }) o′
+    body-put-used z e = record {
       size = h .size;
       head = h .head;
       end = h .end;
-      goes = h .goes;
+      turns = h .turns;
       used = λ q. record { fit = h .fit; less = h .less; lines = z; over = e };
     }
 
-  pub rode-same : Rode s room p held n o (record { n = n; place = p; held = held; stuck = true }) o
-  rode-same = record { size = refl; head = refl; end = refl; goes = λ v t. goes-same s v room; used = not-false }
+  pub body-put-same : BodyPut s room p held n o (record { n = n; place = p; held = held; stuck = true }) o
+  body-put-same = record { size = refl; head = refl; end = refl; turns = λ v t. turns-put-same s v room; used = not-false }

@@ -18,35 +18,35 @@ use Rattle.body_lines.specs.FillLaws.{Fills, turns-pass, turns-record, r
 
 -- a call over the area s and the slots v, at the walk w₀ with the words o₀, has put n records and stands at the walk w; which walk is behind the last
 -- record is known where there is no more room: w itself
-pub record Going (s v : List ℕ) (w₀ : LineWalk) (o₀ : List ℕ) (n : ℕ) (w : LineWalk) (o : List ℕ) : Type 0 where
+pub record UnderWay (s v : List ℕ) (w₀ : LineWalk) (o₀ : List ℕ) (n : ℕ) (w : LineWalk) (o : List ℕ) : Type 0 where
   pub last : LineWalk
   pub fills : Fills crateRule s v w₀ o₀ n last w o
   pub full : length o₀ / 12 ≤ n → last ≡ w
 
 module _ (s v : List ℕ) (room : ℕ) where
   -- every call that stands there, with room for so many records, comes to stand here, with no more to do
-  pub record Goes (n : ℕ) (w : LineWalk) (o : List ℕ) (n′ : ℕ) (w′ : LineWalk) (o′ : List ℕ) : Type 0 where
-    pub going : (w₀ : LineWalk) (o₀ : List ℕ) → length o₀ / 12 ≡ room → Going s v w₀ o₀ n w o → Going s v w₀ o₀ n′ w′ o′
+  pub record TurnsPut (n : ℕ) (w : LineWalk) (o : List ℕ) (n′ : ℕ) (w′ : LineWalk) (o′ : List ℕ) : Type 0 where
+    pub under-way : (w₀ : LineWalk) (o₀ : List ℕ) → length o₀ / 12 ≡ room → UnderWay s v w₀ o₀ n w o → UnderWay s v w₀ o₀ n′ w′ o′
     pub less : todo crateRule s w′ ≤ todo crateRule s w
 
   module _ {n : ℕ} {w : LineWalk} {o : List ℕ} where
-    pub goes-same : Goes n w o n w o
-    goes-same = record { going = λ w₀ o₀ e g. g; less = omega arith }
+    pub turns-put-same : TurnsPut n w o n w o
+    turns-put-same = record { under-way = λ w₀ o₀ e g. g; less = omega arith }
 
     module _ (l : n < room) where
-      pub goes-pass : (t : LineWalk) → pass t ≡ turnOf crateRule s v w → Goes n w o n t o
-      goes-pass t q = record {
-        going = λ w₀ o₀ e g. record { last = g .last; fills = turns-pass crateRule s v w₀ o₀ (g .fills) t q; full = λ f. absurd (omega arith) };
+      pub turns-put-pass : (t : LineWalk) → pass t ≡ turnOf crateRule s v w → TurnsPut n w o n t o
+      turns-put-pass t q = record {
+        under-way = λ w₀ o₀ e g. record { last = g .last; fills = turns-pass crateRule s v w₀ o₀ (g .fills) t q; full = λ f. absurd (omega arith) };
         less = omega (arith, next-falls crateRule s v w t q);
       }
 
-      pub goes-record : (r : LineRecord) (t : LineWalk) (o′ : List ℕ) → item r t ≡ turnOf crateRule s v w → o′ ≡ store o (12 * n) (recordWords r)
-          → Goes n w o (n + 1) t o′
-      goes-record r t o′ q eo = record {
-        going = λ w₀ o₀ e g. record { last = t; fills = turns-record crateRule s v w₀ o₀ (g .fills) r t o′ q (omega arith) eo; full = λ f. refl };
+      pub turns-put-record : (r : LineRecord) (t : LineWalk) (o′ : List ℕ) → item r t ≡ turnOf crateRule s v w → o′ ≡ store o (12 * n) (recordWords r)
+          → TurnsPut n w o (n + 1) t o′
+      turns-put-record r t o′ q eo = record {
+        under-way = λ w₀ o₀ e g. record { last = t; fills = turns-record crateRule s v w₀ o₀ (g .fills) r t o′ q (omega arith) eo; full = λ f. refl };
         less = omega (arith, record-falls crateRule s v w r t q);
       }
 
-    pub goes-on : {n′ n″ : ℕ} {w′ w″ : LineWalk} {o′ o″ : List ℕ} → Goes n w o n′ w′ o′ → Goes n′ w′ o′ n″ w″ o″ → Goes n w o n″ w″ o″
-    goes-on f g =
-        record { going = λ w₀ o₀ e h. g .going w₀ o₀ e (f .going w₀ o₀ e h); less = omega (arith, f .less, g .less) }
+    pub turns-put-on : {n′ n″ : ℕ} {w′ w″ : LineWalk} {o′ o″ : List ℕ} → TurnsPut n w o n′ w′ o′ → TurnsPut n′ w′ o′ n″ w″ o″ → TurnsPut n w o n″ w″ o″
+    turns-put-on f g =
+        record { under-way = λ w₀ o₀ e h. g .under-way w₀ o₀ e (f .under-way w₀ o₀ e h); less = omega (arith, f .less, g .less) }

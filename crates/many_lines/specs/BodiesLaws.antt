@@ -39,14 +39,14 @@ use Rattle.line_walk.specs.Next.{nextOf}
 use Rattle.line_walk.specs.NextLaws.{next-is}
 use Rattle.answer_words.specs.Fill.{noRoom, counted}
 use Rattle.list_test.specs.Begin.{beginAt}
-use Rattle.body_lines.specs.declared.Lined.{Lined}
-use Rattle.body_lines.specs.Stretch.{Used, Rode}
-use Rattle.body_lines.specs.GoesLaws.{Going, Goes, goes-same, goes-pass, goes-on}
+use Rattle.body_lines.specs.declared.InBody.{InBody}
+use Rattle.body_lines.specs.BodyLines.{Used, BodyPut}
+use Rattle.body_lines.specs.TurnsLaws.{UnderWay, TurnsPut, turns-put-same, turns-put-pass, turns-put-on}
 use Rattle.body_lines.specs.FillLaws.{Filled, turns-start, turns-record, turns-full, turns-stop, turns-none, turns-behind}
-use Rattle.many_lines.specs.LedLaws.{Led, begin-same, led-kept}
-use Rattle.many_lines.specs.Went.{standsAt, Look, EndsTo, Leaves, EntersTo, EnteredIs, Went}
+use Rattle.many_lines.specs.ByListLaws.{ListLeads, begin-same, list-leads-kept}
+use Rattle.many_lines.specs.Bodies.{standsAt, Look, EndsTo, Leaves, EntersTo, EnteredIs, BodiesPut}
 use Rattle.many_lines.specs.declared.Entered.{Entered}
-use Rattle.many_lines.specs.declared.Stood.{Stood}
+use Rattle.many_lines.specs.declared.Reached.{Reached}
 
 -- ---- the measure of a loop that goes one of two ways
 
@@ -95,7 +95,7 @@ module _ (s : List ℕ) (t : Rest) (a n : ℕ) where
       → EntersTo (enterAt s t a n) t (placeAt g (a + 12) (a + n)) (restAt t (a + n))
   enters-in h l k g ek eg = record { turn = enter-in s t a n h k g (placeAt g (a + 12) (a + n)) ek eg refl; less = omega arith }
 
-module _ (s v : List ℕ) (whole : ℕ) (t : Rest) (h : Led crateRule s v whole (Between t)) (l : t .left ≡ 0 → ⊥) where
+module _ (s v : List ℕ) (whole : ℕ) (t : Rest) (h : ListLeads crateRule s v whole (Between t)) (l : t .left ≡ 0 → ⊥) where
   -- y is where the search began, and r what the body at a is entered as
   pub enters-next : (y a n : ℕ) (r : Entered) → y ≡ beginAt v whole (t .slot) (t .scan) → gave (record { start = a; len = n }) ≡ slotAt crateRule s v (t .slot) y
       → EnteredIs (enterAt s t a n) t r → EnteredIs (betweenTurn crateRule s v t) t r
@@ -115,61 +115,61 @@ enter-turn s v t q u f z = z .turn ∙ turn-is crateRule s v (Between t) f (Betw
 
 module _ (s v : List ℕ) (whole room n : ℕ) (w : LineWalk) (o : List ℕ) where
   -- none; x is what w is
-  pub went-same : Led crateRule s v whole w → (x : LineWalk) → w ≡ x → Went s v whole room n w o (record { n = n; walk = x }) o
-  went-same h x e = subst (λ y. Went s v whole room n w o (record { n = n; walk = y }) o) e (record { size = refl; led = h; goes = goes-same s v room })
+  pub bodies-put-same : ListLeads crateRule s v whole w → (x : LineWalk) → w ≡ x → BodiesPut s v whole room n w o (record { n = n; walk = x }) o
+  bodies-put-same h x e = subst (λ y. BodiesPut s v whole room n w o (record { n = n; walk = y }) o) e (record { size = refl; leads = h; turns = turns-put-same s v room })
 
-  pub went-as : (x : LineWalk) → w ≡ x → (r : Stood) (o′ : List ℕ) → Went s v whole room n x o r o′ → Went s v whole room n w o r o′
-  went-as x e r o′ h = subst (λ y. Went s v whole room n y o r o′) (sym e) h
+  pub bodies-put-as : (x : LineWalk) → w ≡ x → (r : Reached) (o′ : List ℕ) → BodiesPut s v whole room n x o r o′ → BodiesPut s v whole room n w o r o′
+  bodies-put-as x e r o′ h = subst (λ y. BodiesPut s v whole room n y o r o′) (sym e) h
 
   -- b says whether it is inside a body
-  pub went-at : (b c : Bool) → b ≡ c → (m : ℕ) (p : Place) (t : Rest) (o′ : List ℕ) → Went s v whole room n w o (record { n = m; walk = standsAt b p t }) o′
-      → Went s v whole room n w o (record { n = m; walk = standsAt c p t }) o′
-  went-at b c e m p t o′ = subst (λ x. Went s v whole room n w o (record { n = m; walk = standsAt x p t }) o′) e
+  pub bodies-put-at : (b c : Bool) → b ≡ c → (m : ℕ) (p : Place) (t : Rest) (o′ : List ℕ) → BodiesPut s v whole room n w o (record { n = m; walk = standsAt b p t }) o′
+      → BodiesPut s v whole room n w o (record { n = m; walk = standsAt c p t }) o′
+  bodies-put-at b c e m p t o′ = subst (λ x. BodiesPut s v whole room n w o (record { n = m; walk = standsAt x p t }) o′) e
 
   -- a turn before them
-  pub went-pass : (x : LineWalk) → pass x ≡ turnOf crateRule s v w → n < room → (r : Stood) (o′ : List ℕ) → Went s v whole room n x o r o′ → Went s v whole room n w o r o′
-  went-pass x e l r o′ h = record { size = h .size; led = h .led; goes = goes-on s v room (goes-pass s v room l x e) (h .goes) }
+  pub bodies-put-pass : (x : LineWalk) → pass x ≡ turnOf crateRule s v w → n < room → (r : Reached) (o′ : List ℕ) → BodiesPut s v whole room n x o r o′ → BodiesPut s v whole room n w o r o′
+  bodies-put-pass x e l r o′ h = record { size = h .size; leads = h .leads; turns = turns-put-on s v room (turns-put-pass s v room l x e) (h .turns) }
 
   module _ (m : ℕ) (o′ : List ℕ) where
-    went-lines : (p : Place) (t : Rest) (r : Lined) (o″ : List ℕ) → Went s v whole room n w o (record { n = m; walk = Inside p t }) o′ → Rode s room p (t .held) m o′ r o″
-        → Went s v whole room n w o (record { n = r .n; walk = Inside (r .place) (withHeld t (r .held)) }) o″
-    went-lines p t r o″ h k = record {
+    bodies-put-lines : (p : Place) (t : Rest) (r : InBody) (o″ : List ℕ) → BodiesPut s v whole room n w o (record { n = m; walk = Inside p t }) o′ → BodyPut s room p (t .held) m o′ r o″
+        → BodiesPut s v whole room n w o (record { n = r .n; walk = Inside (r .place) (withHeld t (r .held)) }) o″
+    bodies-put-lines p t r o″ h k = record {
       size = k .size ∙ h .size;
-      led = record { place = h .led .place; whole = h .led .whole; right = h .led .right };
-      goes = goes-on s v room (h .goes) (k .goes v t);
+      leads = record { place = h .leads .place; whole = h .leads .whole; right = h .leads .right };
+      turns = turns-put-on s v room (h .turns) (k .turns v t);
     }
 
-    pub went-stuck : (p : Place) (t : Rest) (r : Lined) (o″ : List ℕ) (u : Rest) → Went s v whole room n w o (record { n = m; walk = Inside p t }) o′
-        → Rode s room p (t .held) m o′ r o″ → u ≡ withHeld t (r .held) → Went s v whole room n w o (record { n = r .n; walk = Inside (r .place) u }) o″
-    went-stuck p t r o″ u h k e = subst (λ x. Went s v whole room n w o (record { n = r .n; walk = Inside (r .place) x }) o″) (sym e) (went-lines p t r o″ h k)
+    pub bodies-put-stuck : (p : Place) (t : Rest) (r : InBody) (o″ : List ℕ) (u : Rest) → BodiesPut s v whole room n w o (record { n = m; walk = Inside p t }) o′
+        → BodyPut s room p (t .held) m o′ r o″ → u ≡ withHeld t (r .held) → BodiesPut s v whole room n w o (record { n = r .n; walk = Inside (r .place) u }) o″
+    bodies-put-stuck p t r o″ u h k e = subst (λ x. BodiesPut s v whole room n w o (record { n = r .n; walk = Inside (r .place) x }) o″) (sym e) (bodies-put-lines p t r o″ h k)
 
     -- a body that is used up
-    went-end : (r : Lined) (u x : Rest) → r .n ≡ m → Used s room r → Went s v whole room n w o (record { n = m; walk = Inside (r .place) u }) o′ → EndsTo (r .place .head) u x
-        → Went s v whole room n w o (record { n = m; walk = Between x }) o′
-    went-end r u x en k h z =
+    bodies-put-end : (r : InBody) (u x : Rest) → r .n ≡ m → Used s room r → BodiesPut s v whole room n w o (record { n = m; walk = Inside (r .place) u }) o′ → EndsTo (r .place .head) u x
+        → BodiesPut s v whole room n w o (record { n = m; walk = Between x }) o′
+    bodies-put-end r u x en k h z =
         let e = z .turn ∙ block-is (take (r .place .end) s) (r .place) u (columned (r .place .head .flags)) refl none (k .over)
         ∙ inside-block s (r .place) u (k .fit .body) (k .lines) ∙ turn-is crateRule s v (Inside (r .place) u) (k .fit .short) (Inside (r .place) u) refl in
         record {
           size = h .size;
-          led = led-kept crateRule s v whole (Inside (r .place) u) (h .led) (pass (Between x)) e;
-          goes = goes-on s v room (h .goes) (goes-pass s v room (omega (arith, k .less)) (Between x) e);
+          leads = list-leads-kept crateRule s v whole (Inside (r .place) u) (h .leads) (pass (Between x)) e;
+          turns = turns-put-on s v room (h .turns) (turns-put-pass s v room (omega (arith, k .less)) (Between x) e);
         }
 
-    pub went-enter : (t : Rest) (q : Place) (u : Rest) → length s ≤ longest → m < room → Went s v whole room n w o (record { n = m; walk = Between t }) o′
-        → EntersTo (betweenTurn crateRule s v t) t q u → Went s v whole room n w o (record { n = m; walk = Inside q u }) o′
-    went-enter t q u f l h z =
+    pub bodies-put-enter : (t : Rest) (q : Place) (u : Rest) → length s ≤ longest → m < room → BodiesPut s v whole room n w o (record { n = m; walk = Between t }) o′
+        → EntersTo (betweenTurn crateRule s v t) t q u → BodiesPut s v whole room n w o (record { n = m; walk = Inside q u }) o′
+    bodies-put-enter t q u f l h z =
         let e = enter-turn s v t q u f z in
         record {
           size = h .size;
-          led = led-kept crateRule s v whole (Between t) (h .led) (pass (Inside q u)) e;
-          goes = goes-on s v room (h .goes) (goes-pass s v room l (Inside q u) e);
+          leads = list-leads-kept crateRule s v whole (Between t) (h .leads) (pass (Inside q u)) e;
+          turns = turns-put-on s v room (h .turns) (turns-put-pass s v room l (Inside q u) e);
         }
 
   -- the lines of a body that is used up then, and its end
-  pub went-used : (m : ℕ) (o′ : List ℕ) (p : Place) (t : Rest) (r : Lined) (o″ : List ℕ) (x : Rest) → Went s v whole room n w o (record { n = m; walk = Inside p t }) o′
-      → Rode s room p (t .held) m o′ r o″ → Leaves r t x
-      → Went s v whole room n w o (record { n = r .n; walk = Between x }) o″
-  went-used m o′ p t r o″ x h k z = went-end (r .n) o″ r (withHeld t (r .held)) x refl (k .used (z .free)) (went-lines m o′ p t r o″ h k) (z .ends)
+  pub bodies-put-used : (m : ℕ) (o′ : List ℕ) (p : Place) (t : Rest) (r : InBody) (o″ : List ℕ) (x : Rest) → BodiesPut s v whole room n w o (record { n = m; walk = Inside p t }) o′
+      → BodyPut s room p (t .held) m o′ r o″ → Leaves r t x
+      → BodiesPut s v whole room n w o (record { n = r .n; walk = Between x }) o″
+  bodies-put-used m o′ p t r o″ x h k z = bodies-put-end (r .n) o″ r (withHeld t (r .held)) x refl (k .used (z .free)) (bodies-put-lines m o′ p t r o″ h k) (z .ends)
 
 -- ---- the walk behind so many records
 
@@ -209,44 +209,44 @@ module _ (s v : List ℕ) (w₀ : LineWalk) (n : ℕ) where
 
 module _ (s v : List ℕ) (w₀ : LineWalk) (o₀ : List ℕ) where
   -- n records are put, and the walk stands at w, which is known to be the one behind the last record where `exact` says so
-  pub record Standing (n : ℕ) (w : LineWalk) (exact : Bool) (o : List ℕ) : Type 0 where
-    pub going : Going s v w₀ o₀ n w o
-    pub exactly : exact ≡ true → going .last ≡ w
+  pub record Reaches (n : ℕ) (w : LineWalk) (exact : Bool) (o : List ℕ) : Type 0 where
+    pub under-way : UnderWay s v w₀ o₀ n w o
+    pub exactly : exact ≡ true → under-way .last ≡ w
 
-  pub stand-start : Standing 0 w₀ true o₀
-  stand-start = record { going = record { last = w₀; fills = turns-start crateRule s v w₀ o₀; full = λ f. refl }; exactly = λ e. refl }
+  pub reach-start : Reaches 0 w₀ true o₀
+  reach-start = record { under-way = record { last = w₀; fills = turns-start crateRule s v w₀ o₀; full = λ f. refl }; exactly = λ e. refl }
 
-  module _ (n : ℕ) (w : LineWalk) (exact : Bool) (o : List ℕ) (h : Standing n w exact o) where
-    pub stand-record : (r : LineRecord) (t : LineWalk) (o′ : List ℕ) → item r t ≡ turnOf crateRule s v w → n < length o₀ / 12 → o′ ≡ store o (12 * n) (recordWords r)
-        → Standing (n + 1) t true o′
-    stand-record r t o′ e l q =
-        record { going = record { last = t; fills = turns-record crateRule s v w₀ o₀ (h .going .fills) r t o′ e l q; full = λ f. refl }; exactly = λ x. refl }
+  module _ (n : ℕ) (w : LineWalk) (exact : Bool) (o : List ℕ) (h : Reaches n w exact o) where
+    pub reach-record : (r : LineRecord) (t : LineWalk) (o′ : List ℕ) → item r t ≡ turnOf crateRule s v w → n < length o₀ / 12 → o′ ≡ store o (12 * n) (recordWords r)
+        → Reaches (n + 1) t true o′
+    reach-record r t o′ e l q =
+        record { under-way = record { last = t; fills = turns-record crateRule s v w₀ o₀ (h .under-way .fills) r t o′ e l q; full = λ f. refl }; exactly = λ x. refl }
 
     -- many turns, or one that passes on
-    pub stand-goes : (room m : ℕ) (t : LineWalk) (o′ : List ℕ) → length o₀ / 12 ≡ room → Goes s v room n w o m t o′ → Standing m t false o′
-    stand-goes room m t o′ er k = record { going = k .going w₀ o₀ er (h .going); exactly = λ z. let y : _≡_ {A = ℕ} 0 1 = cc in absurd (omega arith) }
+    pub reach-goes : (room m : ℕ) (t : LineWalk) (o′ : List ℕ) → length o₀ / 12 ≡ room → TurnsPut s v room n w o m t o′ → Reaches m t false o′
+    reach-goes room m t o′ er k = record { under-way = k .under-way w₀ o₀ er (h .under-way); exactly = λ z. let y : _≡_ {A = ℕ} 0 1 = cc in absurd (omega arith) }
 
     module _ (room : 12 ≤ length o₀) where
-      pub stand-full : length o₀ / 12 ≤ n → Filled crateRule s v w₀ o₀ (gives n w) o
-      stand-full l = subst (λ x. Filled crateRule s v w₀ o₀ (gives n x) o) (h .going .full l) (turns-full crateRule s v w₀ o₀ (h .going .fills) room l)
+      pub reach-full : length o₀ / 12 ≤ n → Filled crateRule s v w₀ o₀ (gives n w) o
+      reach-full l = subst (λ x. Filled crateRule s v w₀ o₀ (gives n x) o) (h .under-way .full l) (turns-full crateRule s v w₀ o₀ (h .under-way .fills) room l)
 
       -- u is a turn that gives no record and does not pass on
       module _ (u : LineMove) (e : u ≡ turnOf crateRule s v w) (f : NoRecord (onFirst (nextOf crateRule s v) u)) where
         stop-told : (n ≡ 0 → ⊥) → Filled crateRule s v w₀ o₀ (gives n (cond exact w (many (nextOf crateRule s v) n w₀ .next))) o
         stop-told z =
-            let q = turns-stop crateRule s v w₀ o₀ (h .going .fills) room u e f z in
-            let b = turns-behind crateRule s v w₀ o₀ (h .going .fills) u e f in
+            let q = turns-stop crateRule s v w₀ o₀ (h .under-way .fills) room u e f z in
+            let b = turns-behind crateRule s v w₀ o₀ (h .under-way .fills) u e f in
             subst (λ x. Filled crateRule s v w₀ o₀ x o) (ap (gives n) (which exact (h .exactly) b)) q
           where
-            which : (x : Bool) → (x ≡ true → h .going .last ≡ w) → h .going .last ≡ many (nextOf crateRule s v) n w₀ .next
-                → h .going .last ≡ cond x w (many (nextOf crateRule s v) n w₀ .next)
+            which : (x : Bool) → (x ≡ true → h .under-way .last ≡ w) → h .under-way .last ≡ many (nextOf crateRule s v) n w₀ .next
+                → h .under-way .last ≡ cond x w (many (nextOf crateRule s v) n w₀ .next)
             which true f g = f refl
             which false f g = g
 
-        pub stand-stop : (a : Answer LineWalk ℕ Told)
+        pub reach-stop : (a : Answer LineWalk ℕ Told)
             → a ≡ cond (eqb n 0) (counted (noRoom (onFirst (nextOf crateRule s v) u))) (gives n (cond exact w (many (nextOf crateRule s v) n w₀ .next)))
             → Filled crateRule s v w₀ o₀ a o
-        stand-stop a ea =
+        reach-stop a ea =
             subst (λ x. Filled crateRule s v w₀ o₀ x o) (sym ea)
-            (by-cases (λ x. Filled crateRule s v w₀ o₀ x o) (eqb n 0) (λ z. turns-none crateRule s v w₀ o₀ (h .going .fills) room u e f (eqb-true n 0 z))
+            (by-cases (λ x. Filled crateRule s v w₀ o₀ x o) (eqb n 0) (λ z. turns-none crateRule s v w₀ o₀ (h .under-way .fills) room u e f (eqb-true n 0 z))
             (λ z. stop-told (eqb-false n 0 z)))

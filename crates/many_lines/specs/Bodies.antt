@@ -15,10 +15,10 @@ use Rattle.line_step.specs.declared.Rest.{Rest}
 use Rattle.line_step.specs.declared.Place.{Place}
 use Rattle.line_step.specs.declared.LineWalk.{LineWalk}
 use Rattle.line_step.specs.declared.LineWalk.the-variants.{Between, Inside}
-use Rattle.body_lines.specs.declared.Lined.{Lined}
-use Rattle.body_lines.specs.GoesLaws.{Goes}
-use Rattle.many_lines.specs.LedLaws.{Led}
-use Rattle.many_lines.specs.declared.Stood.{Stood}
+use Rattle.body_lines.specs.declared.InBody.{InBody}
+use Rattle.body_lines.specs.TurnsLaws.{TurnsPut}
+use Rattle.many_lines.specs.ByListLaws.{ListLeads}
+use Rattle.many_lines.specs.declared.Reached.{Reached}
 use Rattle.many_lines.specs.declared.Looked.{Looked}
 use Rattle.many_lines.specs.declared.Looked.the-variants as looked
 use Rattle.many_lines.specs.declared.Ended.{Ended}
@@ -51,11 +51,11 @@ pub record EndsTo (h : LineHeader) (t u : Rest) : Type 0 where
   pub left : u .left ≡ t .left
 
 -- the body is left that x is behind the lines of, t being the rest before them
-pub record Leaves (x : Lined) (t u : Rest) : Type 0 where
+pub record Leaves (x : InBody) (t u : Rest) : Type 0 where
   pub free : x .stuck ≡ false
   pub ends : EndsTo (x .place .head) (withHeld t (x .held)) u
 
-abbrev pub EndedIs : Lined → Rest → Ended → Type 0
+abbrev pub EndedIs : InBody → Rest → Ended → Type 0
 EndedIs x t (ended.At u) = Leaves x t u
 EndedIs x t (ended.Stuck u) = u ≡ withHeld t (x .held)
 
@@ -69,7 +69,7 @@ EnteredIs m t (entered.At q u) = EntersTo m t q u
 EnteredIs m t entered.Stuck = Unit {0}
 
 -- from n records and the walk w to r, the words o being o′ then, over the slots v of which the first `whole` are tested
-pub record Went (s v : List ℕ) (whole room n : ℕ) (w : LineWalk) (o : List ℕ) (r : Stood) (o′ : List ℕ) : Type 0 where
+pub record BodiesPut (s v : List ℕ) (whole room n : ℕ) (w : LineWalk) (o : List ℕ) (r : Reached) (o′ : List ℕ) : Type 0 where
   pub size : length o′ ≡ length o
-  pub led : Led crateRule s v whole (r .walk)
-  pub goes : Goes s v room n w o (r .n) (r .walk) o′
+  pub leads : ListLeads crateRule s v whole (r .walk)
+  pub turns : TurnsPut s v room n w o (r .n) (r .walk) o′
