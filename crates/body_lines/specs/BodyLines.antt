@@ -12,7 +12,7 @@ use Rattle.body.specs.Lines.{columned}
 use Rattle.line_record.specs.Record.{columnIf, recordOf, closedAt, maxOffset}
 use Rattle.line_record.specs.Flags.{isMarker}
 use Rattle.line_record.specs.declared.LineRecord.{LineRecord}
-use Rattle.line_state_words.specs.LineWords.{recordWords}
+use Rattle.line_state_words.specs.LineWords.{recordSize, recordWords}
 use Rattle.lines.specs.Blocks.{blockAt}
 use Rattle.line_step.specs.Turn.{sourceOf, withHeld, blockTurn}
 use Rattle.line_step.specs.declared.Held.{Held}
@@ -50,7 +50,7 @@ pub record LinePut (s : List ℕ) (p : Place) (x : LineHeld) (a g : ℕ) (o : Li
   pub offset : y .offset ≡ p .head .offset + a
   pub flags : y .flags ≡ g
   pub word : columnIf (columned (p .head .flags)) (y .word) ≡ columnIf (columned (p .head .flags)) (u32At s (p .column + 4 * x .done))
-  pub words : o′ ≡ store o (12 * x .n) (recordWords (closedAt (p .head .section) (p .head .offset + a) (heldRecord p (x .offset) (x .flags) (x .word))))
+  pub words : o′ ≡ store o (recordSize * x .n) (recordWords (closedAt (p .head .section) (p .head .offset + a) (heldRecord p (x .offset) (x .flags) (x .word))))
 
 abbrev pub insideAt : Place → Rest → LineHeld → LineWalk
 insideAt p t x = Inside (atLine p (x .done)) (withHeld t (One (heldRecord p (x .offset) (x .flags) (x .word))))
@@ -66,7 +66,7 @@ pub record LinesPut (s : List ℕ) (p : Place) (room : ℕ) (x : LineHeld) (o : 
 -- how many records are put where `held` is closed by an end, and the words then
 abbrev pub PutAs : Held → ℕ → ℕ → ℕ → List ℕ → ℕ → List ℕ → Type 0
 PutAs Nothing section end n o m o′ = (m ≡ n) × (o′ ≡ o)
-PutAs (One q) section end n o m o′ = (m ≡ n + 1) × (o′ ≡ store o (12 * n) (recordWords (closedAt section end q)))
+PutAs (One q) section end n o m o′ = (m ≡ n + 1) × (o′ ≡ store o (recordSize * n) (recordWords (closedAt section end q)))
 
 pub record HeldPut (held : Held) (section end n : ℕ) (o : List ℕ) (m : ℕ) (o′ : List ℕ) : Type 0 where
   pub words : PutAs held section end n o m o′

@@ -17,7 +17,7 @@ use Rattle.line_record.specs.Record.{maxOffset, columnIf, recordOf, entryOf, cl
 use Rattle.line_record.specs.RecordLaws.{entry-marker, entry-line}
 use Rattle.line_record.specs.declared.LineRecord.{LineRecord}
 use Rattle.line_record.specs.declared.LineSource.{LineSource}
-use Rattle.line_state_words.specs.LineWords.{recordWords}
+use Rattle.line_state_words.specs.LineWords.{recordSize, recordWords}
 use Rattle.line_state_words.specs.LineWordsLaws.{record-length, record-is}
 use Rattle.lines.specs.Blocks.{LineBlock, blockAt}
 use Rattle.lines.specs.BlocksLaws.{block-in}
@@ -107,7 +107,7 @@ module _ (s v : List ℕ) (p : Place) (f : LinesFit s p) (i : ℕ) (l : i < p .l
     turn-next m k t r = turn-line m k t (One r)
 
 -- a record put where it fits leaves as many words
-stored-length : (o : List ℕ) (at : ℕ) (r : LineRecord) (o′ : List ℕ) → o′ ≡ store o at (recordWords r) → at + 12 ≤ length o → length o′ ≡ length o
+stored-length : (o : List ℕ) (at : ℕ) (r : LineRecord) (o′ : List ℕ) → o′ ≡ store o at (recordWords r) → at + recordSize ≤ length o → length o′ ≡ length o
 stored-length o at r o′ e h = ap length (record-is o o′ at r e h) ∙ put-length o at (recordWords r) (omega (arith, record-length r))
 
 -- ---- the loop
@@ -130,7 +130,7 @@ module _ (s : List ℕ) (p : Place) (room : ℕ) (x : LineHeld) (o : List ℕ) w
     }
 
     pub lines-put-line : (a g : ℕ) (z : LineHeld) (o″ : List ℕ) → a ≡ u32At s (p .line + 8 * y .done) → g ≡ u32At s (p .line + 8 * y .done + 4) → isMarker g ≡ false
-        → p .head .offset + a ≤ maxOffset → 12 * room ≤ length o → LinePut s p y a g o′ z o″ → LinesPut s p room x o z o″
+        → p .head .offset + a ≤ maxOffset → recordSize * room ≤ length o → LinePut s p y a g o′ z o″ → LinesPut s p room x o z o″
     lines-put-line a g z o″ ea eg m k fits d =
         let r = heldRecord p (y .offset) (y .flags) (y .word) in
         let c = closedAt (p .head .section) (p .head .offset + a) r in
@@ -138,7 +138,7 @@ module _ (s : List ℕ) (p : Place) (room : ℕ) (x : LineHeld) (o : List ℕ) w
           most = omega (arith, d .n);
           on = omega (arith, d .done, h .on);
           inside = omega (arith, d .done);
-          size = stored-length o′ (12 * y .n) c o″ (d .words) (omega (arith, h .size)) ∙ h .size;
+          size = stored-length o′ (recordSize * y .n) c o″ (d .words) (omega (arith, h .size)) ∙ h .size;
           turns = λ v t. turns-put-on s v room (h .turns v t)
               (rw (d .n, d .done, d .offset, d .flags) (turns-put-record s v room less c (Inside (atLine p (y .done + 1)) (withHeld t (One (heldRecord p (p .head .offset + a) g (z .word))))) o″
               (turn-next s v p f (y .done) l a g (z .word) ea eg (d .word) m k t r) (d .words)));
@@ -150,8 +150,8 @@ module _ (h : Held) (section end n : ℕ) (o : List ℕ) where
   pub held-none : h ≡ Nothing → HeldPut h section end n o n o
   held-none e = record { words = rw e (refl, refl) }
 
-  pub held-some : (q k : LineRecord) (o′ : List ℕ) → h ≡ One q → k ≡ closedAt section end q → o′ ≡ store o (12 * n) (recordWords k) → HeldPut h section end n o (n + 1) o′
-  held-some q k o′ e ek eo = record { words = rw e (refl, eo ∙ ap (λ x. store o (12 * n) (recordWords x)) ek) }
+  pub held-some : (q k : LineRecord) (o′ : List ℕ) → h ≡ One q → k ≡ closedAt section end q → o′ ≡ store o (recordSize * n) (recordWords k) → HeldPut h section end n o (n + 1) o′
+  held-some q k o′ e ek eo = record { words = rw e (refl, eo ∙ ap (λ x. store o (recordSize * n) (recordWords x)) ek) }
 
 pub false-not : {A : Type 0} → false ≡ true → A
 false-not e = let z : _≡_ {A = ℕ} 0 1 = cc in absurd (omega arith)
@@ -202,7 +202,7 @@ module _ (s : List ℕ) (room : ℕ) (p : Place) (held : Held) (n : ℕ) (o : Li
 
     -- w is the column word of the line, and m the number of the records with the one that it closed
     module _ (a g w m : ℕ) (o₁ : List ℕ) (d : FirstLine s p a g)
-        (ew : columnIf (columned (p .head .flags)) w ≡ columnIf (columned (p .head .flags)) (u32At s (p .column))) (fits : 12 * room ≤ length o)
+        (ew : columnIf (columned (p .head .flags)) w ≡ columnIf (columned (p .head .flags)) (u32At s (p .column))) (fits : recordSize * room ≤ length o)
         (put : HeldPut held (p .head .section) (p .head .offset + a) n o m o₁) where
       abbrev first : LineHeld
       first = record { n = m; done = 1; offset = p .head .offset + a; flags = g; word = w }
@@ -219,7 +219,7 @@ module _ (s : List ℕ) (room : ℕ) (p : Place) (held : Held) (n : ℕ) (o : Li
         where
           go : (h : Held) → PutAs h (p .head .section) (p .head .offset + a) n o m o₁ → length o₁ ≡ length o
           go Nothing q = ap length (q .1)
-          go (One r) q = stored-length o (12 * n) (closedAt (p .head .section) (p .head .offset + a) r) o₁ (q .1) (omega arith)
+          go (One r) q = stored-length o (recordSize * n) (closedAt (p .head .section) (p .head .offset + a) r) o₁ (q .1) (omega arith)
 
       first-turns : (v : List ℕ) (t : Rest) (h : Held) → PutAs h (p .head .section) (p .head .offset + a) n o m o₁
           → TurnsPut s v room n (Inside p (withHeld t h)) o m (insideAt p t first) o₁

@@ -12,7 +12,7 @@ use Rattle.walk.specs.ManyLaws.{NoRecord}
 use Rattle.refusal.specs.Told.{Told}
 use Rattle.area.specs.Kind.{Sort}
 use Rattle.line_record.specs.declared.LineRecord.{LineRecord}
-use Rattle.line_state_words.specs.LineWords.{recordWords}
+use Rattle.line_state_words.specs.LineWords.{recordSize, recordWords}
 use Rattle.line_state_words.specs.LineWordsLaws.{record-length}
 use Rattle.line_step.specs.declared.LineWalk.{LineWalk}
 use Rattle.line_step.specs.Turn.{LineMove, turnOf}
@@ -24,43 +24,43 @@ use Rattle.answer_words.specs.FillLaws as fill
 module _ (rule : ℕ → Sort) (s v : List ℕ) (w₀ : LineWalk) (o₀ : List ℕ) where
   -- what is told, and what the words are at the end
   abbrev pub Filled : Answer LineWalk ℕ Told → List ℕ → Type 0
-  Filled a o = fill.Filled 12 recordWords record-length (nextOf rule s v) w₀ o₀ a o
+  Filled a o = fill.Filled recordSize recordWords record-length (nextOf rule s v) w₀ o₀ a o
 
   abbrev pub Fills : ℕ → LineWalk → LineWalk → List ℕ → Type 0
-  Fills n last w o = fill.Filling 12 recordWords record-length (nextOf rule s v) w₀ o₀ n last w o
+  Fills n last w o = fill.Filling recordSize recordWords record-length (nextOf rule s v) w₀ o₀ n last w o
 
   pub turns-start : Fills 0 w₀ w₀ o₀
-  turns-start = fill.fill-start 12 recordWords record-length (nextOf rule s v) w₀ o₀
+  turns-start = fill.fill-start recordSize recordWords record-length (nextOf rule s v) w₀ o₀
 
   -- without room for a record
-  pub turns-no-room : length o₀ < 12 → (a : Answer LineWalk LineRecord Told) → a ≡ nextOf rule s v w₀ → Filled (counted (noRoom a)) o₀
-  turns-no-room h a e = fill.fill-no-room 12 recordWords record-length (nextOf rule s v) w₀ o₀ h a e
+  pub turns-no-room : length o₀ < recordSize → (a : Answer LineWalk LineRecord Told) → a ≡ nextOf rule s v w₀ → Filled (counted (noRoom a)) o₀
+  turns-no-room h a e = fill.fill-no-room recordSize recordWords record-length (nextOf rule s v) w₀ o₀ h a e
 
   module _ {n : ℕ} {last w : LineWalk} {o : List ℕ} (h : Fills n last w o) where
     pub turns-pass : (t : LineWalk) → pass t ≡ turnOf rule s v w → Fills n last t o
-    turns-pass t e = fill.fill-pass 12 recordWords record-length (nextOf rule s v) w₀ o₀ h t (next-is rule s v w (pass t) e)
+    turns-pass t e = fill.fill-pass recordSize recordWords record-length (nextOf rule s v) w₀ o₀ h t (next-is rule s v w (pass t) e)
 
-    pub turns-record : (r : LineRecord) (t : LineWalk) (o′ : List ℕ) → item r t ≡ turnOf rule s v w → n < length o₀ / 12 → o′ ≡ store o (12 * n) (recordWords r)
+    pub turns-record : (r : LineRecord) (t : LineWalk) (o′ : List ℕ) → item r t ≡ turnOf rule s v w → n < length o₀ / recordSize → o′ ≡ store o (recordSize * n) (recordWords r)
         → Fills (n + 1) t t o′
-    turns-record r t o′ e l q = fill.fill-stored 12 recordWords record-length (nextOf rule s v) w₀ o₀ h r t o′ (next-is rule s v w (item r t) e) l q
+    turns-record r t o′ e l q = fill.fill-stored recordSize recordWords record-length (nextOf rule s v) w₀ o₀ h r t o′ (next-is rule s v w (item r t) e) l q
 
     -- u is a turn that gives no record and does not pass on
     pub turns-behind : (u : LineMove) → u ≡ turnOf rule s v w → NoRecord (onFirst (nextOf rule s v) u) → last ≡ many (nextOf rule s v) n w₀ .next
     turns-behind u e f =
-        fill.fill-behind 12 recordWords record-length (nextOf rule s v) w₀ o₀ h (onFirst (nextOf rule s v) u) (next-is rule s v w u e) f
+        fill.fill-behind recordSize recordWords record-length (nextOf rule s v) w₀ o₀ h (onFirst (nextOf rule s v) u) (next-is rule s v w u e) f
 
-    module _ (room : 12 ≤ length o₀) where
-      pub turns-full : length o₀ / 12 ≤ n → Filled (gives n last) o
-      turns-full l = fill.fill-full 12 recordWords record-length (nextOf rule s v) w₀ o₀ h room l (omega arith)
+    module _ (room : recordSize ≤ length o₀) where
+      pub turns-full : length o₀ / recordSize ≤ n → Filled (gives n last) o
+      turns-full l = fill.fill-full recordSize recordWords record-length (nextOf rule s v) w₀ o₀ h room l (omega arith)
 
       -- u is a turn that gives no record and does not pass on
       pub turns-stop : (u : LineMove) → u ≡ turnOf rule s v w → NoRecord (onFirst (nextOf rule s v) u) → (n ≡ 0 → ⊥) → Filled (gives n last) o
       turns-stop u e f z =
-          fill.fill-stop 12 recordWords record-length (nextOf rule s v) w₀ o₀ h room (onFirst (nextOf rule s v) u) (next-is rule s v w u e) f z
+          fill.fill-stop recordSize recordWords record-length (nextOf rule s v) w₀ o₀ h room (onFirst (nextOf rule s v) u) (next-is rule s v w u e) f z
 
       pub turns-none : (u : LineMove) → u ≡ turnOf rule s v w → NoRecord (onFirst (nextOf rule s v) u) → n ≡ 0 → Filled (counted (noRoom (onFirst (nextOf rule s v) u))) o
       turns-none u e f z =
-          fill.fill-none 12 recordWords record-length (nextOf rule s v) w₀ o₀ h room (onFirst (nextOf rule s v) u) (next-is rule s v w u e) f z
+          fill.fill-none recordSize recordWords record-length (nextOf rule s v) w₀ o₀ h room (onFirst (nextOf rule s v) u) (next-is rule s v w u e) f z
 
 -- a turn that gives a record leaves less to do
 pub record-falls : (rule : ℕ → Sort) (s v : List ℕ) (w : LineWalk) (r : LineRecord) (t : LineWalk) → item r t ≡ turnOf rule s v w → todo rule s t < todo rule s w

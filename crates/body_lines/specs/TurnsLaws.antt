@@ -9,7 +9,7 @@ use Rattle.word.specs.Word.{store}
 use Rattle.walk.specs.Listing.{item, pass}
 use Rattle.area.specs.Kind.{crateRule}
 use Rattle.line_record.specs.declared.LineRecord.{LineRecord}
-use Rattle.line_state_words.specs.LineWords.{recordWords}
+use Rattle.line_state_words.specs.LineWords.{recordSize, recordWords}
 use Rattle.line_step.specs.declared.LineWalk.{LineWalk}
 use Rattle.line_step.specs.Turn.{turnOf}
 use Rattle.line_walk.specs.Next.{todo}
@@ -21,12 +21,12 @@ use Rattle.body_lines.specs.FillLaws.{Fills, turns-pass, turns-record, r
 pub record UnderWay (s v : List ℕ) (w₀ : LineWalk) (o₀ : List ℕ) (n : ℕ) (w : LineWalk) (o : List ℕ) : Type 0 where
   pub last : LineWalk
   pub fills : Fills crateRule s v w₀ o₀ n last w o
-  pub full : length o₀ / 12 ≤ n → last ≡ w
+  pub full : length o₀ / recordSize ≤ n → last ≡ w
 
 module _ (s v : List ℕ) (room : ℕ) where
   -- every call that stands there, with room for so many records, comes to stand here, with no more to do
   pub record TurnsPut (n : ℕ) (w : LineWalk) (o : List ℕ) (n′ : ℕ) (w′ : LineWalk) (o′ : List ℕ) : Type 0 where
-    pub under-way : (w₀ : LineWalk) (o₀ : List ℕ) → length o₀ / 12 ≡ room → UnderWay s v w₀ o₀ n w o → UnderWay s v w₀ o₀ n′ w′ o′
+    pub under-way : (w₀ : LineWalk) (o₀ : List ℕ) → length o₀ / recordSize ≡ room → UnderWay s v w₀ o₀ n w o → UnderWay s v w₀ o₀ n′ w′ o′
     pub less : todo crateRule s w′ ≤ todo crateRule s w
 
   module _ {n : ℕ} {w : LineWalk} {o : List ℕ} where
@@ -40,7 +40,7 @@ module _ (s v : List ℕ) (room : ℕ) where
         less = omega (arith, next-falls crateRule s v w t q);
       }
 
-      pub turns-put-record : (r : LineRecord) (t : LineWalk) (o′ : List ℕ) → item r t ≡ turnOf crateRule s v w → o′ ≡ store o (12 * n) (recordWords r)
+      pub turns-put-record : (r : LineRecord) (t : LineWalk) (o′ : List ℕ) → item r t ≡ turnOf crateRule s v w → o′ ≡ store o (recordSize * n) (recordWords r)
           → TurnsPut n w o (n + 1) t o′
       turns-put-record r t o′ q eo = record {
         under-way = λ w₀ o₀ e g. record { last = t; fills = turns-record crateRule s v w₀ o₀ (g .fills) r t o′ q (omega arith) eo; full = λ f. refl };

@@ -1,4 +1,5 @@
-// A stretch of lines: those of one block, one behind the other, with the held record in a few numbers, since each is made of the same header and file.
+// The lines of one body, many at once: those of a block one behind the other, with the held record in a few numbers, since each is made of the same
+// header and file.
 //
 // It does what turn after turn does, and nothing where a turn would be refused: the walk stands before that turn then.
 ghost use mathlib.Core.Path.{_≡_};
@@ -7,13 +8,14 @@ ghost use mathlib.Core.Bool.{true, false};
 ghost use lib.ListN.{length};
 ghost use Rattle.word.specs.Word.{u32At, store};
 ghost use Rattle.line_record.specs.Record.{columnIf, maxOffset};
-ghost use Rattle.line_state_words.specs.LineWords.{recordWords};
+ghost use Rattle.line_state_words.specs.LineWords.{recordSize, recordWords};
 ghost use Rattle.line_step.specs.Turn.{columnPlace};
 ghost use Rattle.body_lines.specs.BodyLines.{atLine, heldRecord, LinesFit, LinePut, LinesPut, HeldPut, FirstLine, BlockPut, OpenedIs, BodyPut};
 use line_record::LineRecord;
 use line_record::closed;
 use line_record::is_marker;
 use line_record::record_of;
+use line_state_words::RECORD_WORDS;
 use line_state_words::put_record;
 use line_step::Held;
 use line_step::Place;
@@ -58,7 +60,7 @@ fn record_in(p: Place, offset: u32, flags: u32, word: u32) -> LineRecord
     record_of(source_of(p), offset, flags, word)
 }
 
-// How far a stretch has come: the records that are put, the lines that are done, and of the held record its offset and words.
+// How far the lines of a block have come: the records that are put, the lines that are done, and of the held record its offset and words.
 pub struct LineHeld {
     pub n: usize,
     pub done: usize,
@@ -69,19 +71,19 @@ pub struct LineHeld {
 
 // A record whose words have room. They are put as a part of their own, of a length that is known.
 fn put_words(out: &mut [u64], at: usize, r: LineRecord)
-    requires { ⌜ at + 12 ≤ length (now out) ⌝ }
+    requires { ⌜ at + recordSize ≤ length (now out) ⌝ }
     ensures { λ _. ⌜ now (out .exit) ≡ store (now (out .entry)) at (recordWords r) ⌝ }
 {
-    put_record(&mut out[at..at + 12], 0, r);
+    put_record(&mut out[at..at + RECORD_WORDS], 0, r);
 }
 
 // A line that gives a record: the held one is put, closed by it, and the line's own is held.
 fn put_line(area: &[u8], p: Place, x: LineHeld, e: Line, out: &mut [u64]) -> LineHeld
     requires { ⌜ LinesFit (now area) p ⌝ }
-    requires { ⌜ (x .done < p .lines) × (12 * x .n + 12 ≤ length (now out)) × (p .head .offset + e .offset ≤ maxOffset) ⌝ }
+    requires { ⌜ (x .done < p .lines) × (recordSize * x .n + recordSize ≤ length (now out)) × (p .head .offset + e .offset ≤ maxOffset) ⌝ }
     ensures { λ r. ⌜ LinePut (now (area .entry)) p x (e .offset) (e .flags) (now (out .entry)) r (now (out .exit)) ⌝ }
 {
-    let at = 12 * x.n;
+    let at = RECORD_WORDS * x.n;
     let n = x.n + 1;
     let done = x.done + 1;
     let h = p.head;
@@ -101,7 +103,7 @@ fn put_line(area: &[u8], p: Place, x: LineHeld, e: Line, out: &mut [u64]) -> Lin
 // The lines of a block from `first` on, until there are no more, or no room for another record, or one that is refused.
 fn put_lines(area: &[u8], p: Place, first: LineHeld, room: usize, out: &mut [u64]) -> LineHeld
     requires { ⌜ LinesFit (now area) p ⌝ }
-    requires { ⌜ (first .n ≤ room) × (first .done ≤ p .lines) × (12 * room ≤ length (now out)) ⌝ }
+    requires { ⌜ (first .n ≤ room) × (first .done ≤ p .lines) × (recordSize * room ≤ length (now out)) ⌝ }
     ensures { λ r. ⌜ LinesPut (now (area .entry)) p room first (now (out .entry)) r (now (out .exit)) ⌝ }
 {
     let h = p.head;
@@ -142,14 +144,14 @@ fn at_line(p: Place, i: usize) -> Place
 
 // Puts the record that is held, if there is one, as an end closes it; how many records there are then.
 fn put_held(out: &mut [u64], n: usize, held: Held, section: u16, end: u32) -> usize
-    requires { ⌜ 12 * n + 12 ≤ length (now out) ⌝ }
+    requires { ⌜ recordSize * n + recordSize ≤ length (now out) ⌝ }
     ensures { λ r. ⌜ HeldPut held section end n (now (out .entry)) r (now (out .exit)) ⌝ }
 {
     match held {
         Held::Nothing => n,
         Held::One(q) => {
             let more = n + 1;
-            put_words(out, 12 * n, closed(q, section, end));
+            put_words(out, RECORD_WORDS * n, closed(q, section, end));
             more
         }
     }
@@ -174,7 +176,7 @@ fn first_line(
     out: &mut [u64],
 ) -> InBody
     requires { ⌜ LinesFit (now area) p ⌝ }
-    requires { ⌜ (1 ≤ p .lines) × (n < room) × (12 * room ≤ length (now out)) ⌝ }
+    requires { ⌜ (1 ≤ p .lines) × (n < room) × (recordSize * room ≤ length (now out)) ⌝ }
     requires { ⌜ FirstLine (now area) p (e .offset) (e .flags) ⌝ }
     ensures { λ r. ⌜ BlockPut (now (area .entry)) room p held n (now (out .entry)) r (now (out .exit)) ⌝ }
     ensures { λ r. ⌜ (r .stuck ≡ false → (r .n < room) × (r .place .lines < p .lines)) ⌝ }
@@ -204,7 +206,7 @@ fn first_line(
 // The lines of a block, of which there is one at least.
 fn block_lines(area: &[u8], p: Place, held: Held, n: usize, room: usize, out: &mut [u64]) -> InBody
     requires { ⌜ LinesFit (now area) p ⌝ }
-    requires { ⌜ (1 ≤ p .lines) × (n < room) × (12 * room ≤ length (now out)) ⌝ }
+    requires { ⌜ (1 ≤ p .lines) × (n < room) × (recordSize * room ≤ length (now out)) ⌝ }
     ensures { λ r. ⌜ BlockPut (now (area .entry)) room p held n (now (out .entry)) r (now (out .exit)) ⌝ }
     ensures { λ r. ⌜ (r .stuck ≡ false → (r .n < room) × (r .place .lines < p .lines)) ⌝ }
 {
@@ -305,7 +307,7 @@ fn fits(area: &[u8], p: Place) -> bool
 // The blocks of a body from a place on, and their lines, until the body is used up or the walk is stuck.
 fn blocks(area: &[u8], first: InBody, room: usize, out: &mut [u64]) -> InBody
     requires { ⌜ LinesFit (now area) (first .place) ⌝ }
-    requires { ⌜ (first .n < room) × (12 * room ≤ length (now out)) ⌝ }
+    requires { ⌜ (first .n < room) × (recordSize * room ≤ length (now out)) ⌝ }
     ensures { λ r. ⌜ BodyPut (now (area .entry)) room (first .place) (first .held) (first .n) (now (out .entry)) r (now (out .exit)) ⌝ }
 {
     let mut x = first;
@@ -369,7 +371,7 @@ pub fn body_lines(
     if room <= n {
         return x;
     }
-    if out.len() / 12 < room {
+    if out.len() / RECORD_WORDS < room {
         return x;
     }
     if !fits(area, place) {

@@ -19,7 +19,7 @@ use Rattle.area.specs.Subs.{stepAt}
 use Rattle.area.specs.SubsLaws.{whole-known, head-whole, step-gives}
 use Rattle.line_record.specs.Record.{maxOffset, closedAt}
 use Rattle.line_record.specs.declared.LineRecord.{LineRecord}
-use Rattle.line_state_words.specs.LineWords.{recordWords}
+use Rattle.line_state_words.specs.LineWords.{recordSize, recordWords}
 use Rattle.body.specs.Lines.{lineHead, columned}
 use Rattle.find.specs.Find.{bytesAt}
 use Rattle.lines.specs.Lines.{countLines}
@@ -217,17 +217,17 @@ module _ (s v : List ℕ) (w₀ : LineWalk) (o₀ : List ℕ) where
   reach-start = record { under-way = record { last = w₀; fills = turns-start crateRule s v w₀ o₀; full = λ f. refl }; exactly = λ e. refl }
 
   module _ (n : ℕ) (w : LineWalk) (exact : Bool) (o : List ℕ) (h : Reaches n w exact o) where
-    pub reach-record : (r : LineRecord) (t : LineWalk) (o′ : List ℕ) → item r t ≡ turnOf crateRule s v w → n < length o₀ / 12 → o′ ≡ store o (12 * n) (recordWords r)
+    pub reach-record : (r : LineRecord) (t : LineWalk) (o′ : List ℕ) → item r t ≡ turnOf crateRule s v w → n < length o₀ / recordSize → o′ ≡ store o (recordSize * n) (recordWords r)
         → Reaches (n + 1) t true o′
     reach-record r t o′ e l q =
         record { under-way = record { last = t; fills = turns-record crateRule s v w₀ o₀ (h .under-way .fills) r t o′ e l q; full = λ f. refl }; exactly = λ x. refl }
 
     -- many turns, or one that passes on
-    pub reach-goes : (room m : ℕ) (t : LineWalk) (o′ : List ℕ) → length o₀ / 12 ≡ room → TurnsPut s v room n w o m t o′ → Reaches m t false o′
+    pub reach-goes : (room m : ℕ) (t : LineWalk) (o′ : List ℕ) → length o₀ / recordSize ≡ room → TurnsPut s v room n w o m t o′ → Reaches m t false o′
     reach-goes room m t o′ er k = record { under-way = k .under-way w₀ o₀ er (h .under-way); exactly = λ z. let y : _≡_ {A = ℕ} 0 1 = cc in absurd (omega arith) }
 
-    module _ (room : 12 ≤ length o₀) where
-      pub reach-full : length o₀ / 12 ≤ n → Filled crateRule s v w₀ o₀ (gives n w) o
+    module _ (room : recordSize ≤ length o₀) where
+      pub reach-full : length o₀ / recordSize ≤ n → Filled crateRule s v w₀ o₀ (gives n w) o
       reach-full l = subst (λ x. Filled crateRule s v w₀ o₀ (gives n x) o) (h .under-way .full l) (turns-full crateRule s v w₀ o₀ (h .under-way .fills) room l)
 
       -- u is a turn that gives no record and does not pass on

@@ -1,4 +1,4 @@
--- Many records of the line walk at once, in words: as many as the lent words have room for, 12 words each, at their start. Where the first step gives
+-- Many records of the line walk at once, in words: as many as the lent words have room for, at their start. Where the first step gives
 -- no record the answer is that step's, and nothing is put. Where there is a record and no room for one it is refused with 10.
 -- Source: docs/DECISIONS.md, 36.
 -- Definitions only; a reader must believe them.
@@ -8,7 +8,7 @@ use Rattle.walk.specs.Listing.{Answer}
 use Rattle.refusal.specs.Told.{Told}
 use Rattle.area.specs.Kind.{Sort}
 use Rattle.line_record.specs.declared.LineRecord.{LineRecord}
-use Rattle.line_state_words.specs.LineWords.{recordWords}
+use Rattle.line_state_words.specs.LineWords.{recordSize, recordWords}
 use Rattle.line_step.specs.declared.LineWalk.{LineWalk}
 use Rattle.line_walk.specs.Next.{nextOf}
 use Rattle.answer_words.specs.Fill as fill
@@ -18,7 +18,7 @@ Lines = Answer LineWalk (List LineRecord) Told
 
 -- with n words lent
 abbrev pub linesOf : (ℕ → Sort) → List ℕ → List ℕ → ℕ → LineWalk → Lines
-linesOf rule s v n w = fill.fillOf 12 (nextOf rule s v) n w
+linesOf rule s v n w = fill.fillOf recordSize (nextOf rule s v) n w
 
 -- what is answered: how many records, and the state behind the last
 abbrev pub linesCounted : Lines → Answer LineWalk ℕ Told

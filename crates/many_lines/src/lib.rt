@@ -25,12 +25,14 @@ ghost use Rattle.many_lines.specs.ByList.{scanOf, fewLeft, testedFor, re
 ghost use Rattle.many_lines.specs.ByListLaws.{ListLeads};
 ghost use Rattle.answer_words.specs.Fill.{noRoom};
 ghost use Rattle.many_lines.specs.Lines.{linesOf, linesCounted, linesFilled};
+ghost use Rattle.line_state_words.specs.LineWords.{recordSize};
 ghost use Rattle.many_lines.specs.Told.{toldLines};
 ghost use Rattle.many_lines.specs.Bodies.{nowhere, standsAt, LookedIs, EndedIs, EnteredIs, BodiesPut};
 use body_lines::InBody;
 use body_lines::body_lines;
 use line_record::LineRecord;
 use line_record::closed;
+use line_state_words::RECORD_WORDS;
 use line_state_words::put_record;
 use line_step::Held;
 use line_step::LineWalk;
@@ -42,6 +44,7 @@ use line_step::take_turn;
 use line_walk::LineStep;
 use line_walk::next_line;
 use lines::Counted;
+use lines::LINE_HEAD;
 use lines::LineHeader;
 use lines::Named;
 use lines::count_lines;
@@ -52,9 +55,6 @@ use list_test::tested_list;
 use refusal::LONGEST;
 use refusal::Refusal;
 use word::u32_at;
-
-// The words of a record.
-pub const RECORD: usize = 12;
 
 pub enum LinesStep {
     Lines { count: usize, next: LineWalk },
@@ -240,7 +240,7 @@ fn enter_body(area: &[u8], t: Rest, start: usize, len: usize) -> Entered
     requires { ⌜ (start + len ≤ length (now area)) × (1 ≤ t .left) × (t .slot + 1 < 2 ^ 64) ⌝ }
     ensures { λ r. ⌜ EnteredIs (enterAt (now (area .entry)) t start len) t r ⌝ }
 {
-    if len < 12 {
+    if len < LINE_HEAD {
         return Entered::Stuck;
     }
     let end = start + len;
@@ -250,7 +250,7 @@ fn enter_body(area: &[u8], t: Rest, start: usize, len: usize) -> Entered
         Place {
             head,
             end,
-            next: start + 12,
+            next: start + LINE_HEAD,
             file: 0,
             lines: 0,
             line: 0,
@@ -497,12 +497,12 @@ fn stopped(
 
 // As many turns at once as can be, and turn by turn what they leave.
 fn fill(area: &[u8], slots: &[u32], walk: LineWalk, out: &mut [u64]) -> LinesStep
-    requires { ⌜ 12 ≤ length (now out) ⌝ }
+    requires { ⌜ recordSize ≤ length (now out) ⌝ }
     ensures { λ r. ⌜ toldLines r ≡ linesCounted (linesOf crateRule (now (area .entry)) (now (slots .entry)) (length (now (out .entry))) walk) ⌝ }
     ensures { λ _. ⌜ now (out .exit) ≡ linesFilled (now (out .entry)) (linesOf crateRule (now (area .entry)) (now (slots .entry)) (length (now (out .entry))) walk) ⌝ }
 {
     let whole = tested_for(area, slots, walk);
-    let room = out.len() / RECORD;
+    let room = out.len() / RECORD_WORDS;
     let mut n: usize = 0;
     let mut w = walk;
     let mut exact = true;
@@ -517,7 +517,7 @@ fn fill(area: &[u8], slots: &[u32], walk: LineWalk, out: &mut [u64]) -> LinesSte
         } else {
             match turn_by_list(area, slots, whole, w) {
                 Turn::Line(r, t) => {
-                    let at = RECORD * n;
+                    let at = RECORD_WORDS * n;
                     n += 1;
                     put_record(out, at, r);
                     w = t;
@@ -541,12 +541,12 @@ fn fill(area: &[u8], slots: &[u32], walk: LineWalk, out: &mut [u64]) -> LinesSte
     LinesStep::Lines { count: n, next: w }
 }
 
-// The records from a walk on, as many as `out` has room for, 12 words each.
+// The records from a walk on, as many as `out` has room for.
 pub fn next_lines(area: &[u8], slots: &[u32], walk: LineWalk, out: &mut [u64]) -> LinesStep
     ensures { λ r. ⌜ toldLines r ≡ linesCounted (linesOf crateRule (now (area .entry)) (now (slots .entry)) (length (now (out .entry))) walk) ⌝ }
     ensures { λ _. ⌜ now (out .exit) ≡ linesFilled (now (out .entry)) (linesOf crateRule (now (area .entry)) (now (slots .entry)) (length (now (out .entry))) walk) ⌝ }
 {
-    if out.len() < RECORD {
+    if out.len() < RECORD_WORDS {
         return no_room(next_line(area, slots, walk));
     }
     fill(area, slots, walk, out)
