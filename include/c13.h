@@ -1,6 +1,6 @@
 /* c13.h: CodeView C13 areas, the part of a Windows PDB that says which source file and line each piece of code is from, with each file's checksum.
  *
- * The functions are those of the static library that `rt staticlib` makes (x86-64, System V calling convention). Each is proved to meet its
+ * The functions are those of the static library that `scripts/x86-64 library` makes (x86-64, System V calling convention). Each is proved to meet its
  * contract in crates/; this header says the same in words. "Document 01" is docs/01-scope.md. They call one function that is not theirs, memcpy of
  * the C library, and nothing else; that it copies is trusted, and not proved.
  *
@@ -136,7 +136,7 @@ uint32_t c13_next_line(const uint8_t *area, size_t area_len, const uint32_t *slo
 /* Many line records in one call: those from the walk on, as many as `records` has room for, 12 words each. State as above, 27 words.
  * Given: the state behind the last of them, and at out[27] how many there are. The records before an end or a refusal are given first; the next call
  * tells it, as c13_next_line would. With room for no record C13_NO_ROOM; with fewer than 29 words of `out` too short, and nothing changes.
- * A list that goes back in the area often is tested once in each call that has 16 subsections or more before it, in some n log n steps for n line
+ * A list that goes back in the area often is tested once in each call whose walk has 16 line subsections or more left, in some n log n steps for n line
  * subsections, so lend room for many records. */
 uint32_t c13_lines(const uint8_t *area, size_t area_len, const uint32_t *slots, size_t slots_len, uint64_t *records, size_t records_len,
                    uint64_t *out, size_t out_len);
@@ -416,7 +416,7 @@ static inline struct c13_line_walk c13_line_walk_begin(const uint8_t *area, size
     struct c13_line_walk walk = {area, area_len, slots, slots_len, {0}, {0, 0}};
     return walk;
 }
-/* The lines of a symbol: c13_lines_for_symbol. C13_GIVEN: the walk is begun. A walk that was not is refused with the same refusal at each step. */
+/* The lines of a symbol: c13_lines_for_symbol. C13_GIVEN: the walk is begun. A walk that was not begun gives the same refusal at each step. */
 static inline enum c13_status c13_line_walk_begin_symbol(struct c13_line_walk *walk, const uint8_t *area, size_t area_len, const uint32_t *slots,
                                                          size_t slots_len, uint16_t section, uint32_t offset) {
     *walk = c13_line_walk_begin(area, area_len, slots, slots_len);

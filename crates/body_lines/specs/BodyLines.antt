@@ -1,4 +1,4 @@
--- Names for the proofs of a stretch of lines: a place some lines on, a held record as the words that it was made of, and what a stretch keeps.
+-- Names for the proofs of the lines of a body: a place some lines on, a held record as the words that it was made of, and what each loop keeps.
 -- Definitions only; of public contracts that of `body_lines` alone cites them, and no answer of another call depends on it.
 use mathlib.Core.Bool.{false}
 use Prim.Native.Nat.{ℕ, _+_, _-_, _*_, _<_, _≤_}

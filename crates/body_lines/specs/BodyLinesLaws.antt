@@ -1,4 +1,4 @@
--- Laws of a stretch of lines: each line is a turn.
+-- Laws of the lines of a body: each line is a turn.
 use Prim.Native.Nat.{ℕ, _+_, _-_, _*_, _/_, _≤_, _<_}
 use mathlib.Core.Path.{_≡_, refl, sym, ap, _∙_, subst}
 use mathlib.Core.List.{List}

@@ -1,5 +1,5 @@
--- A walk whose next search begins where a list says that was tested as a whole. No answer depends on it: that the turns are the same is `turn-by-list` of
--- LedLaws. The number 16 is a matter of cost.
+-- A walk whose next search begins where a list that was tested as a whole says. No answer depends on it: that the turns are the same is
+-- `turn-by-list-is` of ByListLaws. The number 16 is a matter of cost.
 -- Definitions only; no public contract cites them.
 use Prim.Native.Nat.{ℕ}
 use mathlib.Core.List.{List}

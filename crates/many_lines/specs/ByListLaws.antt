@@ -1,4 +1,4 @@
--- A walk that is led by a tested list turns as any other, and its turns keep the place at which a search may begin.
+-- A walk whose searches begin where a tested list says makes the same turns as any other, and these keep the place at which a search may begin.
 use Prim.Native.Nat.{ℕ, _+_, _<_, _≤_}
 use mathlib.Core.Path.{_≡_, refl, sym, ap, _∙_, subst⁻¹}
 use mathlib.Core.List.{List}
@@ -70,7 +70,7 @@ module _ (rule : ℕ → Sort) (s v : List ℕ) (n : ℕ) where
           ∙ ap (namedOf s t) (begin-same t h)
           ∙ ap (λ k. cond k (finishIn (t .held) t) (namedOf s t (slotAt rule s v (t .slot) (t .scan)))) (sym e)
 
-  -- the same as code has it: u is the rest that is led, and x what the turn tells
+  -- the same as code has it: u is `restByList` of t, and x what the turn tells
   pub turn-by-list-is : (t u : Rest) (x : LineMove) → ListLeads rule s v n (Between t) → u ≡ restByList v n t → x ≡ turnOf rule s v (Between u) → x ≡ turnOf rule s v (Between t)
   unfolding turnOf
   turn-by-list-is t u x h e q =

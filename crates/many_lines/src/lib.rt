@@ -108,7 +108,7 @@ fn tested_for(area: &[u8], slots: &[u32], walk: LineWalk) -> usize
     tested_list(area, slots, scan_of(walk))
 }
 
-// Before another subsection the search for its body begins where a list says that was tested as a whole.
+// Before another subsection the search for its body begins where a list that was tested as a whole says.
 fn rest_by_list(slots: &[u32], whole: usize, t: Rest) -> Rest
     ensures { λ r. ⌜ r ≡ restByList (now (slots .entry)) whole t ⌝ }
 {

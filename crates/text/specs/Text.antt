@@ -22,7 +22,7 @@ ascii (string._∷_ c s) = code c ∷ ascii s
 unfoldable pub glyph : ℕ → ℕ
 glyph d = cond (ltb d 10) (48 + d) (87 + d)
 
--- the digits of n in base b, no zero in front; at most k of them stand before the last (`numeral-step` has no such number)
+-- the digits of n in base b, no zero in front; at most k of them stand before the last (`numeral-one` and `numeral-more` of TextLaws have no such number)
 unfoldable pub numeralIn : ℕ → ℕ → ℕ → List ℕ
 numeralIn b zero n = glyph n ∷ []
 numeralIn b (suc k) n =
