@@ -2,7 +2,7 @@
 -- crate `line_walk`. Source: document 01, "Line subsections": one record is held back until its end is known; the ends are the next non-marker
 -- line's offset, then section offset plus code size when a subsection's blocks are done; a place past the lent bytes is 1; 11 comes first.
 -- Definitions only; a reader must believe them.
-use Prim.Native.Nat.{ℕ, _+_, _-_, _*_}
+use Prim.Native.Nat.{ℕ, _+_, _-_, _*_, _%_, _^_}
 use mathlib.Core.List.{List}
 use mathlib.Core.Bool.{Bool, true, false, cond}
 use lib.ListN.{length, take}
@@ -12,7 +12,7 @@ use Rattle.walk.specs.Listing.{Move, item, pass, over, fail, Answer, gives, non
 use Rattle.refusal.specs.Told.{Told, told, longest}
 use Rattle.refusal.specs.declared.Refusal.the-variants as why
 use Rattle.area.specs.Kind.{Sort}
-use Rattle.body.specs.Lines.{lineHead, columned}
+use Rattle.body.specs.Lines.{lineHeadSize, lineHead, columned}
 use Rattle.find.specs.Find.{Span, bytesAt}
 use Rattle.line_record.specs.Record.{maxOffset, columnIf, headSource, entryOf, closedAt}
 use Rattle.line_record.specs.declared.LineRecord.{LineRecord}
@@ -47,12 +47,22 @@ lineEntryAt b p =
     cond (ltb (length b) (p .line + 8)) (refused (told why.Cut))
     (cond (ltb (length b) (p .column + 4)) (refused (told why.Cut)) (entryIn b p))
 
+-- what comes behind a slot, of which nothing is searched yet, and no record is held
+abbrev pub freshRest : ℕ → ℕ → Rest
+freshRest slot left = record { slot = slot; left = left; scan = 0; held = Nothing }
+
 abbrev pub withHeld : Rest → Held → Rest
 withHeld t h = record { slot = t .slot; left = t .left; scan = t .scan; held = h }
 
-abbrev pub pastLine : Place → Place
-pastLine p =
-    record { head = p .head; end = p .end; next = p .next; file = p .file; lines = p .lines - 1; line = p .line + 8; column = p .column + 4 }
+-- the place n lines on: each line uses up its column entry
+abbrev pub linesOn : Place → ℕ → Place
+linesOn p n =
+    record { head = p .head; end = p .end; next = p .next; file = p .file; lines = p .lines - n; line = p .line + 8 * n; column = p .column + 4 * n }
+
+-- and as 64 bits hold it, for every place and n, also where a walk comes to none
+abbrev pub pastLines : Place → ℕ → Place
+pastLines p n =
+    record { head = p .head; end = p .end; next = p .next; file = p .file; lines = p .lines - n; line = (p .line + 8 * n) % 2 ^ 64; column = (p .column + 4 * n) % 2 ^ 64 }
 
 -- a new record r, with the walk w behind it: the record that was held is closed by it
 abbrev pub holdIn : Held → LineRecord → LineWalk → LineMove
@@ -63,8 +73,8 @@ abbrev pub holdOf : Place → Rest → LineRecord → LineMove
 holdOf p t r = holdIn (t .held) r (Inside p (withHeld t (One r)))
 
 abbrev pub lineOf : Place → Rest → Reply LineRecord Told → LineMove
-lineOf p t (gave r) = holdOf (pastLine p) t r
-lineOf p t nothing = pass (Inside (pastLine p) t)
+lineOf p t (gave r) = holdOf (linesOn p 1) t r
+lineOf p t nothing = pass (Inside (linesOn p 1) t)
 lineOf p t (refused e) = fail e
 
 abbrev pub lineTurn : List ℕ → Place → Rest → LineMove
@@ -88,22 +98,37 @@ inBlock p k x = record {
   column = columnPlace (columned (p .head .flags)) (k .start) (k .count);
 }
 
-unfoldable pub endIn : Held → LineHeader → Rest → LineMove
-endIn Nothing h t = pass (Between t)
-endIn (One r) h t =
-    cond (ltb maxOffset (h .offset + h .code)) (fail (told why.OffsetTooLarge))
-    (pass (Between (withHeld t (One (closedAt (h .section) (h .offset + h .code) r)))))
+abbrev pub blockPlace : Place → Answer ℕ LineBlock Told → Reply Place Told
+blockPlace p (gives k x) = gave (inBlock p k x)
+blockPlace p none = nothing
+blockPlace p (refuses e) = refused e
+
+-- the place in the next block of the body b, or nothing where its blocks are done
+abbrev pub nextBlock : List ℕ → Place → Reply Place Told
+nextBlock b p = blockPlace p (blockAt (columned (p .head .flags)) b (p .next))
+
+-- the end of a subsection closes the record that is held
+unfoldable pub endHeld : LineHeader → Held → Reply Held Told
+endHeld h Nothing = gave Nothing
+endHeld h (One r) =
+    cond (ltb maxOffset (h .offset + h .code)) (refused (told why.OffsetTooLarge))
+    (gave (One (closedAt (h .section) (h .offset + h .code) r)))
+
+abbrev pub endMove : Rest → Reply Held Told → LineMove
+endMove t (gave o) = pass (Between (withHeld t o))
+endMove t nothing = over
+endMove t (refused e) = fail e
 
 abbrev pub endOf : LineHeader → Rest → LineMove
-endOf h t = endIn (t .held) h t
+endOf h t = endMove t (endHeld h (t .held))
 
-abbrev pub blockOf : Place → Rest → Answer ℕ LineBlock Told → LineMove
-blockOf p t (gives k x) = pass (Inside (inBlock p k x) t)
-blockOf p t none = endOf (p .head) t
-blockOf p t (refuses e) = fail e
+abbrev pub blockOf : Place → Rest → Reply Place Told → LineMove
+blockOf p t (gave q) = pass (Inside q t)
+blockOf p t nothing = endOf (p .head) t
+blockOf p t (refused e) = fail e
 
 abbrev pub blockTurn : List ℕ → Place → Rest → LineMove
-blockTurn b p t = blockOf p t (blockAt (columned (p .head .flags)) b (p .next))
+blockTurn b p t = blockOf p t (nextBlock b p)
 
 unfoldable pub insideTurn : List ℕ → Place → Rest → LineMove
 insideTurn s p t =
@@ -117,13 +142,31 @@ placeAt h first end = record { head = h; end = end; next = first; file = 0; line
 
 -- before the first block of the body of n bytes at a
 abbrev pub bodyPlace : List ℕ → ℕ → ℕ → Place
-bodyPlace s a n = placeAt (untoldHeader (lineHead (bytesAt s (record { start = a; len = n })))) (a + 12) (a + n)
+bodyPlace s a n = placeAt (untoldHeader (lineHead (bytesAt s (record { start = a; len = n })))) (a + lineHeadSize) (a + n)
 
+-- a body without room for a header is 1
+unfoldable pub headedPlace : List ℕ → ℕ → ℕ → Reply Place Told
+headedPlace s a n = cond (ltb n lineHeadSize) (refused (told why.Cut)) (gave (bodyPlace s a n))
+
+-- and one that does not lie in s, for every part
+unfoldable pub enterPlace : List ℕ → ℕ → ℕ → Reply Place Told
+enterPlace s a n = cond (ltb (length s) (a + n)) (refused (told why.Cut)) (headedPlace s a n)
+
+-- what comes behind the body that the next slot names and that ends at x
 abbrev pub restAt : Rest → ℕ → Rest
 restAt t x = record { slot = t .slot + 1; left = t .left - 1; scan = x; held = t .held }
 
-unfoldable pub enterAt : List ℕ → Rest → ℕ → ℕ → LineMove
-enterAt s t a n = cond (ltb n 12) (fail (told why.Cut)) (pass (Inside (bodyPlace s a n) (restAt t (a + n))))
+-- and as 64 bits hold it, for every rest
+abbrev pub behindBody : Rest → ℕ → Rest
+behindBody t x = record { slot = (t .slot + 1) % 2 ^ 64; left = t .left - 1; scan = x; held = t .held }
+
+abbrev pub enterMove : Rest → ℕ → Reply Place Told → LineMove
+enterMove t x (gave p) = pass (Inside p (restAt t x))
+enterMove t x nothing = over
+enterMove t x (refused e) = fail e
+
+abbrev pub enterAt : List ℕ → Rest → ℕ → ℕ → LineMove
+enterAt s t a n = enterMove t (a + n) (headedPlace s a n)
 
 abbrev pub namedOf : List ℕ → Rest → Reply Span Told → LineMove
 namedOf s t (gave a) = enterAt s t (a .start) (a .len)
@@ -146,7 +189,7 @@ unfoldable pub betweenTurn : (ℕ → Sort) → List ℕ → List ℕ → Rest �
 betweenTurn rule s v t = cond (eqb (t .left) 0) (finishOf t) (subTurn rule s v t)
 
 abbrev pub openOf : Reply ℕ Told → LineMove
-openOf (gave n) = pass (Between (record { slot = 0; left = n; scan = 0; held = Nothing }))
+openOf (gave n) = pass (Between (freshRest 0 n))
 openOf nothing = over
 openOf (refused e) = fail e
 

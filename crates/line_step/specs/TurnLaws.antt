@@ -1,24 +1,28 @@
 -- Laws of the turns: one for each way out of the code's tests.
-use Prim.Native.Nat.{ℕ, _+_, _<_, _≤_}
-use mathlib.Core.Path.{_≡_, sym, ap, _∙_, subst⁻¹}
+use Prim.Native.Nat.{ℕ, _+_, _-_, _*_, _%_, _^_, _<_, _≤_}
+use mathlib.Core.Path.{_≡_, refl, sym, ap, _∙_, subst⁻¹}
 use mathlib.Core.List.{List}
-use mathlib.Core.Bool.{Bool}
+use mathlib.Core.Bool.{Bool, true, false}
+use native.Mathlib.Omega.{arith}
 use lib.ListN.{length, take}
+use lib.Seq.{length-take-le}
 use lib.Dec.{ltb}
 use borrow.Author.Tests.{ltb-false}
 use Rattle.word.specs.Word.{u32At}
 use Rattle.walk.specs.Cases.{tests, by-cases}
-use Rattle.walk.specs.Listing.{item, pass, fail, Answer, gives, Reply, gave, nothing, refused}
+use Rattle.walk.specs.Listing.{item, pass, fail, Answer, gives, none, refuses, Reply, gave, nothing, refused}
 use Rattle.refusal.specs.Told.{Told, told, longest}
 use Rattle.refusal.specs.declared.Refusal.the-variants as why
 use Rattle.area.specs.Kind.{Sort}
-use Rattle.body.specs.Lines.{lineHead, columned}
+use Rattle.body.specs.Lines.{lineHeadSize, lineHead, columned, lineBytes}
 use Rattle.find.specs.Find.{Span, bytesAt}
 use Rattle.line_record.specs.Record.{maxOffset, columnIf, entryOf, closedAt}
 use Rattle.line_record.specs.declared.LineRecord.{LineRecord}
 use Rattle.line_record.specs.declared.LineSource.{LineSource}
 use Rattle.lines.specs.Blocks.{LineBlock, blockAt}
+use Rattle.lines.specs.BlocksLaws.{block-in}
 use Rattle.lines.specs.Slots.{slotAt}
+use Rattle.lines.specs.SlotsLaws.{slot-inside}
 use Rattle.lines.specs.Told.{toldHeader, untoldHeader}
 use Rattle.lines.specs.declared.LineHeader.{LineHeader}
 use Rattle.line_step.specs.declared.Held.{Held}
@@ -27,7 +31,7 @@ use Rattle.line_step.specs.declared.Rest.{Rest}
 use Rattle.line_step.specs.declared.Place.{Place}
 use Rattle.line_step.specs.declared.LineWalk.{LineWalk}
 use Rattle.line_step.specs.declared.LineWalk.the-variants.{Between, Inside}
-use Rattle.line_step.specs.Turn.{LineMove, sourceOf, entryIn, lineEntryAt, withHeld, pastLine, holdIn, holdOf, lineOf, lineTurn, columnPlace, endIn, blockOf, blockTurn, insideTurn, placeAt, restAt, enterAt, namedOf, subTurn, finishIn, finishOf, betweenTurn, turnIn, turnOf}
+use Rattle.line_step.specs.Turn.{LineMove, sourceOf, entryIn, lineEntryAt, withHeld, linesOn, pastLines, holdIn, holdOf, lineOf, lineTurn, columnPlace, blockPlace, nextBlock, endHeld, endMove, endOf, blockOf, blockTurn, insideTurn, placeAt, headedPlace, enterPlace, restAt, behindBody, enterMove, namedOf, subTurn, finishIn, finishOf, betweenTurn, turnIn, turnOf}
 
 -- ---- a line
 
@@ -72,6 +76,21 @@ entry-lies b p =
 pub entry-within : (b : List ℕ) (p : Place) (e : Reply LineRecord Told) → e ≡ lineEntryAt b p → EntryIn (length b) p e
 entry-within b p e q = subst⁻¹ (EntryIn (length b) p) q (entry-lies b p)
 
+-- n lines on, as code reckons it
+pub past-lines-in : (p : Place) (n l a k : ℕ) → l ≡ p .lines - n → a ≡ (p .line + 8 * (n % 2 ^ 61)) % 2 ^ 64 → k ≡ (p .column + 4 * (n % 2 ^ 62)) % 2 ^ 64
+    → record { head = p .head; end = p .end; next = p .next; file = p .file; lines = l; line = a; column = k } ≡ pastLines p n
+past-lines-in p n l a k el ea ek =
+    let fa : a ≡ (p .line + 8 * n) % 2 ^ 64 = omega arith in
+    let fk : k ≡ (p .column + 4 * n) % 2 ^ 64 = omega arith in
+    λ i. record { head = p .head; end = p .end; next = p .next; file = p .file; lines = el i; line = fa i; column = fk i }
+
+-- and where the places fit
+pub past-lines-are : (p : Place) (n : ℕ) → p .line + 8 * n < 2 ^ 64 → p .column + 4 * n < 2 ^ 64 → (q : Place) → q ≡ pastLines p n → q ≡ linesOn p n
+past-lines-are p n h g q e =
+    let a : (p .line + 8 * n) % 2 ^ 64 ≡ p .line + 8 * n = omega arith in
+    let b : (p .column + 4 * n) % 2 ^ 64 ≡ p .column + 4 * n = omega arith in
+    e ∙ (λ i. record { head = p .head; end = p .end; next = p .next; file = p .file; lines = p .lines - n; line = a i; column = b i })
+
 module _ (o : Held) (p : Place) (t : Rest) (r : LineRecord) (u : Rest) (eu : u ≡ withHeld t (One r)) where
   pub hold-nothing : o ≡ Nothing → pass (Inside p u) ≡ holdIn o r (Inside p (withHeld t (One r)))
   hold-nothing e = rw e (ap (λ k. pass (Inside p k)) eu)
@@ -81,7 +100,7 @@ module _ (o : Held) (p : Place) (t : Rest) (r : LineRecord) (u : Rest) (eu : u �
   hold-one q k e ek = rw e (λ i. item (ek i) (Inside p (eu i)))
 
 module _ (b : List ℕ) (p : Place) (t : Rest) where
-  module _ (k : Place) (ek : k ≡ pastLine p) where
+  module _ (k : Place) (ek : k ≡ linesOn p 1) where
     pub line-line : (r : LineRecord) (u : LineMove) → gave r ≡ lineEntryAt b p → u ≡ holdOf k t r → u ≡ lineTurn b p t
     line-line r u e eu = eu ∙ ap (λ q. holdOf q t r) ek ∙ ap (lineOf p t) e
 
@@ -93,31 +112,82 @@ module _ (b : List ℕ) (p : Place) (t : Rest) where
 
 -- ---- a block, or the end of the blocks
 
-module _ (o : Held) (h : LineHeader) (t : Rest) where
-  pub end-nothing : o ≡ Nothing → pass (Between t) ≡ endIn o h t
-  unfolding endIn
+module _ (h : LineHeader) (o : Held) where
+  pub end-nothing : o ≡ Nothing → gave Nothing ≡ endHeld h o
+  unfolding endHeld
   end-nothing e = rw e
 
   module _ (r : LineRecord) (e : o ≡ One r) where
-    pub end-large : maxOffset < h .offset + h .code → fail (told why.OffsetTooLarge) ≡ endIn o h t
-    unfolding endIn
+    pub end-large : maxOffset < h .offset + h .code → refused (told why.OffsetTooLarge) ≡ endHeld h o
+    unfolding endHeld
     end-large g = simp (tests, e)
 
-    pub end-close : h .offset + h .code ≤ maxOffset → (k : LineRecord) (u : Rest) → k ≡ closedAt (h .section) (h .offset + h .code) r
-        → u ≡ withHeld t (One k) → pass (Between u) ≡ endIn o h t
-    unfolding endIn
-    end-close g k u ek eu = ap (λ x. pass (Between x)) eu ∙ ap (λ x. pass (Between (withHeld t (One x)))) ek ∙ sym (simp (tests, e))
+    pub end-close : h .offset + h .code ≤ maxOffset → (k : LineRecord) → k ≡ closedAt (h .section) (h .offset + h .code) r → gave (One k) ≡ endHeld h o
+    unfolding endHeld
+    end-close g k ek = ap (λ x. gave (One x)) ek ∙ sym (simp (tests, e))
 
-module _ (b : List ℕ) (p : Place) (t : Rest) (c : Bool) (ec : c ≡ columned (p .head .flags)) where
-  pub block-is : (a : Answer ℕ LineBlock Told) → a ≡ blockAt c b (p .next) → blockOf p t a ≡ blockTurn b p t
-  block-is a e = ap (blockOf p t) (e ∙ ap (λ x. blockAt x b (p .next)) ec)
+-- a is what the end of the body answers, and u the rest with it
+module _ (h : LineHeader) (t : Rest) where
+  pub end-on : (o : Held) (u : Rest) → gave o ≡ endHeld h (t .held) → u ≡ withHeld t o → pass (Between u) ≡ endOf h t
+  end-on o u e eu = ap (λ x. pass (Between x)) eu ∙ ap (endMove t) e
 
-  pub block-lines : (k : LineBlock) (x j : ℕ) → gives k x ≡ blockAt c b (p .next) → j ≡ columnPlace c (k .start) (k .count)
-      → pass (Inside (record { head = p .head; end = p .end; next = x; file = k .file; lines = k .count; line = k .start; column = j }) t) ≡ blockTurn b p t
-  block-lines k x j e ej =
+  pub end-refused : (e : Told) → refused e ≡ endHeld h (t .held) → fail e ≡ endOf h t
+  end-refused e q = ap (endMove t) q
+
+module _ (b : List ℕ) (p : Place) (c : Bool) (ec : c ≡ columned (p .head .flags)) where
+  pub next-block-is : (a : Answer ℕ LineBlock Told) → a ≡ blockAt c b (p .next) → blockPlace p a ≡ nextBlock b p
+  next-block-is a e = ap (blockPlace p) (e ∙ ap (λ x. blockAt x b (p .next)) ec)
+
+  -- k is the block, x the place behind it, and j that of its columns
+  pub next-block-in : (k : LineBlock) (x j : ℕ) → gives k x ≡ blockAt c b (p .next) → j ≡ columnPlace c (k .start) (k .count)
+      → gave (record { head = p .head; end = p .end; next = x; file = k .file; lines = k .count; line = k .start; column = j }) ≡ nextBlock b p
+  next-block-in k x j e ej =
       let ej′ = ej ∙ ap (λ d. columnPlace d (k .start) (k .count)) ec in
-      ap (λ i. pass (Inside (record { head = p .head; end = p .end; next = x; file = k .file; lines = k .count; line = k .start; column = i }) t)) ej′
-      ∙ block-is (gives k x) e
+      ap (λ i. gave (record { head = p .head; end = p .end; next = x; file = k .file; lines = k .count; line = k .start; column = i })) ej′
+      ∙ next-block-is (gives k x) e
+
+-- q is a place in the block behind p: its lines and columns lie in the body, and less of that is left
+pub record Opens (p q : Place) : Type 0 where
+  pub head : q .head ≡ p .head
+  pub end : q .end ≡ p .end
+  pub next : q .next ≤ q .end
+  pub lines : q .line + 8 * q .lines ≤ q .end
+  pub columns : q .column + 4 * q .lines ≤ q .end
+  pub less : q .end - q .next + 2 * q .lines < p .end - p .next
+
+abbrev pub OpensIn : Place → Reply Place Told → Type 0
+OpensIn p (gave q) = Opens p q
+OpensIn p nothing = Unit {0}
+OpensIn p (refused t) = Unit {0}
+
+-- the columns of n lines at a end where its bytes do
+bytes-columns : (c : Bool) (a n : ℕ) → columnPlace c a n + 4 * n ≤ a + lineBytes c n
+bytes-columns true a n = omega arith
+bytes-columns false a n = omega arith
+
+module _ (s : List ℕ) (p : Place) (h : p .end ≤ length s) where
+  pub next-block-lies : OpensIn p (nextBlock (take (p .end) s) p)
+  next-block-lies = on (blockAt c b (p .next)) refl
+    where
+      b : List ℕ
+      b = take (p .end) s
+
+      c : Bool
+      c = columned (p .head .flags)
+
+      on : (a : Answer ℕ LineBlock Told) → a ≡ blockAt c b (p .next) → OpensIn p (blockPlace p a)
+      on (gives k x) e =
+          let m = length-take-le (p .end) s h in
+          let w = block-in c b (p .next) k x e in
+          record { head = refl; end = refl; next = omega arith; lines = omega arith; columns = omega (arith, bytes-columns c (k .start) (k .count)); less = omega arith }
+      on none e = tt
+      on (refuses t) e = tt
+
+  pub next-block-opens : (q : Place) → gave q ≡ nextBlock (take (p .end) s) p → Opens p q
+  next-block-opens q e = subst⁻¹ (OpensIn p) e next-block-lies
+
+pub block-is : (b : List ℕ) (p : Place) (t : Rest) (a : Reply Place Told) → a ≡ nextBlock b p → blockOf p t a ≡ blockTurn b p t
+block-is b p t a e = ap (blockOf p t) e
 
 module _ (s : List ℕ) (p : Place) (t : Rest) where
   pub inside-past : length s < p .end → fail (told why.Cut) ≡ insideTurn s p t
@@ -135,22 +205,71 @@ module _ (s : List ℕ) (p : Place) (t : Rest) where
 
 -- ---- a subsection
 
-module _ (s : List ℕ) (t : Rest) (a n : ℕ) where
-  pub enter-short : n < 12 → fail (told why.Cut) ≡ enterAt s t a n
-  unfolding enterAt
-  enter-short h = simp tests
+module _ (s : List ℕ) (a n : ℕ) where
+  pub enter-outside : length s < a + n → refused (told why.Cut) ≡ enterPlace s a n
+  unfolding enterPlace
+  enter-outside h = simp tests
 
-  -- k is the length of the part that was lent, g its header, and q the place before its first block
-  pub enter-in : 12 ≤ n → (k : ℕ) (g : LineHeader) (q : Place) → k ≡ n → toldHeader g ≡ lineHead (bytesAt s (record { start = a; len = k }))
-      → q ≡ placeAt g (a + 12) (a + n) → pass (Inside q (restAt t (a + n))) ≡ enterAt s t a n
-  unfolding enterAt
-  enter-in h k g q ek eg eq =
-      let e = eg ∙ ap (λ (j : ℕ). lineHead (bytesAt s (record { start = a; len = j }))) ek in
-      ap (λ x. pass (Inside x (restAt t (a + n)))) (eq ∙ ap (λ x. placeAt (untoldHeader x) (a + 12) (a + n)) e) ∙ sym (simp tests)
+  module _ (h₁ : a + n ≤ length s) where
+    -- the case that a walk comes to
+    pub enter-lies : headedPlace s a n ≡ enterPlace s a n
+    unfolding enterPlace
+    enter-lies = sym (simp tests)
+
+    pub enter-short : n < lineHeadSize → refused (told why.Cut) ≡ enterPlace s a n
+    unfolding headedPlace
+    enter-short h = sym (simp tests) ∙ enter-lies
+
+    -- k is the length of the part that was lent, g its header, and q the place before its first block
+    pub enter-in : lineHeadSize ≤ n → (k : ℕ) (g : LineHeader) (q : Place) → k ≡ n
+        → toldHeader g ≡ lineHead (bytesAt s (record { start = a; len = k })) → q ≡ placeAt g (a + lineHeadSize) (a + n) → gave q ≡ enterPlace s a n
+    unfolding headedPlace
+    enter-in h k g q ek eg eq =
+        let e = eg ∙ ap (λ (j : ℕ). lineHead (bytesAt s (record { start = a; len = j }))) ek in
+        ap gave (eq ∙ ap (λ x. placeAt (untoldHeader x) (a + lineHeadSize) (a + n)) e) ∙ sym (simp tests) ∙ enter-lies
+
+-- a place in a body ends where the body does
+abbrev EndsAt : ℕ → Reply Place Told → Type 0
+EndsAt x (gave q) = q .end ≡ x
+EndsAt x nothing = Unit {0}
+EndsAt x (refused t) = Unit {0}
+
+enter-ends-at : (s : List ℕ) (a n : ℕ) → EndsAt (a + n) (enterPlace s a n)
+unfolding enterPlace headedPlace
+enter-ends-at s a n = by-cases (EndsAt (a + n)) (ltb (length s) (a + n)) (λ e. tt) (λ e. by-cases (EndsAt (a + n)) (ltb n lineHeadSize) (λ f. tt) (λ f. refl))
+
+pub enter-ends : (s : List ℕ) (a n : ℕ) (q : Place) → gave q ≡ enterPlace s a n → q .end ≡ a + n
+enter-ends s a n q e = subst⁻¹ (EndsAt (a + n)) e (enter-ends-at s a n)
+
+-- what comes behind a body, as code reckons it
+pub behind-in : (t : Rest) (x i l : ℕ) → i ≡ (t .slot + 1) % 2 ^ 64 → l ≡ t .left - 1 → record { slot = i; left = l; scan = x; held = t .held } ≡ behindBody t x
+behind-in t x i l ei el = λ j. record { slot = ei j; left = el j; scan = x; held = t .held }
+
+-- and where the slot's number fits
+pub behind-is : (t : Rest) (x : ℕ) → t .slot + 1 < 2 ^ 64 → behindBody t x ≡ restAt t x
+behind-is t x h =
+    let e : (t .slot + 1) % 2 ^ 64 ≡ t .slot + 1 = omega arith in
+    ap (λ k. record { slot = k; left = t .left - 1; scan = x; held = t .held }) e
 
 module _ (rule : ℕ → Sort) (s v : List ℕ) (t : Rest) where
   pub sub-is : (x : Reply Span Told) → x ≡ slotAt rule s v (t .slot) (t .scan) → namedOf s t x ≡ subTurn rule s v t
   sub-is x e = ap (namedOf s t) e
+
+  -- the slot names the body of n bytes at a
+  module _ (a n : ℕ) (h : length v < 2 ^ 64) (e : gave (record { start = a; len = n }) ≡ slotAt rule s v (t .slot) (t .scan)) where
+    sub-lies : enterMove t (a + n) (enterPlace s a n) ≡ subTurn rule s v t
+    sub-lies =
+        let i = slot-inside rule s v (t .slot) (t .scan) (record { start = a; len = n }) e in
+        ap (enterMove t (a + n)) (sym (enter-lies s a n (i .1))) ∙ sub-is (gave (record { start = a; len = n })) e
+
+    -- q is the place in it, and u what comes behind it
+    pub sub-entered : (q : Place) (u : Rest) → gave q ≡ enterPlace s a n → u ≡ behindBody t (q .end) → pass (Inside q u) ≡ subTurn rule s v t
+    sub-entered q u f eu =
+        let i = slot-inside rule s v (t .slot) (t .scan) (record { start = a; len = n }) e in
+        ap (λ x. pass (Inside q x)) (eu ∙ ap (behindBody t) (enter-ends s a n q f) ∙ behind-is t (a + n) (omega arith)) ∙ ap (enterMove t (a + n)) f ∙ sub-lies
+
+    pub sub-cut : (x : Told) → refused x ≡ enterPlace s a n → fail x ≡ subTurn rule s v t
+    sub-cut x f = ap (enterMove t (a + n)) f ∙ sub-lies
 
   -- ---- the whole turn
 

@@ -1,15 +1,15 @@
 // One turn of the line walk (crate: `LineIterator`): it opens the walk, goes into the subsection that the next slot names, into its next block,
 // over a line or to the subsection's end, and says whether a record is ready.
 //
-// A state goes in and comes back by value, and may be forged: each turn holds its places against the area again.
+// A state goes in and comes back by value, and may be forged: each turn holds its places against the area again. The moves that a turn is made of are
+// public too, and answer for every state, so that whoever makes many turns at once makes them by the same moves.
 ghost use mathlib.Core.Path.{_≡_};
-ghost use Prim.Native.Nat.{_+_, _*_, _≤_, _<_, _^_};
-ghost use lib.ListN.{length};
+ghost use Prim.Native.Nat.{_+_, _-_, _*_, _≤_, _<_, _^_};
 ghost use Rattle.area.specs.Kind.{crateRule};
 ghost use Rattle.line_record.specs.Told.{toldLineEntry};
-ghost use Rattle.line_step.specs.Turn.{sourceOf, lineEntryAt, withHeld, pastLine, holdOf, lineTurn, columnPlace, endOf, blockTurn, insideTurn, placeAt, enterAt, subTurn, finishOf, betweenTurn, openOf, turnOf};
+ghost use Rattle.line_step.specs.Turn.{sourceOf, lineEntryAt, freshRest, withHeld, pastLines, holdOf, lineTurn, columnPlace, nextBlock, endHeld, endOf, blockTurn, insideTurn, placeAt, enterPlace, behindBody, subTurn, finishOf, betweenTurn, openOf, turnOf};
 ghost use Rattle.lines.specs.Lines.{countLines};
-ghost use Rattle.line_step.specs.Told.{toldTurn};
+ghost use Rattle.line_step.specs.Told.{toldNextBlock, toldEndBody, toldEntered, toldTurn};
 use line_record::Entry;
 use line_record::LineRecord;
 use line_record::LineSource;
@@ -17,6 +17,7 @@ use line_record::closed;
 use line_record::entry_of;
 use lines::BlockStep;
 use lines::Counted;
+use lines::LINE_HEAD;
 use lines::LineHeader;
 use lines::Named;
 use lines::block_at;
@@ -26,6 +27,7 @@ use lines::header_of;
 use lines::slot_body;
 use refusal::LONGEST;
 use refusal::Refusal;
+use std::num::wrapping_add_usize;
 use word::u32_at;
 
 // The record that is held back until its end is known.
@@ -108,7 +110,19 @@ fn entry_at(body: &[u8], p: Place) -> Entry
     entry_of(source, offset, flags, word)
 }
 
-fn with_held(t: Rest, held: Held) -> Rest
+// What comes behind a slot, of which nothing is searched yet, and no record is held.
+pub fn fresh_rest(slot: usize, left: usize) -> Rest
+    ensures { λ r. ⌜ r ≡ freshRest slot left ⌝ }
+{
+    Rest {
+        slot,
+        left,
+        scan: 0,
+        held: Held::Nothing,
+    }
+}
+
+pub fn with_held(t: Rest, held: Held) -> Rest
     ensures { λ r. ⌜ r ≡ withHeld t held ⌝ }
 {
     Rest {
@@ -119,20 +133,44 @@ fn with_held(t: Rest, held: Held) -> Rest
     }
 }
 
-// A line uses up its column entry, also where it is a marker.
-fn past_line(p: Place) -> Place
-    requires { ⌜ (1 ≤ p .lines) × (p .line + 8 < 2 ^ 64) × (p .column + 4 < 2 ^ 64) ⌝ }
-    ensures { λ r. ⌜ r ≡ pastLine p ⌝ }
+// a - b, and 0 where b is the larger.
+fn less(a: usize, b: usize) -> usize
+    ensures { λ r. ⌜ r ≡ a - b ⌝ }
 {
-    let h = p.head;
+    if a < b {
+        return 0;
+    }
+    a - b
+}
+
+// What comes behind the subsection that the next slot names and that ends at `end`. The slot of a forged state goes round where it does not fit 64 bits:
+// no list has it.
+pub fn behind_body(t: Rest, end: usize) -> Rest
+    ensures { λ r. ⌜ r ≡ behindBody t end ⌝ }
+{
+    let held = t.held;
+    Rest {
+        slot: wrapping_add_usize(t.slot, 1),
+        left: less(t.left, 1),
+        scan: end,
+        held,
+    }
+}
+
+// The place n lines on. A line uses up its column entry, also where it is a marker. The places of a forged state go round where they do not fit 64 bits:
+// nothing is read there before the next turn holds them against the area.
+pub fn past_lines(p: Place, n: usize) -> Place
+    ensures { λ r. ⌜ r ≡ pastLines p n ⌝ }
+{
+    let head = p.head;
     Place {
-        head: h,
+        head,
         end: p.end,
         next: p.next,
         file: p.file,
-        lines: p.lines - 1,
-        line: p.line + 8,
-        column: p.column + 4,
+        lines: less(p.lines, n),
+        line: wrapping_add_usize(p.line, 8 * (n % 0x2000_0000_0000_0000)),
+        column: wrapping_add_usize(p.column, 4 * (n % 0x4000_0000_0000_0000)),
     }
 }
 
@@ -154,8 +192,8 @@ fn line_turn(body: &[u8], p: Place, t: Rest) -> Turn
     ensures { λ r. ⌜ toldTurn r ≡ lineTurn (now (body .entry)) p t ⌝ }
 {
     match entry_at(body, p) {
-        Entry::Line(r) => hold(past_line(p), t, r),
-        Entry::Marker => Turn::Pass(LineWalk::Inside(past_line(p), t)),
+        Entry::Line(r) => hold(past_lines(p, 1), t, r),
+        Entry::Marker => Turn::Pass(LineWalk::Inside(past_lines(p, 1), t)),
         Entry::Refused(why) => Turn::Refused(why),
     }
 }
@@ -171,26 +209,15 @@ fn column_place(columns: bool, start: usize, count: usize) -> usize
     start
 }
 
-// The blocks of a subsection are done: its end closes the record that is held.
-fn end_turn(h: LineHeader, t: Rest) -> Turn
-    ensures { λ r. ⌜ toldTurn r ≡ endOf h t ⌝ }
-{
-    let held = t.held;
-    match held {
-        Held::Nothing => Turn::Pass(LineWalk::Between(t)),
-        Held::One(r) => {
-            if LineRecord::MAX_OFFSET - h.offset < h.code {
-                return Turn::Refused(Refusal::OffsetTooLarge);
-            }
-            let c = closed(r, h.section, h.offset + h.code);
-            Turn::Pass(LineWalk::Between(with_held(t, Held::One(c))))
-        }
-    }
+// The place in the next block of a subsection, or that its blocks are done.
+pub enum NextBlock {
+    In(Place),
+    Done,
+    Refused(Refusal),
 }
 
-// The next block of a subsection.
-fn block_turn(body: &[u8], p: Place, t: Rest) -> Turn
-    ensures { λ r. ⌜ toldTurn r ≡ blockTurn (now (body .entry)) p t ⌝ }
+pub fn next_block(body: &[u8], p: Place) -> NextBlock
+    ensures { λ r. ⌜ toldNextBlock r ≡ nextBlock (now (body .entry)) p ⌝ }
 {
     let h = p.head;
     let columns = has_columns(h.flags);
@@ -201,22 +228,59 @@ fn block_turn(body: &[u8], p: Place, t: Rest) -> Turn
             start,
             next,
         } => {
-            let column = column_place(columns, start, count);
-            Turn::Pass(LineWalk::Inside(
-                Place {
-                    head: h,
-                    end: p.end,
-                    next,
-                    file,
-                    lines: count,
-                    line: start,
-                    column,
-                },
-                t,
-            ))
+            let mut q = p;
+            q.next = next;
+            q.file = file;
+            q.lines = count;
+            q.line = start;
+            q.column = column_place(columns, start, count);
+            NextBlock::In(q)
         }
-        BlockStep::None => end_turn(h, t),
-        BlockStep::Refused(why) => Turn::Refused(why),
+        BlockStep::None => NextBlock::Done,
+        BlockStep::Refused(why) => NextBlock::Refused(why),
+    }
+}
+
+// The record that is held behind a subsection whose blocks are done.
+pub enum EndBody {
+    On(Held),
+    Refused(Refusal),
+}
+
+// The end of a subsection closes the record that is held.
+pub fn end_body(h: LineHeader, held: Held) -> EndBody
+    ensures { λ r. ⌜ toldEndBody r ≡ endHeld h held ⌝ }
+{
+    match held {
+        Held::Nothing => EndBody::On(Held::Nothing),
+        Held::One(r) => {
+            if LineRecord::MAX_OFFSET - h.offset < h.code {
+                return EndBody::Refused(Refusal::OffsetTooLarge);
+            }
+            EndBody::On(Held::One(closed(r, h.section, h.offset + h.code)))
+        }
+    }
+}
+
+fn end_turn(h: LineHeader, t: Rest) -> Turn
+    ensures { λ r. ⌜ toldTurn r ≡ endOf h t ⌝ }
+{
+    let held = t.held;
+    match end_body(h, held) {
+        EndBody::On(closing) => Turn::Pass(LineWalk::Between(with_held(t, closing))),
+        EndBody::Refused(why) => Turn::Refused(why),
+    }
+}
+
+// The next block of a subsection, or its end.
+fn block_turn(body: &[u8], p: Place, t: Rest) -> Turn
+    ensures { λ r. ⌜ toldTurn r ≡ blockTurn (now (body .entry)) p t ⌝ }
+{
+    let h = p.head;
+    match next_block(body, p) {
+        NextBlock::In(q) => Turn::Pass(LineWalk::Inside(q, t)),
+        NextBlock::Done => end_turn(h, t),
+        NextBlock::Refused(why) => Turn::Refused(why),
     }
 }
 
@@ -235,7 +299,7 @@ fn inside_turn(area: &[u8], p: Place, t: Rest) -> Turn
 }
 
 // Before the first block, at `first`, of a subsection that ends at `end`.
-fn place_at(head: LineHeader, first: usize, end: usize) -> Place
+pub fn place_at(head: LineHeader, first: usize, end: usize) -> Place
     ensures { λ r. ⌜ r ≡ placeAt head first end ⌝ }
 {
     Place {
@@ -249,35 +313,42 @@ fn place_at(head: LineHeader, first: usize, end: usize) -> Place
     }
 }
 
-// Into the subsection whose body of `len` bytes starts at `start`.
-fn enter(area: &[u8], t: Rest, start: usize, len: usize) -> Turn
-    requires { ⌜ (start + len ≤ length (now area)) × (1 ≤ t .left) × (t .slot + 1 < 2 ^ 64) ⌝ }
-    ensures { λ r. ⌜ toldTurn r ≡ enterAt (now (area .entry)) t start len ⌝ }
+// The place before the first block of a subsection.
+pub enum Entered {
+    In(Place),
+    Refused(Refusal),
+}
+
+// Into the subsection whose body of `len` bytes starts at `start`. A body that does not lie in the area is 1.
+pub fn enter(area: &[u8], start: usize, len: usize) -> Entered
+    ensures { λ r. ⌜ toldEntered r ≡ enterPlace (now (area .entry)) start len ⌝ }
 {
-    if len < 12 {
-        return Turn::Refused(Refusal::Cut);
+    if area.len() < start {
+        return Entered::Refused(Refusal::Cut);
+    }
+    if area.len() - start < len {
+        return Entered::Refused(Refusal::Cut);
+    }
+    if len < LINE_HEAD {
+        return Entered::Refused(Refusal::Cut);
     }
     let end = start + len;
     let h = header_of(&area[start..end]);
-    let held = t.held;
-    Turn::Pass(LineWalk::Inside(
-        place_at(h, start + 12, end),
-        Rest {
-            slot: t.slot + 1,
-            left: t.left - 1,
-            scan: end,
-            held,
-        },
-    ))
+    Entered::In(place_at(h, start + LINE_HEAD, end))
 }
 
 // The next subsection: the one that the next slot names.
 fn sub_turn(area: &[u8], slots: &[u32], t: Rest) -> Turn
-    requires { ⌜ 1 ≤ t .left ⌝ }
     ensures { λ r. ⌜ toldTurn r ≡ subTurn crateRule (now (area .entry)) (now (slots .entry)) t ⌝ }
 {
     match slot_body(area, slots, t.slot, t.scan) {
-        Named::Body { start, len } => enter(area, t, start, len),
+        Named::Body { start, len } => match enter(area, start, len) {
+            Entered::In(p) => {
+                let u = behind_body(t, p.end);
+                Turn::Pass(LineWalk::Inside(p, u))
+            }
+            Entered::Refused(why) => Turn::Refused(why),
+        },
         Named::Refused(why) => Turn::Refused(why),
     }
 }
@@ -307,12 +378,7 @@ fn open_turn(area: &[u8]) -> Turn
     ensures { λ r. ⌜ toldTurn r ≡ openOf (countLines crateRule (now (area .entry))) ⌝ }
 {
     match count_lines(area) {
-        Counted::Lines(n) => Turn::Pass(LineWalk::Between(Rest {
-            slot: 0,
-            left: n,
-            scan: 0,
-            held: Held::Nothing,
-        })),
+        Counted::Lines(n) => Turn::Pass(LineWalk::Between(fresh_rest(0, n))),
         Counted::Refused(why) => Turn::Refused(why),
     }
 }

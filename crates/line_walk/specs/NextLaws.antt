@@ -1,29 +1,25 @@
 -- Laws of a step: its turns come to an end, and one law for each way of the loop over them.
 use Prim.Native.Nat.{ℕ, zero, suc, _+_, _-_, _*_, _<_, _≤_}
-use mathlib.Core.Path.{_≡_, refl, subst}
+use mathlib.Core.Path.{_≡_, refl}
 use mathlib.Core.List.{List}
 use native.Mathlib.Nat.{suc-mul}
 use native.Mathlib.Omega.{arith}
 use lib.ListN.{length, take}
-use lib.Seq.{length-take-le}
 use lib.Dec.{ltb, eqb}
 use borrow.Author.Tests.{ltb-false, eqb-true, eqb-false}
 use Rattle.walk.specs.Cases.{by-cases}
-use Rattle.walk.specs.Listing.{pass, Answer, gives, none, refuses, Reply, gave, nothing, refused}
+use Rattle.walk.specs.Listing.{pass, Reply, gave, nothing, refused}
 use Rattle.walk.specs.ListingLaws.{To}
 use Rattle.walk.specs.First.{onFirst}
 use Rattle.walk.specs.FirstLaws.{first-is, pass-falls}
 use Rattle.walk.specs.PickLaws.{Gives}
 use Rattle.refusal.specs.Told.{Told, longest}
 use Rattle.area.specs.Kind.{Sort}
-use Rattle.body.specs.Lines.{columned}
 use Rattle.find.specs.Find.{Span}
 use Rattle.line_record.specs.Record.{maxOffset}
 use Rattle.line_record.specs.declared.LineRecord.{LineRecord}
 use Rattle.lines.specs.declared.LineHeader.{LineHeader}
 use Rattle.lines.specs.Lines.{countLines}
-use Rattle.lines.specs.Blocks.{LineBlock, blockAt}
-use Rattle.lines.specs.BlocksLaws.{BlockWithin, block-within}
 use Rattle.lines.specs.Slots.{slotAt}
 use Rattle.lines.specs.SlotsLaws.{SlotIn, slot-lies}
 use Rattle.line_step.specs.declared.Held.{Held}
@@ -32,7 +28,8 @@ use Rattle.line_step.specs.declared.Rest.{Rest}
 use Rattle.line_step.specs.declared.Place.{Place}
 use Rattle.line_step.specs.declared.LineWalk.{LineWalk}
 use Rattle.line_step.specs.declared.LineWalk.the-variants.{New, Between, Inside}
-use Rattle.line_step.specs.Turn.{LineMove, lineEntryAt, withHeld, pastLine, holdIn, lineOf, endIn, blockOf, insideTurn, enterAt, namedOf, finishIn, betweenTurn, openOf, turnIn, turnOf}
+use Rattle.line_step.specs.Turn.{LineMove, lineEntryAt, withHeld, linesOn, holdIn, lineOf, nextBlock, endHeld, endMove, blockOf, insideTurn, headedPlace, enterMove, enterAt, namedOf, finishIn, betweenTurn, openOf, turnIn, turnOf}
+use Rattle.line_step.specs.TurnLaws.{OpensIn, next-block-lies}
 use Rattle.line_walk.specs.Next.{oneHeld, turnBound, counting, todo, nextOf}
 
 weight-less : (s : List ℕ) (n : ℕ) → 1 ≤ n → turnBound s n ≡ suc (length s) + turnBound s (n - 1)
@@ -55,9 +52,9 @@ module _ (rule : ℕ → Sort) (s v : List ℕ) where
   finish-less t (One r) = omega arith
 
   enter-less : (t : Rest) (a n : ℕ) → 1 ≤ t .left → a + n ≤ length s → Less (todo rule s (Between t)) (enterAt s t a n)
-  unfolding enterAt
+  unfolding headedPlace
   enter-less t a n h g =
-      by-cases (Less (todo rule s (Between t))) (ltb n 12) (λ e. tt) (λ e. omega (arith, weight-less s (t .left) h, ltb-false n 12 e))
+      by-cases (λ k. Less (todo rule s (Between t)) (enterMove t (a + n) k)) (ltb n 12) (λ e. tt) (λ e. omega (arith, weight-less s (t .left) h, ltb-false n 12 e))
 
   named-less : (t : Rest) (o : Reply Span Told) → 1 ≤ t .left → Gives (SlotIn rule s v (t .slot) (t .scan)) o → Less (todo rule s (Between t)) (namedOf s t o)
   named-less t (gave a) h g = enter-less t (a .start) (a .len) h (g .1)
@@ -70,19 +67,18 @@ module _ (rule : ℕ → Sort) (s v : List ℕ) where
       by-cases (Less (todo rule s (Between t))) (eqb (t .left) 0) (λ e. finish-less t (t .held))
       (λ e. named-less t (slotAt rule s v (t .slot) (t .scan)) (omega (arith, eqb-false)) (slot-lies rule s v (t .slot) (t .scan)))
 
-  end-less : (h : LineHeader) (t : Rest) (o : Held) (m : ℕ) → turnBound s (t .left) + oneHeld o < m → oneHeld o ≡ oneHeld (t .held) → Less m (endIn o h t)
-  unfolding endIn
+  end-less : (h : LineHeader) (t : Rest) (o : Held) (m : ℕ) → turnBound s (t .left) + oneHeld o < m → oneHeld o ≡ oneHeld (t .held) → Less m (endMove t (endHeld h o))
+  unfolding endHeld
   end-less h t Nothing m l e = omega arith
-  end-less h t (One r) m l e = by-cases (Less m) (ltb maxOffset (h .offset + h .code)) (λ g. tt) (λ g. l)
+  end-less h t (One r) m l e = by-cases (λ k. Less m (endMove t k)) (ltb maxOffset (h .offset + h .code)) (λ g. tt) (λ g. l)
 
-  block-less : (p : Place) (t : Rest) (k : Answer ℕ LineBlock Told) → p .lines ≡ 0 → BlockWithin (columned (p .head .flags)) (p .end) (p .next) k
-      → Less (todo rule s (Inside p t)) (blockOf p t k)
-  block-less p t (gives k x) h w = omega arith
-  block-less p t none h w = end-less (p .head) t (t .held) (todo rule s (Inside p t)) (omega arith) refl
-  block-less p t (refuses e) h w = tt
+  block-less : (p : Place) (t : Rest) (k : Reply Place Told) → p .lines ≡ 0 → OpensIn p k → Less (todo rule s (Inside p t)) (blockOf p t k)
+  block-less p t (gave q) h o = omega (arith, o .less)
+  block-less p t nothing h o = end-less (p .head) t (t .held) (todo rule s (Inside p t)) (omega arith) refl
+  block-less p t (refused e) h o = tt
 
   hold-less : (p : Place) (t : Rest) (r : LineRecord) (o : Held) → 1 ≤ p .lines
-      → Less (suc (turnBound s (t .left) + (p .end - p .next) + 2 * p .lines + oneHeld o)) (holdIn o r (Inside (pastLine p) (withHeld t (One r))))
+      → Less (suc (turnBound s (t .left) + (p .end - p .next) + 2 * p .lines + oneHeld o)) (holdIn o r (Inside (linesOn p 1) (withHeld t (One r))))
   hold-less p t r Nothing h = omega arith
   hold-less p t r (One o) h = omega arith
 
@@ -97,9 +93,7 @@ module _ (rule : ℕ → Sort) (s v : List ℕ) where
       let b = take (p .end) s in
       by-cases (Less (todo rule s (Inside p t))) (ltb (length s) (p .end)) (λ g. tt)
       (λ g. by-cases (Less (todo rule s (Inside p t))) (eqb (p .lines) 0)
-      (λ e. block-less p t (blockAt (columned (p .head .flags)) b (p .next)) (eqb-true (p .lines) 0 e)
-      (subst (λ (m : ℕ). BlockWithin (columned (p .head .flags)) m (p .next) (blockAt (columned (p .head .flags)) b (p .next))) (length-take-le (p .end) s (ltb-false (length s) (p .end) g))
-      (block-within (columned (p .head .flags)) b (p .next))))
+      (λ e. block-less p t (nextBlock b p) (eqb-true (p .lines) 0 e) (next-block-lies s p (ltb-false (length s) (p .end) g)))
       (λ e. line-less p t (lineEntryAt b p) (omega (arith, eqb-false))))
 
   turn-less : (w : LineWalk) → Less (todo rule s w) (turnIn rule s v w)

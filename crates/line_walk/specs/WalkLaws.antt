@@ -1,6 +1,6 @@
 -- The walk is its meaning: n steps from a new walk on answer the records of `recordsOf` in order, and then its end again and again.
 use Prim.Native.Nat.{ℕ, zero, suc, _+_, _-_, _*_, _<_, _≤_}
-use mathlib.Core.Path.{_≡_, refl, sym, ap, _∙_, subst, subst⁻¹}
+use mathlib.Core.Path.{_≡_, refl, sym, ap, _∙_, subst⁻¹}
 use mathlib.Core.List.{List, [], _∷_}
 use mathlib.Core.Bool.{Bool, true, false, cond}
 use native.Mathlib.Nat.{add-zero}
@@ -12,7 +12,7 @@ use borrow.Author.Tests.{ltb-true, ltb-false, eqb-true, eqb-false}
 use Rattle.word.specs.Word.{u32At}
 use Rattle.word.specs.WordLaws.{u32-drop}
 use Rattle.walk.specs.Cases.{by-cases}
-use Rattle.walk.specs.Listing.{pass, over, fail, more, ends, fails, onMove, all, Answer, gives, none, refuses, moved, Reply, gave, nothing, refused, calls, replies}
+use Rattle.walk.specs.Listing.{pass, fail, more, ends, fails, onMove, all, Answer, gives, none, refuses, moved, Reply, gave, nothing, refused, calls, replies}
 use Rattle.walk.specs.ListingLaws.{To, calls-are}
 use Rattle.walk.specs.First.{first}
 use Rattle.walk.specs.FirstLaws.{all-first, all-kept, first-less, first-kept}
@@ -22,7 +22,7 @@ use Rattle.refusal.specs.Told.{Told, told, longest}
 use Rattle.refusal.specs.declared.Refusal.the-variants as why
 use Rattle.area.specs.Kind.{Sort}
 use Rattle.body.specs.Words.{wordsIn}
-use Rattle.body.specs.Lines.{LineHead, lineHead, columned, columnsOf, lineBytes, blocks}
+use Rattle.body.specs.Lines.{LineHead, lineHead, columned, columnsOf, blocks}
 use Rattle.find.specs.Find.{same, Span, bytesAt}
 use Rattle.line_record.specs.Record.{maxOffset, columnIf, headSource, entryOf, closedAt}
 use Rattle.line_record.specs.declared.LineRecord.{LineRecord}
@@ -30,7 +30,7 @@ use Rattle.lines.specs.declared.LineHeader.{LineHeader}
 use Rattle.lines.specs.Told.{toldHeader}
 use Rattle.lines.specs.Lines.{countLines}
 use Rattle.lines.specs.Blocks.{LineBlock, blockAt}
-use Rattle.lines.specs.BlocksLaws.{BlockWithin, block-within, blocksOn, blocks-step}
+use Rattle.lines.specs.BlocksLaws.{blocksOn, blocks-step}
 use Rattle.lines.specs.Body.{bodyOn}
 use Rattle.lines.specs.Slots.{bodyAt, nameThen, named, slotAt, listIn}
 use Rattle.lines.specs.SlotsLaws.{Scans, scans-start, SlotIn, slot-lies, slot-scanned, named-slot}
@@ -41,8 +41,8 @@ use Rattle.line_step.specs.declared.Rest.{Rest}
 use Rattle.line_step.specs.declared.Place.{Place}
 use Rattle.line_step.specs.declared.LineWalk.{LineWalk}
 use Rattle.line_step.specs.declared.LineWalk.the-variants.{New, Between, Inside}
-use Rattle.line_step.specs.Turn.{LineMove, entryIn, lineEntryAt, withHeld, pastLine, holdIn, lineOf, columnPlace, endIn, blockOf, insideTurn, bodyPlace, restAt, enterAt, namedOf, finishIn, betweenTurn, openOf, turnIn, turnOf}
-use Rattle.line_step.specs.TurnLaws.{entry-inside}
+use Rattle.line_step.specs.Turn.{LineMove, entryIn, lineEntryAt, withHeld, linesOn, holdIn, lineOf, columnPlace, blockPlace, nextBlock, endHeld, endMove, blockOf, insideTurn, bodyPlace, headedPlace, restAt, enterMove, enterAt, namedOf, finishIn, betweenTurn, openOf, turnIn, turnOf}
+use Rattle.line_step.specs.TurnLaws.{entry-inside, OpensIn, next-block-lies}
 use Rattle.line_walk.specs.Meaning.{line, done, Events, entryThen, linesThen, blocksThen, bodyThen, eventsOf, Records, settleOne, settle, recordsOf}
 use Rattle.line_walk.specs.Next.{todo, nextOf}
 use Rattle.line_walk.specs.NextLaws.{falls}
@@ -154,7 +154,7 @@ module _ (rule : ℕ → Sort) (s v : List ℕ) where
 
   enter-right : (t : Rest) (a : Span) → a .start + a .len ≤ length s
       → Right (heldThen (t .held) (bodyThen (bodyOn s a) (later (restAt t (a .start + a .len))))) (enterAt s t (a .start) (a .len))
-  unfolding bodyThen enterAt linesThen wordsIn
+  unfolding bodyThen headedPlace linesThen wordsIn
   enter-right t a g =
       let n : length (bytesAt s a) ≡ a .len = length-take-le (a .len) (drop (a .start) s) (simp length-drop (omega arith)) in
       ap (λ k. heldThen (t .held) (cond (ltb k 12) (fails (told why.Cut)) (blocksThen h (blocks (columned (h .flags)) (drop 12 (bytesAt s a))) l))) n
@@ -168,7 +168,7 @@ module _ (rule : ℕ → Sort) (s v : List ℕ) where
 
       both : (c : Bool) → Right
           (heldThen (t .held) (cond c (fails (told why.Cut)) (blocksThen h (blocks (columned (h .flags)) (drop 12 (bytesAt s a))) l)))
-          (cond c (fail (told why.Cut)) (pass (Inside (bodyPlace s (a .start) (a .len)) (restAt t (a .start + a .len)))))
+          (enterMove t (a .start + a .len) (cond c (refused (told why.Cut)) (gave (bodyPlace s (a .start) (a .len)))))
       both true = held-fails (t .held) (told why.Cut)
       both false = ap (heldThen (t .held)) (body-blocks a h l)
 
@@ -186,19 +186,19 @@ module _ (rule : ℕ → Sort) (s v : List ℕ) where
       (λ e. ap (λ k. heldThen (t .held) (eventsOf k)) (named-slot rule s v (t .slot) (t .scan) g (t .left) (omega (arith, eqb-false)))
       ∙ named-right t (slotAt rule s v (t .slot) (t .scan)) (slot-lies rule s v (t .slot) (t .scan)))
 
-  end-right : (h : LineHeader) (t : Rest) (o : Held) → t .held ≡ o → Right (heldThen o (more (done (toldHeader h)) (later t))) (endIn o h t)
-  unfolding settle settleOne endIn
-  end-right h t Nothing e = ap (λ o. heldThen o (later t)) (sym e)
+  end-right : (h : LineHeader) (t : Rest) (o : Held) → t .held ≡ o → Right (heldThen o (more (done (toldHeader h)) (later t))) (endMove t (endHeld h o))
+  unfolding settle settleOne endHeld
+  end-right h t Nothing e = refl
   end-right h t (One r) e = both (ltb maxOffset (h .offset + h .code))
     where
       both : (c : Bool) → Right
           (cond c (fails (told why.OffsetTooLarge)) (settleOne (closedAt (h .section) (h .offset + h .code) r) (later t)))
-          (cond c (fail (told why.OffsetTooLarge)) (pass (Between (withHeld t (One (closedAt (h .section) (h .offset + h .code) r))))))
+          (endMove t (cond c (refused (told why.OffsetTooLarge)) (gave (One (closedAt (h .section) (h .offset + h .code) r)))))
       both true = refl
       both false = refl
 
   block-right : (p : Place) (t : Rest) (k : Answer ℕ LineBlock Told)
-      → Right (heldThen (t .held) (blocksThen (headOf p) (blocksOn (columnsOn p) (take (p .end) s) k) (later t))) (blockOf p t k)
+      → Right (heldThen (t .held) (blocksThen (headOf p) (blocksOn (columnsOn p) (take (p .end) s) k) (later t))) (blockOf p t (blockPlace p k))
   unfolding blocksThen
   block-right p t (gives k x) =
       ap (λ cs. heldThen (t .held) (linesThen (headOf p) (k .file) (wordsIn (2 * k .count) (drop (k .start) (take (p .end) s))) cs
@@ -214,8 +214,8 @@ module _ (rule : ℕ → Sort) (s v : List ℕ) where
   hold-right p t r (One o) = refl
 
   line-right : (p : Place) (t : Rest) (e : Reply LineRecord Told)
-      → Right (heldThen (t .held) (entryThen e (linesLeft (take (p .end) s) (pastLine p) (blocksLeft (take (p .end) s) p (later t))))) (lineOf p t e)
-  line-right p t (gave r) = hold-right (pastLine p) t r (t .held)
+      → Right (heldThen (t .held) (entryThen e (linesLeft (take (p .end) s) (linesOn p 1) (blocksLeft (take (p .end) s) p (later t))))) (lineOf p t e)
+  line-right p t (gave r) = hold-right (linesOn p 1) t r (t .held)
   line-right p t nothing = refl
   line-right p t (refused e) = held-fails (t .held) e
 
@@ -268,9 +268,9 @@ module _ (rule : ℕ → Sort) (s v : List ℕ) where
   finish-kept t (One r) g = g
 
   enter-kept : (t : Rest) (a n : ℕ) → length s ≤ longest → a + n ≤ length s → Scans rule s (a + n) → Kept (enterAt s t a n)
-  unfolding enterAt
+  unfolding headedPlace
   enter-kept t a n m h g =
-      by-cases Kept (ltb n 12) (λ e. tt) (λ e. let l = ltb-false n 12 e in (m, g, h, omega arith, omega arith, omega arith))
+      by-cases (λ k. Kept (enterMove t (a + n) k)) (ltb n 12) (λ e. tt) (λ e. let l = ltb-false n 12 e in (m, g, h, omega arith, omega arith, omega arith))
 
   named-kept : (t : Rest) (o : Reply Span Told) → length s ≤ longest → Gives (SlotIn rule s v (t .slot) (t .scan)) o
       → Gives (λ a. Scans rule s (a .start + a .len)) o → Kept (namedOf s t o)
@@ -284,29 +284,22 @@ module _ (rule : ℕ → Sort) (s v : List ℕ) where
       by-cases Kept (eqb (t .left) 0) (λ e. finish-kept t (t .held) g)
       (λ e. named-kept t (slotAt rule s v (t .slot) (t .scan)) (g .0) (slot-lies rule s v (t .slot) (t .scan)) (slot-scanned rule s v (t .slot) (t .scan) (g .1)))
 
-  end-kept : (h : LineHeader) (t : Rest) (o : Held) → Walked (Between t) → Kept (endIn o h t)
-  unfolding endIn
+  end-kept : (h : LineHeader) (t : Rest) (o : Held) → Walked (Between t) → Kept (endMove t (endHeld h o))
+  unfolding endHeld
   end-kept h t Nothing g = g
-  end-kept h t (One r) g = by-cases Kept (ltb maxOffset (h .offset + h .code)) (λ e. tt) (λ e. g)
+  end-kept h t (One r) g = by-cases (λ k. Kept (endMove t k)) (ltb maxOffset (h .offset + h .code)) (λ e. tt) (λ e. g)
 
-  columns-in : (c : Bool) (a n m : ℕ) → a + lineBytes c n ≤ m → (a + 8 * n ≤ m) × (columnPlace c a n + 4 * n ≤ m)
-  columns-in true a n m h = (omega arith, omega arith)
-  columns-in false a n m h = (omega arith, omega arith)
-
-  block-kept : (p : Place) (t : Rest) (k : Answer ℕ LineBlock Told) → Walked (Between t) → p .end ≤ length s → BlockWithin (columnsOn p) (p .end) (p .next) k
-      → Kept (blockOf p t k)
-  block-kept p t (gives k x) g l w =
-      let q = columns-in (columnsOn p) (k .start) (k .count) (p .end) (omega arith) in
-      (g .0, g .1, l, w .2, q .0, q .1)
-  block-kept p t none g l w = end-kept (p .head) t (t .held) g
-  block-kept p t (refuses e) g l w = tt
+  block-kept : (p : Place) (t : Rest) (k : Reply Place Told) → Walked (Between t) → p .end ≤ length s → OpensIn p k → Kept (blockOf p t k)
+  block-kept p t (gave q) g l o = (g .0, g .1, omega (arith, o .end), o .next, o .lines, o .columns)
+  block-kept p t nothing g l o = end-kept (p .head) t (t .held) g
+  block-kept p t (refused e) g l o = tt
 
   hold-kept : (p : Place) (t : Rest) (r : LineRecord) (o : Held) → Walked (Inside p t) → Kept (holdIn o r (Inside p (withHeld t (One r))))
   hold-kept p t r Nothing w = w
   hold-kept p t r (One o) w = w
 
-  line-kept : (p : Place) (t : Rest) (e : Reply LineRecord Told) → Walked (Inside (pastLine p) t) → Kept (lineOf p t e)
-  line-kept p t (gave r) w = hold-kept (pastLine p) t r (t .held) w
+  line-kept : (p : Place) (t : Rest) (e : Reply LineRecord Told) → Walked (Inside (linesOn p 1) t) → Kept (lineOf p t e)
+  line-kept p t (gave r) w = hold-kept (linesOn p 1) t r (t .held) w
   line-kept p t nothing w = w
   line-kept p t (refused e) w = tt
 
@@ -316,8 +309,7 @@ module _ (rule : ℕ → Sort) (s v : List ℕ) where
       let b = take (p .end) s in
       by-cases Kept (ltb (length s) (p .end)) (λ f. tt)
       (λ f. by-cases Kept (eqb (p .lines) 0)
-      (λ e. block-kept p t (blockAt (columnsOn p) b (p .next)) (w .0, w .1) (w .2)
-      (subst (λ (m : ℕ). BlockWithin (columnsOn p) m (p .next) (blockAt (columnsOn p) b (p .next))) (length-take-le (p .end) s (w .2)) (block-within (columnsOn p) b (p .next))))
+      (λ e. block-kept p t (nextBlock b p) (w .0, w .1) (w .2) (next-block-lies s p (w .2)))
       (λ e. let one : 1 ≤ p .lines = omega (arith, eqb-false) in
       line-kept p t (lineEntryAt b p) (w .0, w .1, w .2, w .3, omega arith, omega arith)))
 

@@ -2,10 +2,15 @@
 -- Assumes nothing.
 use borrow.Author.Needs.{needs}
 use mathlib.Core.Path.{sym, ap, _∙_}
+use Rattle.walk.specs.Listing.{pass}
 use Rattle.lines.specs.Told.{toldCounted}
+use Rattle.line_step.specs.declared.LineWalk.the-variants.{Between}
 use Rattle.line_step.specs.Turn.{openOf}
 use Rattle.line_step.proofs.open_turn.Statement.{statement}
 use Rattle.line_step.proofs.open_turn.Tie as tie
+
+returns : tie.Need-returns
+returns c = ap (λ t. pass (Between t)) (c .fresh-rest .ensures) ∙ ap openOf (ap toldCounted (sym (c .before .before .n .given .1)) ∙ c .before .before .before .before .count-lines .ensures)
 
 pub open-turn-spec : {M : Type 1} → statement M
 open-turn-spec =
@@ -13,6 +18,7 @@ open-turn-spec =
     (tie.spec
     (λ c κs. search needs)
     (λ c. search needs)
+    (λ c κs. search needs)
     (λ c. search needs)
-    (λ c. ap openOf (ap toldCounted (sym (c .before .n .given .1)) ∙ c .before .before .before .count-lines .ensures))
+    returns
     (λ c. ap openOf (ap toldCounted (sym (c .before .why .given .1)) ∙ c .before .before .before .count-lines .ensures)))

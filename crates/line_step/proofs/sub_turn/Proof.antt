@@ -4,26 +4,22 @@ use borrow.Author.Needs.{needs}
 use native.Mathlib.Omega.{arith}
 use mathlib.Core.Path.{sym, ap, _∙_}
 use Rattle.lines.specs.Told.{toldNamed}
-use Rattle.lines.specs.SlotsLaws.{slot-inside}
-use Rattle.line_step.specs.TurnLaws.{sub-is}
+use Rattle.line_step.specs.Told.{toldEntered}
+use Rattle.line_step.specs.TurnLaws.{sub-is, sub-entered, sub-cut}
 use Rattle.line_step.proofs.sub_turn.Statement.{statement}
 use Rattle.line_step.proofs.sub_turn.Tie as tie
 
-enter-requires : tie.Need-enter-requires
-enter-requires c κs =
-    let m = c .before in
-    let e = slot-inside _ _ _ _ _ _ (ap toldNamed (sym (m .start .given .1)) ∙ m .before .before .slot-body .ensures) in
-    (e .1, omega arith, omega arith)
-
 returns : tie.Need-returns
 returns c =
-    let m = c .before .before in
-    c .enter .ensures ∙ sub-is _ _ _ _ _ (ap toldNamed (sym (m .start .given .1)) ∙ m .before .before .slot-body .ensures)
+    let k = c .before .before .before .before in
+    let m = k .before .before in
+    sub-entered _ _ _ _ _ _ (omega (arith, m .before .before .before .before .before .good)) (ap toldNamed (sym (m .start .given .1)) ∙ m .before .before .slot-body .ensures) _ _ (ap toldEntered (sym (c .before .before .p .given .1)) ∙ k .enter .ensures) (c .behind-body .ensures)
 
 returns-2 : tie.Need-returns-2
 returns-2 c =
-    let m = c .before in
-    sub-is _ _ _ _ _ (ap toldNamed (sym (m .why .given .1)) ∙ m .before .before .slot-body .ensures)
+    let k = c .before .before .before in
+    let m = k .before .before in
+    sub-cut _ _ _ _ _ _ (omega (arith, m .before .before .before .before .before .good)) (ap toldNamed (sym (m .start .given .1)) ∙ m .before .before .slot-body .ensures) _ (ap toldEntered (sym (c .before .why .given .1)) ∙ k .enter .ensures)
 
 pub sub-turn-spec : {M : Type 1} → statement M
 sub-turn-spec =
@@ -31,7 +27,11 @@ sub-turn-spec =
     (tie.spec
     (λ c κs. search needs)
     (λ c. search needs)
-    enter-requires
+    (λ c κs. search needs)
+    (λ c. search needs)
+    (λ c κs. search needs)
+    (λ c. search needs)
     (λ c. search needs)
     returns
-    returns-2)
+    returns-2
+    (λ c. sub-is _ _ _ _ _ (ap toldNamed (sym (c .before .why2 .given .1)) ∙ c .before .before .before .slot-body .ensures)))
