@@ -20,7 +20,7 @@ use Rattle.find.specs.Find.{is}
 use Rattle.lines.specs.Slots.{bodyIn, bodyFrom}
 use Rattle.lines.specs.SlotsLaws.{body-passed}
 use Rattle.slot_key.specs.SortLaws.{Each, each-map}
-use Rattle.order.specs.Order.{listed, subStart}
+use Rattle.body_list.specs.BodyList.{listed, subStart}
 use Rattle.list_test.specs.WholeList.{comesBy}
 
 module _ (rule : ℕ → Sort) (s : List ℕ) where

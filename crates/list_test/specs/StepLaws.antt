@@ -17,7 +17,7 @@ use Rattle.area.specs.Subs.{Sub, subsFrom, stepAt}
 use Rattle.area.specs.SubsLaws.{sub-next, sub-end, sub-refused}
 use Rattle.lines.specs.Lines.{countLines}
 use Rattle.slot_key.specs.Rank.{rank, inside}
-use Rattle.order.specs.Order.{startsFrom}
+use Rattle.body_list.specs.BodyList.{startsFrom}
 use Rattle.list_test.specs.WholeList.{middle, lookAt, halvedIn, halved, holds, slotBehind, allFound, comesBy, comesTo, foundIn, found, listedInside, firstListedIn, firstListed, wholeList}
 
 -- ---- the halving

@@ -13,7 +13,7 @@ use Rattle.area.specs.Kind.{Sort}
 use Rattle.area.specs.Subs.{Sub, subsFrom}
 use Rattle.lines.specs.Lines.{countLines}
 use Rattle.slot_key.specs.Rank.{rank, inside}
-use Rattle.order.specs.Order.{startsFrom}
+use Rattle.body_list.specs.BodyList.{startsFrom}
 
 -- a look for v at the middle of the slots from a to e, w being their order, and then f of the half that is left. Where v is found the answer is the
 -- place behind its slot, and else 0

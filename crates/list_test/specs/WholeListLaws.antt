@@ -22,8 +22,8 @@ use Rattle.lines.specs.SlotsLaws.{Scans, slot-same}
 use Rattle.slot_key.specs.SortLaws.{Each}
 use Rattle.slot_key.specs.Rank.{rank, inside}
 use Rattle.slot_key.specs.RankLaws.{After, Ascends}
-use Rattle.order.specs.Order.{startsFrom}
-use Rattle.order.specs.OrderLaws.{counted-starts}
+use Rattle.body_list.specs.BodyList.{startsFrom}
+use Rattle.body_list.specs.BodyListLaws.{counted-starts}
 use Rattle.order.specs.BuiltLaws.{ascends}
 use Rattle.list_test.specs.WholeList.{middle, lookAt, halvedIn, halved, holds, slotBehind, allFound, comesTo, foundIn, listedInside, firstListedIn, wholeList}
 use Rattle.list_test.specs.StepLaws.{holds-at}

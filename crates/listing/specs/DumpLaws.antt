@@ -26,7 +26,8 @@ use Rattle.checksums.specs.EntryLaws.{entries-step}
 use Rattle.lines.specs.Lines.{plus, countOf, countLines}
 use Rattle.lines.specs.Lines as lines
 use Rattle.lines.specs.Body.{Body}
-use Rattle.order.specs.Order.{ordered, inRoom, slotsAfter}
+use Rattle.body_list.specs.BodyList.{inRoom}
+use Rattle.order.specs.Order.{ordered, slotsAfter}
 use Rattle.order.specs.BuiltLaws.{built}
 use Rattle.files.specs.Files.{File, fileOf, filesSub, fileStep, filesIn}
 use Rattle.files.specs.FilesLaws.{files-finds, files-walk}

@@ -15,7 +15,8 @@ use Rattle.checksums.specs.Entry.{keptOf, closedAs, entryAt, entriesFrom}
 use Rattle.lines.specs.Lines.{headed, countOf}
 use Rattle.files.specs.Files.{filesSub, partOf}
 use Rattle.slot_key.specs.Sort.{insBy, sortBy}
-use Rattle.order.specs.Order.{listed, keyOf}
+use Rattle.body_list.specs.BodyList.{listed}
+use Rattle.order.specs.Order.{keyOf}
 use Rattle.line_record.specs.Flags.{lineKind, isMarker}
 use Rattle.line_record.specs.Record.{entryOf, shorterOf, closedAt}
 use Rattle.line_walk.specs.Meaning.{linesThen, blocksThen, bodyThen, eventsOf, settleOne, settle}

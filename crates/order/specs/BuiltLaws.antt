@@ -12,7 +12,7 @@ use Rattle.word.specs.Word.{u16At, u32At}
 use Rattle.word.specs.WordLaws.{u16-drop, u32-drop, u16-take, u32-take}
 use native.Mathlib.Nat.{add-zero}
 use Rattle.walk.specs.Cases.{by-cases}
-use Rattle.walk.specs.Listing.{Listing, more, ends, fails, mapped, before, Reply, gave, nothing, refused}
+use Rattle.walk.specs.Listing.{Listing, more, ends, fails, mapped, before, gave}
 use Rattle.walk.specs.Pick.{only, firstBy, mapReply}
 use Rattle.refusal.specs.Told.{Told, longest, numberOf}
 use Rattle.area.specs.Kind.{Sort}
@@ -25,12 +25,13 @@ use Rattle.lines.specs.Body.{Body, bodyOn}
 use Rattle.lines.specs.Slots.{bodyIn, bodyFrom, bodyAt, nameThen, named, listIn, listOf}
 use Rattle.lines.specs.SlotsLaws.{body-passed}
 use Rattle.lines.specs.LinesLaws.{counted-short}
+use Rattle.body_list.specs.BodyList.{listed, subStart, startsFrom}
+use Rattle.body_list.specs.BodyListLaws.{plus-one, counted-starts, listed-counted}
 use Rattle.slot_key.specs.Sort.{sortBy}
 use Rattle.slot_key.specs.SortLaws.{Each, each-map, each-sort, map-sort, length-sort}
 use Rattle.slot_key.specs.Rank.{keyAt}
 use Rattle.slot_key.specs.RankLaws.{After, Ascends, stable}
-use Rattle.order.specs.Order.{listed, subStart, startsFrom, orderOf, inRoom, ordered, slotsBy, slotsAfter, bodyOf, lineBodies, keyOf, inOrder}
-use Rattle.order.specs.OrderLaws.{plus-one, counted-starts}
+use Rattle.order.specs.Order.{orderOf, ordered, slotsBy, slotsAfter, bodyOf, lineBodies, keyOf, inOrder}
 
 abbrev lines : Listing Sub Told → List Sub
 lines l = listed (only (is 0xf2) l)
@@ -155,13 +156,6 @@ name-all rule s (b ∷ bs) vs n h e =
     ∙ ap (λ x. nameThen (mapReply (bodyOn s) same x) (named (bodyAt rule s) (length bs) (map subStart bs ++ vs))) (e .0)
     ∙ ap (more (bodyOf s b)) (name-all rule s bs vs (length bs) refl (e .1))
 
--- the list takes n slots only after the tests, and if there are so many
-room : (m : ℕ) (x : Reply ℕ Told) (n : ℕ) → gave n ≡ inRoom m x → gave n ≡ x
-room m (gave k) n =
-    by-cases (λ (y : Reply ℕ Told). gave n ≡ y → _≡_ {A = Reply ℕ Told} (gave n) (gave k)) (ltb m k) (λ e q. let z : _≡_ {A = ℕ} 0 1 = cc in absurd (omega arith)) (λ e q. q)
-room m nothing n = λ q. q
-room m (refused t) n = λ q. let z : _≡_ {A = ℕ} 0 1 = cc in absurd (omega arith)
-
 module _ (rule : ℕ → Sort) (s : List ℕ) (n : ℕ) (e : gave n ≡ countLines rule s) where
   bs : List Sub
   bs = lines (subsFrom rule s 0)
@@ -198,4 +192,4 @@ module _ (rule : ℕ → Sort) (s : List ℕ) (n : ℕ) (e : gave n ≡ countLin
 -- as `order_list` leaves it
 pub built : (rule : ℕ → Sort) (s xs : List ℕ) (n : ℕ) → gave n ≡ ordered rule s (length xs) → listOf rule s (slotsAfter rule s xs) ≡ before (inOrder rule s) ends
 built rule s xs n e =
-    ap (λ x. listOf rule s (slotsBy rule s xs x)) (sym e) ∙ built-list rule s n (room (length xs) (countLines rule s) n e) (drop n xs)
+    ap (λ x. listOf rule s (slotsBy rule s xs x)) (sym e) ∙ built-list rule s n (listed-counted (length xs) (countLines rule s) n e) (drop n xs)

@@ -3,48 +3,27 @@
 -- unchanged; and "lent memory stays as found" of a refused call.
 -- Definitions only; a reader must believe them.
 use Prim.Native.Nat.{ℕ, _+_, _*_}
-use mathlib.Core.List.{List, [], _∷_, _++_, map}
-use mathlib.Core.Bool.{cond}
+use mathlib.Core.List.{List, _++_, map}
 use lib.ListN.{length, drop}
-use lib.Dec.{ltb}
-use Rattle.walk.specs.Listing.{Listing, more, ends, fails, Reply, gave, nothing, refused}
+use Rattle.walk.specs.Listing.{Reply, gave, nothing, refused}
 use Rattle.walk.specs.Pick.{only}
-use Rattle.refusal.specs.Told.{Told, told}
-use Rattle.refusal.specs.declared.Refusal.the-variants as why
+use Rattle.refusal.specs.Told.{Told}
 use Rattle.area.specs.Kind.{Sort}
 use Rattle.area.specs.Subs.{Sub, subsFrom}
 use Rattle.body.specs.Lines.{lineHead}
 use Rattle.find.specs.Find.{is, spanOf}
-use Rattle.lines.specs.Lines.{countLines}
 use Rattle.lines.specs.Body.{Body, bodyOn}
+use Rattle.body_list.specs.BodyList.{listed, startsFrom, bodyList}
 use Rattle.slot_key.specs.Sort.{sortBy}
 use Rattle.slot_key.specs.Rank.{rank}
-
--- the records of a listing, without its end
-unfoldable pub listed : {B R : Type 0} → Listing B R → List B
-listed (more b l) = b ∷ listed l
-listed ends = []
-listed (fails r) = []
-
--- where the line bodies from a place on start, in the order of the area
-abbrev pub subStart : Sub → ℕ
-subStart b = b .start
-
-abbrev pub startsFrom : (ℕ → Sort) → List ℕ → ℕ → List ℕ
-startsFrom rule s p = map subStart (listed (only (is 0xf2) (subsFrom rule s p)))
 
 -- THE ORDER: by section, then by offset, then by position
 abbrev pub orderOf : (ℕ → Sort) → List ℕ → List ℕ
 orderOf rule s = sortBy (rank s) (startsFrom rule s 0)
 
 -- the answer of the order list for m slots: how many of them it takes
-abbrev pub inRoom : ℕ → Reply ℕ Told → Reply ℕ Told
-inRoom m (gave n) = cond (ltb m n) (refused (told why.NoRoom)) (gave n)
-inRoom m nothing = nothing
-inRoom m (refused t) = refused t
-
 abbrev pub ordered : (ℕ → Sort) → List ℕ → ℕ → Reply ℕ Told
-ordered rule s m = inRoom m (countLines rule s)
+ordered rule s m = bodyList rule s m
 
 -- the slots behind an answer of the order list, which held xs before
 abbrev pub slotsBy : (ℕ → Sort) → List ℕ → List ℕ → Reply ℕ Told → List ℕ

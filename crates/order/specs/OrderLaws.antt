@@ -1,126 +1,27 @@
--- Laws of the order list: its number of slots, the loop that fills it, and each way out of the call.
-use Prim.Native.Nat.{ℕ, suc, _+_, _<_, _≤_}
-use mathlib.Core.Path.{_≡_, refl, ap, _∙_}
-use mathlib.Core.List.{List, [], _∷_, _++_, map}
-use mathlib.Core.Logic.{⊎-elim}
-use native.Mathlib.Omega.{arith}
-use lib.ListN.{length, take, drop, set}
-use lib.Dec.{ltb}
-use borrow.Author.Tests.{eq-eqb, ne-eqb}
-use Rattle.walk.specs.Cases.{tests, by-cases, le-or-gt}
-use Rattle.walk.specs.Listing.{Listing, more, ends, fails, Reply, gave, nothing, refused, gives, none, refuses}
-use Rattle.walk.specs.Pick.{only}
-use Rattle.refusal.specs.Told.{Told, told, longest}
-use Rattle.refusal.specs.declared.Refusal.the-variants as why
+-- Laws of the order list: each way out of the call.
+use Prim.Native.Nat.{ℕ}
+use mathlib.Core.Path.{_≡_, sym, ap, _∙_}
+use mathlib.Core.List.{List, _++_}
+use lib.ListN.{length, take, drop}
+use Rattle.walk.specs.Listing.{gave, refused}
+use Rattle.refusal.specs.Told.{Told}
 use Rattle.area.specs.Kind.{Sort}
-use Rattle.area.specs.Subs.{Sub, subsFrom, stepAt, firstOf}
-use Rattle.area.specs.SubsLaws.{sub-next, sub-end, sub-refused, subs-long}
-use Rattle.find.specs.Find.{is}
-use Rattle.lines.specs.Lines.{headed, plus, countOf, countLines}
+use Rattle.lines.specs.Lines.{countLines}
+use Rattle.body_list.specs.BodyList.{startsFrom, bodyList, bodiesBy, bodiesAfter}
+use Rattle.body_list.specs.BodyListLaws.{counted-starts, listed-counted}
 use Rattle.slot_key.specs.Sort.{sortBy}
 use Rattle.slot_key.specs.SortLaws.{filled}
 use Rattle.slot_key.specs.Rank.{rank}
-use Rattle.order.specs.Order.{listed, subStart, startsFrom, inRoom, ordered, slotsBy, slotsAfter}
+use Rattle.order.specs.Order.{ordered, slotsBy, slotsAfter}
 
--- ---- as many bodies as are counted
+-- ys as `body_list` leaves the slots
+module _ (rule : ℕ → Sort) (s xs ys : List ℕ) (f : ys ≡ bodiesAfter rule s xs) where
+  pub order-refused : (t : Told) → refused t ≡ bodyList rule s (length xs) → (refused t ≡ ordered rule s (length xs)) × (ys ≡ slotsAfter rule s xs)
+  order-refused t e = (e, f ∙ ap (bodiesBy rule s xs) (sym e) ∙ ap (slotsBy rule s xs) e)
 
-pub plus-one : {R : Type 0} (x : Reply ℕ R) (n : ℕ) → gave n ≡ plus 1 x → (m : ℕ) × (gave m ≡ x) × (n ≡ suc m)
-plus-one (gave m) n e = (m, refl, let q : n ≡ 1 + m = cc in omega arith)
-plus-one nothing n e = let z : _≡_ {A = ℕ} 0 1 = cc in absurd (omega arith)
-plus-one (refused r) n e = let z : _≡_ {A = ℕ} 0 1 = cc in absurd (omega arith)
-
-counts : (l : Listing Sub Told) (n : ℕ) → gave n ≡ countOf (headed l) → length (map subStart (listed l)) ≡ n
-unfolding headed countOf listed
-counts (more b l) n =
-    by-cases (λ (k : Listing Sub Told). gave n ≡ countOf k → suc (length (map subStart (listed l))) ≡ n) (ltb (b .len) 12)
-    (λ e q. let z : _≡_ {A = ℕ} 0 1 = cc in absurd (omega arith))
-    (λ e q. let m = plus-one (countOf (headed l)) n q in omega (arith, counts l (m .0) (m .1), m .2))
-counts ends n = λ q. let z : 0 ≡ n = cc in z
-counts (fails t) n = λ q. let z : _≡_ {A = ℕ} 0 1 = cc in absurd (omega arith)
-
-pub counted-starts : (rule : ℕ → Sort) (s : List ℕ) (n : ℕ) → gave n ≡ countLines rule s → length (startsFrom rule s 0) ≡ n
-counted-starts rule s n e = counts (only (is 0xf2) (subsFrom rule s 0)) n e
-
--- ---- stores one after the other, from index i on
-
-unfoldable pub storeAll : List ℕ → ℕ → List ℕ → List ℕ
-storeAll [] i a = a
-storeAll (x ∷ xs) i a = storeAll xs (i + 1) (set a i x)
-
-store-under : (xs : List ℕ) (i z : ℕ) (a : List ℕ) → storeAll xs (suc i) (z ∷ a) ≡ z ∷ storeAll xs i a
-unfolding storeAll
-store-under [] i z a = refl
-store-under (x ∷ xs) i z a =
-    let e : suc i + 1 ≡ suc (i + 1) = omega arith in
-    ap (λ k. storeAll xs k (z ∷ set a i x)) e ∙ store-under xs (i + 1) z (set a i x)
-
-pub stored-all : (xs a : List ℕ) → length xs ≤ length a → storeAll xs 0 a ≡ xs ++ drop (length xs) a
-unfolding storeAll
-stored-all [] a h = refl
-stored-all (x ∷ xs) [] h = absurd (omega arith)
-stored-all (x ∷ xs) (z ∷ a) h = store-under xs 0 x a ∙ ap (λ l. x ∷ l) (stored-all xs a (omega arith))
-
--- ---- the loop of `fill`: one law for each way, on an answer of `sub_at`
-
-module _ (rule : ℕ → Sort) (s : List ℕ) (p : ℕ) where
-  -- a subsection is answered only in an area that is not too long
-  pub sub-short : (b : Sub) (x : ℕ) → gives b x ≡ stepAt rule s p → length s ≤ longest
-  sub-short b x q =
-      ⊎-elim (λ (m : length s ≤ longest). m)
-      (λ (m : longest < length s). let e = q ∙ ap firstOf (subs-long rule s p m) in let z : _≡_ {A = ℕ} 0 1 = cc in absurd (omega arith))
-      (le-or-gt (length s) longest)
-
-  module _ (b : Sub) (x : ℕ) (q : gives b x ≡ stepAt rule s p) where
-    pub starts-line : b .kind ≡ 0xf2 → b .start ∷ startsFrom rule s x ≡ startsFrom rule s p
-    unfolding only listed
-    starts-line h = rw (← sub-next rule s p b x q .is, eq-eqb (b .kind) 0xf2 h)
-
-    pub starts-other : (b .kind ≡ 0xf2 → ⊥) → startsFrom rule s x ≡ startsFrom rule s p
-    unfolding only listed
-    starts-other h = rw (← sub-next rule s p b x q .is, ne-eqb (b .kind) 0xf2 h)
-
-  pub starts-end : none ≡ stepAt rule s p → [] ≡ startsFrom rule s p
-  unfolding only listed
-  starts-end q = rw (← sub-end rule s p q)
-
-  pub starts-refused : (t : Told) → refuses t ≡ stepAt rule s p → [] ≡ startsFrom rule s p
-  unfolding only listed
-  starts-refused t q = rw (← sub-refused rule s p t q)
-
-  module _ (i : ℕ) (a : List ℕ) where
-    pub store-end : [] ≡ startsFrom rule s p → a ≡ storeAll (startsFrom rule s p) i a
-    unfolding storeAll
-    store-end e = ap (λ l. storeAll l i a) e
-
-    pub store-line : (v x : ℕ) → v ∷ startsFrom rule s x ≡ startsFrom rule s p
-        → storeAll (startsFrom rule s x) (i + 1) (set a i v) ≡ storeAll (startsFrom rule s p) i a
-    unfolding storeAll
-    store-line v x e = ap (λ l. storeAll l i a) e
-
--- ---- each way out of `order_list`: the answer, and the slots
-
-module _ (rule : ℕ → Sort) (s xs : List ℕ) where
-  pub order-refused : (t : Told) → refused t ≡ countLines rule s → (refused t ≡ ordered rule s (length xs)) × (xs ≡ slotsAfter rule s xs)
-  order-refused t e =
-      let q : refused t ≡ ordered rule s (length xs) = ap (inRoom (length xs)) e in
-      (q, ap (slotsBy rule s xs) q)
-
-  module _ (n : ℕ) (e : gave n ≡ countLines rule s) where
-    pub order-short : length xs < n → (refused (told why.NoRoom) ≡ ordered rule s (length xs)) × (xs ≡ slotsAfter rule s xs)
-    order-short h =
-        let g : refused (told why.NoRoom) ≡ inRoom (length xs) (gave n) = simp tests in
-        let q : refused (told why.NoRoom) ≡ ordered rule s (length xs) = g ∙ ap (inRoom (length xs)) e in
-        (q, ap (slotsBy rule s xs) q)
-
-    pub order-room : n ≤ length xs → gave n ≡ ordered rule s (length xs)
-    order-room h =
-        let g : gave n ≡ inRoom (length xs) (gave n) = simp tests in
-        g ∙ ap (inRoom (length xs)) e
-
-    -- ys as `fill` leaves the slots, and zs as the sort does
-    pub order-all : n ≤ length xs → (ys zs : List ℕ) → ys ≡ startsFrom rule s 0 ++ drop (length (startsFrom rule s 0)) xs
-        → zs ≡ sortBy (rank s) (take n ys) ++ drop n ys → (gave n ≡ ordered rule s (length xs)) × (zs ≡ slotsAfter rule s xs)
-    order-all h ys zs f g =
-        let k = counted-starts rule s n e in
-        let q = order-room h in
-        (q, g ∙ filled (rank s) (startsFrom rule s 0) xs ys n k (f ∙ ap (λ j. startsFrom rule s 0 ++ drop j xs) k) ∙ ap (slotsBy rule s xs) q)
+  -- zs as the sort does
+  pub order-all : (n : ℕ) → gave n ≡ bodyList rule s (length xs) → (zs : List ℕ) → zs ≡ sortBy (rank s) (take n ys) ++ drop n ys
+      → (gave n ≡ ordered rule s (length xs)) × (zs ≡ slotsAfter rule s xs)
+  order-all n e zs g =
+      let k = counted-starts rule s n (listed-counted (length xs) (countLines rule s) n e) in
+      (e, g ∙ filled (rank s) (startsFrom rule s 0) xs ys n k (f ∙ ap (bodiesBy rule s xs) (sym e)) ∙ ap (slotsBy rule s xs) e)

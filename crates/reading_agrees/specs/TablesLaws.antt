@@ -38,7 +38,8 @@ use Rattle.files.specs.Files as file
 use Rattle.files.specs.FilesLaws.{files-mean}
 use Rattle.lines.specs.Body.{Body}
 use Rattle.lines.specs.Lines.{headed, linesFrom, plus, countOf}
-use Rattle.order.specs.Order.{listed, bodyOf, lineBodies}
+use Rattle.body_list.specs.BodyList.{listed}
+use Rattle.order.specs.Order.{bodyOf, lineBodies}
 use Rattle.order.specs.BuiltLaws.{map-map}
 use Rattle.reading.specs.Reading.{Item, openLines, block, checksum, inlinee, imports, exports, Items, each, linesItems, checksumsItems, inlineesItems, importsItems, exportsItems, itemsOf, subItems, reading}
 use Rattle.reading_agrees.specs.Chapters.{chapters, begins, records, recordsIn, dropped}

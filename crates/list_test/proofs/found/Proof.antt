@@ -12,8 +12,8 @@ use Rattle.area.specs.SubsLaws.{sub-next}
 use Rattle.lines.specs.Lines.{plus, countOf, countLines, linesFrom}
 use Rattle.lines.specs.LinesLaws.{line-other, line-short, line-more, line-end, line-refused, plus-none, count-more, count-end, count-refused}
 use Rattle.slot_key.specs.Rank.{rank}
-use Rattle.order.specs.Order.{startsFrom}
-use Rattle.order.specs.OrderLaws.{sub-short, starts-line, starts-other, starts-end}
+use Rattle.body_list.specs.BodyList.{startsFrom}
+use Rattle.body_list.specs.BodyListLaws.{sub-short, starts-line, starts-other, starts-end}
 use Rattle.list_test.specs.WholeList.{allFound}
 use Rattle.list_test.specs.StepLaws.{all-end, all-on, all-missed, found-missed, found-refused, found-all}
 use Rattle.list_test.proofs.found.Statement.{statement}

@@ -1,4 +1,4 @@
--- `order::fill` meets its contract. The invariant: what is still to be stored leads to the slots that are wanted, and fits in. The measure is
+-- `body_list::fill` meets its contract. The invariant: what is still to be stored leads to the bodies that are wanted, and fits in. The measure is
 -- what is left of the area.
 -- Assumes nothing.
 use borrow.Author.Needs.{needs}
@@ -9,27 +9,27 @@ use lib.ListN.{length, length-set}
 use Rattle.area.specs.Kind.{crateRule}
 use Rattle.area.specs.Told.{toldStep}
 use Rattle.area.specs.SubsLaws.{sub-next}
-use Rattle.order.specs.Order.{startsFrom}
-use Rattle.order.specs.OrderLaws.{storeAll, stored-all, sub-short, starts-line, starts-other, starts-end, starts-refused, store-end, store-line}
-use Rattle.order.proofs.fill.Statement.{statement}
-use Rattle.order.proofs.fill.Tie as tie
+use Rattle.body_list.specs.BodyList.{startsFrom}
+use Rattle.body_list.specs.BodyListLaws.{storeAll, stored-all, sub-short, starts-line, starts-other, starts-end, starts-refused, store-end, store-line}
+use Rattle.body_list.proofs.fill.Statement.{statement}
+use Rattle.body_list.proofs.fill.Tie as tie
 
 abbrev Inv-loop : tie.InvT-loop
-Inv-loop area slots₀ n₀ p₀ slots n p =
-    (storeAll (startsFrom crateRule area p) n slots ≡ storeAll (startsFrom crateRule area 0) 0 slots₀)
-    × (n + length (startsFrom crateRule area p) ≤ length slots) × (length slots ≡ length slots₀)
+Inv-loop area bodies₀ n₀ p₀ bodies n p =
+    (storeAll (startsFrom crateRule area p) n bodies ≡ storeAll (startsFrom crateRule area 0) 0 bodies₀)
+    × (n + length (startsFrom crateRule area p) ≤ length bodies) × (length bodies ≡ length bodies₀)
 
 abbrev μ-loop : tie.MeasureT-loop
-μ-loop area slots₀ n₀ p₀ slots n p = length area - p
+μ-loop area bodies₀ n₀ p₀ bodies n p = length area - p
 
-cast-slots : tie.Need-cast-slots Inv-loop μ-loop
-cast-slots c =
+cast-bodies : tie.Need-cast-bodies Inv-loop μ-loop
+cast-bodies c =
     let m = c .before .before in
     let e = ap toldStep (sym (m .kind .given .1)) ∙ m .before .before .sub-at .ensures in
     omega (arith, sub-next _ _ _ _ _ e, sub-short _ _ _ _ _ e)
 
-slice-write-slots : tie.Need-slice-write-slots Inv-loop μ-loop
-slice-write-slots c =
+slice-write-bodies : tie.Need-slice-write-bodies Inv-loop μ-loop
+slice-write-bodies c =
     let m = c .before .before in
     let e = ap toldStep (sym (m .kind .given .1)) ∙ m .before .before .sub-at .ensures in
     omega (arith, ap length (starts-line _ _ _ _ _ e (c .if1 .taken)))
@@ -66,7 +66,7 @@ loop-again-2 c =
     let e = ap toldStep (sym (m .kind .given .1)) ∙ m .before .before .sub-at .ensures in
     let l = m .before .before .before .loop in
     let s = starts-other _ _ _ _ _ e (c .if1 .left) in
-    (ap (λ k. storeAll k (l .n) (l .slots)) s ∙ l .inv .0, omega (arith, ap length s), l .inv .2)
+    (ap (λ k. storeAll k (l .n) (l .bodies)) s ∙ l .inv .0, omega (arith, ap length s), l .inv .2)
 
 returns : tie.Need-returns Inv-loop μ-loop
 returns c =
@@ -87,9 +87,9 @@ fill-spec =
     (λ c. (refl, omega arith, refl))
     (λ c κs. search needs)
     (λ c. search needs)
-    cast-slots
+    cast-bodies
     (λ c. search needs)
-    slice-write-slots
+    slice-write-bodies
     add-n
     loop-less
     loop-again

@@ -1,0 +1,10 @@
+pub mod BodyList
+pub mod BodyListLaws
+pub mod Search
+pub mod Looks
+pub mod Told
+pub mod Untold
+pub mod HalvingLaws
+pub mod PlacesLaws
+pub mod StepLaws
+pub mod SearchLaws
