@@ -1,6 +1,6 @@
 -- Laws of what an exported call answers: the two ways of `put`, and a loop that copies words one by one.
 use Prim.Native.Nat.{ℕ, _+_, _≤_, _<_}
-use mathlib.Core.Path.{_≡_, refl, sym, ap, _∙_, subst}
+use mathlib.Core.Path.{_≡_, refl, sym, ap, _∙_, subst, subst⁻¹}
 use mathlib.Core.List.{List, [], _++_, append-assoc}
 use native.Mathlib.Omega.{arith}
 use native.Mathlib.Nat.{le-antisymm}
@@ -85,13 +85,13 @@ module _ {M : Type 0} (k : ℕ) (o : List ℕ) (g : Given) (m n : M) where
   pub room-keeps : length o < k → Gives o (ifRoom k o g shortGiven) 3 o × (m ≡ ifRoom k o n m)
   room-keeps h = rw (lt-leb k (length o) h) (gives-nothing 3 o, refl)
 
--- THE LAW: with any status but 1 such a call changes nothing, if with room it has an answer or leaves m
-pub room-still : {M : Type 0} (k : ℕ) (o : List ℕ) (g : Given) (m n : M) {r : ℕ} {left : List ℕ}
-    → (k ≤ length o → (statusIn o g ≡ 1) ⊎ (n ≡ m)) → Gives o (ifRoom k o g shortGiven) r left → (r ≡ 1 → ⊥) → ifRoom k o n m ≡ m
-room-still {M} k o g m n {r} h q z = go (leb k (length o)) refl (q .status)
+-- THE LAW: with any status but those of an answer such a call changes nothing, if with room it has an answer or leaves m
+pub room-still : {M : Type 0} (Answered : ℕ → Type 0) (k : ℕ) (o : List ℕ) (g : Given) (m n : M) {r : ℕ} {left : List ℕ}
+    → (k ≤ length o → Answered (statusIn o g) ⊎ (n ≡ m)) → Gives o (ifRoom k o g shortGiven) r left → (Answered r → ⊥) → ifRoom k o n m ≡ m
+room-still {M} Answered k o g m n {r} h q z = go (leb k (length o)) refl (q .status)
   where
     go : (t : Bool) → leb k (length o) ≡ t → r ≡ statusIn o (cond t g shortGiven) → cond t n m ≡ m
-    go true e s = ⊎-elim (λ a. absurd (z (s ∙ a))) (λ b. b) (h (omega (arith, leb-true k (length o) e)))
+    go true e s = ⊎-elim (λ a. absurd (z (subst⁻¹ Answered s a))) (λ b. b) (h (omega (arith, leb-true k (length o) e)))
     go false e s = refl
 
 -- what it leaves of m where it has no answer: m
@@ -103,7 +103,7 @@ Still (refused t) m n = n ≡ m
 -- THE LAW for a call of one answer
 pub room-careful : {M : Type 0} (o : List ℕ) (x : Reply ℕ Told) (m n : M) {r : ℕ} {left : List ℕ}
     → Still x m n → Gives o (ifRoom refusalSize o (replyGiven one x) shortGiven) r left → (r ≡ 1 → ⊥) → ifRoom refusalSize o n m ≡ m
-room-careful o x m n h g z = room-still refusalSize o (replyGiven one x) m n (by x h) g z
+room-careful o x m n h g z = room-still (λ q. q ≡ 1) refusalSize o (replyGiven one x) m n (by x h) g z
   where
     by : (y : Reply ℕ Told) → Still y m n → refusalSize ≤ length o → (statusIn o (replyGiven one y) ≡ 1) ⊎ (n ≡ m)
     by (gave k) q l = inl (sym (gives-put o (given 1 0 (one k)) (omega arith) .status))

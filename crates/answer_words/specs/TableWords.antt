@@ -3,7 +3,7 @@
 -- Definitions only; a reader must believe them.
 use Prim.Native.Nat.{ℕ}
 use mathlib.Core.List.{List, [], _∷_, _++_}
-use mathlib.Core.Bool.{cond}
+use mathlib.Core.Bool.{Bool, false, cond}
 use lib.ListN.{getD}
 use lib.Dec.{eqb}
 use Rattle.table.specs.declared.TableWalk.{TableWalk}
@@ -18,6 +18,11 @@ walkIn o = cond (eqb (getD o 0 0) 0) walk.New (walk.In (getD o 1 0) (getD o 2 0)
 abbrev pub walkWords : TableWalk → List ℕ
 walkWords walk.New = 0 ∷ 0 ∷ 0 ∷ 0 ∷ []
 walkWords (walk.In start len at) = 1 ∷ start ∷ len ∷ at ∷ []
+
+-- whether a walk stands at the end of its body: behind a record nothing comes there
+abbrev pub overTable : TableWalk → Bool
+overTable walk.New = false
+overTable (walk.In start len at) = eqb at len
 
 -- a step of a walk over a table: f has the words of its record
 abbrev pub tableWords : {B : Type 0} → (B → List ℕ) → B → TableWalk → List ℕ

@@ -5,7 +5,8 @@ ghost use mathlib.Core.List.{[], _∷_};
 ghost use lib.ListN.{getD};
 ghost use Rattle.refusal.specs.Told.{told};
 ghost use Rattle.answer_words.specs.Given.{given, Gives, refusalGiven};
-ghost use Rattle.answer_words.specs.TableWords.{walkIn, walkWords};
+ghost use Rattle.answer_words.specs.FillGiven.{answerStatus};
+ghost use Rattle.answer_words.specs.TableWords.{walkIn, walkWords, overTable};
 use refusal::Refusal;
 use refusal::numbers;
 use table::TableWalk;
@@ -18,6 +19,9 @@ pub const GIVEN: u32 = 1;
 pub const REFUSED: u32 = 2;
 
 pub const TOO_SHORT: u32 = 3;
+
+// An answer as `GIVEN`, and nothing comes behind it.
+pub const LAST: u32 = 4;
 
 // The words that a refusal takes. A call that changes other lent memory too asks for as many before it does anything.
 pub const REFUSAL_WORDS: usize = 2;
@@ -41,6 +45,13 @@ pub fn put(out: &mut [u64], at: usize, words: &[u64], status: u32) -> u32
         i += 1;
     }
     status
+}
+
+// The status of an answer, by whether nothing comes behind it.
+pub fn answer_status(last: bool) -> u32
+    ensures { λ r. ⌜ r ≡ answerStatus last ⌝ }
+{
+    if last { LAST } else { GIVEN }
 }
 
 // A refusal, put behind the state of a walk, which stays.
@@ -81,5 +92,15 @@ pub fn walk_words(walk: TableWalk) -> Four
     match walk {
         TableWalk::New => Four(0, 0, 0, 0),
         TableWalk::In { start, len, at } => Four(1, start as u64, len as u64, at as u64),
+    }
+}
+
+// Whether a walk over a table stands at the end of its body.
+pub fn over_table(walk: TableWalk) -> bool
+    ensures { λ r. ⌜ r ≡ overTable walk ⌝ }
+{
+    match walk {
+        TableWalk::New => false,
+        TableWalk::In { start: _, len, at } => at == len,
     }
 }

@@ -2,6 +2,7 @@
 -- Definitions only; a reader must believe them.
 use Prim.Native.Nat.{ℕ}
 use mathlib.Core.List.{List}
+use mathlib.Core.Bool.{false}
 use lib.ListN.{length}
 use Rattle.area.specs.Kind.{Sort}
 use Rattle.files.specs.Files.{fileStep, fileAt}
@@ -16,7 +17,7 @@ fileGiven rule s o = stepGiven tableStateSize (tableWords fileWords) (fileStep r
 
 -- many files, with n words lent for them
 abbrev pub filesGiven : (ℕ → Sort) → List ℕ → ℕ → List ℕ → Given
-filesGiven rule s n o = fillGiven tableStateSize walkWords o (filesOf rule s n (walkIn o))
+filesGiven rule s n o = fillGiven tableStateSize (λ w. false) walkWords o (filesOf rule s n (walkIn o))
 
 -- the words x lent for files, after the call for many
 abbrev pub filesLeft : (ℕ → Sort) → List ℕ → List ℕ → List ℕ → List ℕ

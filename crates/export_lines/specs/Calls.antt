@@ -4,6 +4,7 @@
 -- Definitions only; a reader must believe them.
 use Prim.Native.Nat.{ℕ}
 use mathlib.Core.List.{List}
+use mathlib.Core.Bool.{false}
 use lib.ListN.{length}
 use Rattle.area.specs.Kind.{Sort}
 use Rattle.order.specs.Order.{ordered, slotsAfter}
@@ -30,7 +31,7 @@ symbolGiven rule s v section offset = replyGiven lineWalkWords (symbolWalk rule 
 
 -- many records, with n words lent for them
 abbrev pub linesGiven : (ℕ → Sort) → List ℕ → List ℕ → ℕ → List ℕ → Given
-linesGiven rule s v n o = fillGiven stateSize lineWalkWords o (linesOf rule s v n (lineWalkIn o))
+linesGiven rule s v n o = fillGiven stateSize (λ w. false) lineWalkWords o (linesOf rule s v n (lineWalkIn o))
 
 -- the words x lent for records, after the call for many
 abbrev pub recordsLeft : (ℕ → Sort) → List ℕ → List ℕ → List ℕ → List ℕ → List ℕ

@@ -2,6 +2,7 @@
 use Prim.Native.Nat.{ℕ, _+_, _≤_}
 use mathlib.Core.Path.{_≡_, refl, sym, ap, _∙_, subst⁻¹}
 use mathlib.Core.List.{List, [], _∷_, _++_}
+use mathlib.Core.Bool.{false}
 use lib.ListN.{length, length-append}
 use native.Mathlib.Omega.{arith}
 use Rattle.walk.specs.Listing.{Reply, gave, nothing, refused}
@@ -48,7 +49,7 @@ module _ (o p q : List ℕ) (w : LineWalk) (n r k : ℕ) (room : askedSize state
       subst⁻¹ (λ (x : ℕ). Gives o (given 1 0 (lineWalkWords w ++ (n ∷ []))) x q) s
       (subst⁻¹ (λ (x : List ℕ). Gives o (given 1 0 (lineWalkWords w ++ (n ∷ []))) 1 x) e (gives-put o (given 1 0 (lineWalkWords w ++ (n ∷ []))) (omega arith)))
 
--- THE LAW: with any status but 1 the words lent for records are as they were
-pub lines-careful : (rule : ℕ → Sort) (s v x o : List ℕ) {r : ℕ} {left : List ℕ} → Gives o (linesGiven rule s v (length x) o) r left → (r ≡ 1 → ⊥)
+-- THE LAW: with any status but 1 and 4 the words lent for records are as they were
+pub lines-careful : (rule : ℕ → Sort) (s v x o : List ℕ) {r : ℕ} {left : List ℕ} → Gives o (linesGiven rule s v (length x) o) r left → (r ≡ 1 → ⊥) → (r ≡ 4 → ⊥)
     → recordsLeft rule s v x o ≡ x
-lines-careful rule s v x o = fill-careful stateSize lineWalkWords recordWords o x (linesOf rule s v (length x) (lineWalkIn o)) walk-length
+lines-careful rule s v x o = fill-careful stateSize (λ w. false) lineWalkWords recordWords o x (linesOf rule s v (length x) (lineWalkIn o)) walk-length

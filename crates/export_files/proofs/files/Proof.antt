@@ -2,6 +2,7 @@
 -- Assumes nothing.
 use borrow.Author.Needs.{needs}
 use mathlib.Core.Path.{refl, sym, ap, _∙_}
+use mathlib.Core.Bool.{false}
 use native.Mathlib.Omega.{arith}
 use lib.ListN.{length}
 use Rattle.area.specs.Kind.{crateRule}
@@ -19,7 +20,7 @@ use Rattle.export_files.proofs.files.Tie as tie
 returns : tie.Need-returns
 returns c =
     let at = c .before .before .before .before .args in
-    fill-short tableStateSize walkWords fileWords (at .out .now) (at .records .now) (filesOf crateRule (at .area .now) (length (at .records .now)) (walkIn (at .out .now))) (omega arith)
+    fill-short tableStateSize (λ w. false) walkWords fileWords (at .out .now) (at .records .now) (filesOf crateRule (at .area .now) (length (at .records .now)) (walkIn (at .out .now))) (omega arith)
 
 returns-2 : tie.Need-returns-2
 returns-2 c =
@@ -28,7 +29,7 @@ returns-2 c =
     let w = h .before .before .walk-in .ensures in
     let l = h .next-files .ensures in
     let e = ap toldFiles (sym (c .before .before .before .before .before .before .before .count .given .1)) ∙ l .0 in
-    fill-given tableStateSize walkWords fileWords (at .out .now) (at .records .now) (filesOf crateRule (at .area .now) (length (at .records .now))) (omega arith) w e (l .1)
+    fill-given tableStateSize (λ w. false) walkWords fileWords (at .out .now) (at .records .now) (filesOf crateRule (at .area .now) (length (at .records .now))) (omega arith) w e (l .1)
     (gives-table one (c .before .before .before .before .before .before .before .count .given .0 .0) (c .before .before .before .before .before .before .before .count .given .0 .1 .0) (c .before .before .before .before .before .walk-words .ensures) refl (c .before .before .put .ensures))
 
 returns-3 : tie.Need-returns-3
@@ -38,7 +39,7 @@ returns-3 c =
     let w = h .before .before .walk-in .ensures in
     let l = h .next-files .ensures in
     let e = ap toldFiles (sym (c .enum-told .given .1)) ∙ l .0 in
-    fill-given tableStateSize walkWords fileWords (at .out .now) (at .records .now) (filesOf crateRule (at .area .now) (length (at .records .now))) (omega arith) w e (l .1)
+    fill-given tableStateSize (λ w. false) walkWords fileWords (at .out .now) (at .records .now) (filesOf crateRule (at .area .now) (length (at .records .now))) (omega arith) w e (l .1)
     (gives-none _)
 
 returns-4 : tie.Need-returns-4
@@ -48,7 +49,7 @@ returns-4 c =
     let w = h .before .before .walk-in .ensures in
     let l = h .next-files .ensures in
     let e = ap toldFiles (sym (c .before .before .before .before .before .why .given .1)) ∙ l .0 in
-    fill-given tableStateSize walkWords fileWords (at .out .now) (at .records .now) (filesOf crateRule (at .area .now) (length (at .records .now))) (omega arith) w e (l .1)
+    fill-given tableStateSize (λ w. false) walkWords fileWords (at .out .now) (at .records .now) (filesOf crateRule (at .area .now) (length (at .records .now))) (omega arith) w e (l .1)
     (c .before .before .put-refusal .ensures)
 
 pub files-spec : {M : Type 1} → statement M
