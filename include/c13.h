@@ -17,6 +17,8 @@
  *
  *   C13_NONE       nothing: a walk is at its end, a lookup found nothing. `out` is left as it was.
  *   C13_GIVEN      an answer, in the words named at the call.
+ *   C13_LAST       an answer as C13_GIVEN, and nothing comes behind it: the next call from there answers C13_NONE. Only a call that gives many records
+ *                  answers it; C13_GIVEN does not say that there are more.
  *   C13_REFUSED    a refusal: its number (enum c13_refusal) and what it carries, or 0. The words stand at out[0] and out[1], or behind the state if the
  *                  call steps a walk: at out[1], out[4] or out[27].
  *   C13_TOO_SHORT  the words of the answer do not fit in `out`. `out` is left as it was. C13_MOST words are always enough. A call that writes to other
@@ -45,7 +47,7 @@ extern "C" {
 /* The version of this header and of the library that it is for. */
 #define C13_VERSION "0.1.0"
 
-enum c13_status { C13_NONE = 0, C13_GIVEN = 1, C13_REFUSED = 2, C13_TOO_SHORT = 3 };
+enum c13_status { C13_NONE = 0, C13_GIVEN = 1, C13_REFUSED = 2, C13_TOO_SHORT = 3, C13_LAST = 4 };
 
 /* The numbers of refusals (document 01, "Refusal numbers"). */
 enum c13_refusal {
@@ -157,11 +159,11 @@ enum c13_checksum_kind { C13_CHECKSUM_NONE = 0, C13_CHECKSUM_MD5 = 1, C13_CHECKS
  *   out[4] the file's index   out[5] its name's offset, for c13_name   out[6] checksum kind   out[7] start of its bytes in the area   out[8] their length */
 uint32_t c13_next_file(const uint8_t *area, size_t area_len, uint64_t *out, size_t out_len);
 
-/* Many files in one call: those from the walk on, as many as `records` has room for, 5 words each: what c13_next_file gives at out[4] .. out[8].
- * State as above, 4 words. Given: the state behind the last of them, and at out[4] how many there are. The files before an end or a refusal are given
- * first; the next call tells it, as c13_next_file would. With room for no file C13_NO_ROOM; with fewer than 6 words of `out` too short, and nothing
- * changes. */
-uint32_t c13_files(const uint8_t *area, size_t area_len, uint64_t *records, size_t records_len, uint64_t *out, size_t out_len);
+/* Many files in one call: those from the walk on, as many as `records` has room for, 5 words of 32 bits each: what c13_next_file gives at out[4] .. out[8].
+ * State as above, 4 words. Given: the state behind the last of them, and at out[4] how many there are; C13_LAST where they end with the checksum data.
+ * The files before a refusal are given first; the next call tells it, as c13_next_file would. With room for no file C13_NO_ROOM; with fewer than 6
+ * words of `out` too short, and nothing changes. */
+uint32_t c13_files(const uint8_t *area, size_t area_len, uint32_t *records, size_t records_len, uint64_t *out, size_t out_len);
 
 /* The file at an index, as line records name it. The index is a place in the checksum data: at its end C13_NO_FILE, behind it C13_CUT.
  *   out[0] its name's offset   out[1] checksum kind   out[2] start of its bytes   out[3] their length */
@@ -269,8 +271,9 @@ uint32_t c13_add_opaque(uint8_t *buf, size_t buf_len, size_t place, uint32_t kin
 /* ---- the same calls with structs, inline
  *
  * A walk is a struct of its own. c13_.._walk_begin makes it, c13_.._walk_next stores the next record, c13_.._walk_many as many as there is room for. A
- * call that steps no walk has the name c13_ask_.. here. Each answers what its call answers: C13_GIVEN, and the answer is stored; C13_NONE;
- * C13_REFUSED, and why is stored, in the walk or, where it is not null, behind the last pointer. C13_TOO_SHORT does not come.
+ * call that steps no walk has the name c13_ask_.. here. Each answers what its call answers: C13_GIVEN, and the answer is stored; C13_LAST of
+ * c13_.._walk_many, the same; C13_NONE; C13_REFUSED, and why is stored, in the walk or, where it is not null, behind the last pointer. C13_TOO_SHORT does
+ * not come.
  *
  *     struct c13_line_walk walk = c13_line_walk_begin(area, area_len, slots, used);
  *     struct c13_line line;
@@ -321,9 +324,9 @@ static inline enum c13_status c13_told(uint32_t status, const uint64_t *words, s
     return (enum c13_status)status;
 }
 
-/* Records, in words of 64 bits as the calls give them. `kind` is of enum c13_kind or enum c13_checksum_kind; `start` and `length` name a part of the lent
- * bytes (but the length of a line is that of its code); `file` and `index` are for c13_ask_file_at, `name` is for c13_ask_name, `words` and
- * `count` are for c13_ask_word. Where has_.. is 0 there is no such number. */
+/* Records, in words as the calls give them: of 32 bits where c13_files writes them, else of 64. `kind` is of enum c13_kind or enum c13_checksum_kind;
+ * `start` and `length` name a part of the lent bytes (but the length of a line is that of its code); `file` and `index` are for c13_ask_file_at, `name`
+ * is for c13_ask_name, `words` and `count` are for c13_ask_word. Where has_.. is 0 there is no such number. */
 struct c13_sub {
     uint64_t kind, start, length;
 };
@@ -331,7 +334,7 @@ struct c13_line {
     uint64_t section, offset, has_length, length, file, start_line, end_line, has_start_column, start_column, has_end_column, end_column, is_statement;
 };
 struct c13_file {
-    uint64_t index, name, kind, start, length;
+    uint32_t index, name, kind, start, length;
 };
 struct c13_inlinee {
     uint64_t inlinee, file, line, words, count;
@@ -348,7 +351,7 @@ struct c13_part {
 
 /* c13_lines and c13_files write these structs: they are the words of a record, and no more. */
 typedef char c13_line_is_a_record[sizeof(struct c13_line) == C13_RECORD * sizeof(uint64_t) ? 1 : -1];
-typedef char c13_file_is_a_record[sizeof(struct c13_file) == C13_FILE_RECORD * sizeof(uint64_t) ? 1 : -1];
+typedef char c13_file_is_a_record[sizeof(struct c13_file) == C13_FILE_RECORD * sizeof(uint32_t) ? 1 : -1];
 
 /* Walks: what is lent, the words of the call, why it was refused. What is lent must stay as it is while the walk is used. */
 struct c13_sub_walk {
@@ -447,7 +450,11 @@ static inline enum c13_status c13_line_walk_many(struct c13_line_walk *walk, str
     return status;
 }
 
-/* Files: c13_next_file, c13_files for many, whose room is a number of files, and c13_file_at. */
+/* Files: c13_next_file, c13_files for many, whose room is a number of files, and c13_file_at. The words name the file behind its index. */
+static inline void c13_file_of(struct c13_file *file, uint64_t index, const uint64_t *words) {
+    file->index = (uint32_t)index; file->name = (uint32_t)words[0]; file->kind = (uint32_t)words[1];
+    file->start = (uint32_t)words[2]; file->length = (uint32_t)words[3];
+}
 static inline struct c13_file_walk c13_file_walk_begin(const uint8_t *area, size_t area_len) {
     struct c13_file_walk walk = {area, area_len, {0}, {0, 0}};
     return walk;
@@ -455,19 +462,19 @@ static inline struct c13_file_walk c13_file_walk_begin(const uint8_t *area, size
 static inline enum c13_status c13_file_walk_next(struct c13_file_walk *walk, struct c13_file *file) {
     const uint64_t *w = walk->out + C13_TABLE_STATE;
     enum c13_status status = c13_told(c13_next_file(walk->area, walk->area_len, walk->out, C13_TABLE_STATE + C13_FILE_RECORD), w, &walk->refused);
-    if (status == C13_GIVEN) { file->index = w[0]; file->name = w[1]; file->kind = w[2]; file->start = w[3]; file->length = w[4]; }
+    if (status == C13_GIVEN) c13_file_of(file, w[0], w + 1);
     return status;
 }
 static inline enum c13_status c13_file_walk_many(struct c13_file_walk *walk, struct c13_file *files, size_t room, size_t *count) {
-    enum c13_status status = c13_told(c13_files(walk->area, walk->area_len, (uint64_t *)files, room * C13_FILE_RECORD, walk->out, C13_TABLE_STATE + 2),
+    enum c13_status status = c13_told(c13_files(walk->area, walk->area_len, (uint32_t *)files, room * C13_FILE_RECORD, walk->out, C13_TABLE_STATE + 2),
                                       walk->out + C13_TABLE_STATE, &walk->refused);
-    *count = status == C13_GIVEN ? (size_t)walk->out[C13_TABLE_STATE] : 0;
+    *count = status == C13_GIVEN || status == C13_LAST ? (size_t)walk->out[C13_TABLE_STATE] : 0;
     return status;
 }
 static inline enum c13_status c13_ask_file_at(const uint8_t *area, size_t area_len, uint64_t index, struct c13_file *file, struct c13_refused *why) {
     uint64_t out[4] = {0, 0, 0, 0};
     enum c13_status status = c13_told(c13_file_at(area, area_len, c13_number(index), out, 4), out, why);
-    if (status == C13_GIVEN) { file->index = index; file->name = out[0]; file->kind = out[1]; file->start = out[2]; file->length = out[3]; }
+    if (status == C13_GIVEN) c13_file_of(file, index, out);
     return status;
 }
 

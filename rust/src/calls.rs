@@ -11,6 +11,8 @@ pub const GIVEN: u32 = 1;
 pub const REFUSED: u32 = 2;
 /// `out` is too short for the answer; nothing was put.
 pub const TOO_SHORT: u32 = 3;
+/// An answer as [`GIVEN`], and nothing comes behind it.
+pub const LAST: u32 = 4;
 
 /// How many words the state of a walk takes at the front of `out`: of the subsections, of a table, of the lines.
 pub const SUB_STATE: usize = 1;
@@ -19,8 +21,9 @@ pub const LINE_STATE: usize = 27;
 /// The words of a line record, and of a file of `c13_files`.
 pub const RECORD: usize = 12;
 pub const FILE_RECORD: usize = 5;
-/// A word of the records that `c13_lines` and `c13_files` give.
+/// A word of the records that `c13_lines` gives, and of those that `c13_files` gives.
 pub type RecordWord = u64;
+pub type FileWord = u32;
 
 /// Declares a call and wraps it. In its list of parameters a slice is written `[name: element]`, one that is written to `[mut name: element]`, and a
 /// number `(name: type)`. Sound: each pointer is valid for its length and aligned, and what is written to is no part of anything else, since slices
@@ -61,7 +64,7 @@ calls! {
     c13_lines([area: u8] [slots: u32] [mut records: RecordWord]);
     c13_lines_for_symbol([area: u8] [slots: u32] (section: u16) (offset: u32));
     c13_next_file([area: u8]);
-    c13_files([area: u8] [mut records: RecordWord]);
+    c13_files([area: u8] [mut records: FileWord]);
     c13_file_at([area: u8] (index: u32));
     c13_next_inlinee([area: u8]);
     c13_next_import([area: u8]);

@@ -1,6 +1,6 @@
 //! Lines and files.
 
-use crate::calls::{self, FILE_RECORD, LINE_STATE, RECORD, TABLE_STATE};
+use crate::calls::{self, FileWord, RecordWord, FILE_RECORD, LINE_STATE, RECORD, TABLE_STATE};
 use crate::words::{one, optional, part, size, word, word32, Many, Walk};
 use crate::{Refusal, StringRef};
 use std::fmt;
@@ -258,7 +258,7 @@ pub struct LineIterator<'a> {
     area: &'a [u8],
     slots: &'a [u32],
     /// The records, or why there are none, which is told once.
-    records: Result<Many<{ LINE_STATE + 2 }, RECORD>, Option<Refusal>>,
+    records: Result<Many<RecordWord, { LINE_STATE + 2 }, RECORD>, Option<Refusal>>,
 }
 
 impl<'a> LineIterator<'a> {
@@ -295,7 +295,7 @@ impl FusedIterator for LineIterator<'_> {}
 #[derive(Clone, Debug)]
 pub struct FileIterator<'a> {
     area: &'a [u8],
-    records: Many<{ TABLE_STATE + 2 }, FILE_RECORD>,
+    records: Many<FileWord, { TABLE_STATE + 2 }, FILE_RECORD>,
 }
 
 impl<'a> FileIterator<'a> {

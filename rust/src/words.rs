@@ -1,6 +1,6 @@
 //! What the calls leave in the lent words, taken out of them without a panic.
 
-use crate::calls::{RecordWord, GIVEN, NONE, REFUSED};
+use crate::calls::{GIVEN, LAST, NONE, REFUSED};
 use crate::Refusal;
 
 /// A word of an answer or of a record. One that is not there is 0.
@@ -35,7 +35,7 @@ pub(crate) fn answer(status: u32, out: &[u64], state: usize) -> Result<Option<&[
     let words = out.get(state..).unwrap_or(&[]);
     match status {
         NONE => Ok(None),
-        GIVEN => Ok(Some(words)),
+        GIVEN | LAST => Ok(Some(words)),
         REFUSED => Err(Refusal::of(word(words, 0), word(words, 1))),
         // The words lent are always enough, so this is not answered.
         _ => Err(Refusal::of(0, u64::from(status))),
@@ -68,14 +68,14 @@ impl<const N: usize> Walk<N> {
         Walk { out, over: false }
     }
 
-    /// The next record's words. A walk that ended or was refused is over.
+    /// The next record's words. A walk that ended or was refused is over, and so is one behind whose records nothing comes.
     pub(crate) fn next(&mut self, state: usize, call: impl FnOnce(&mut [u64]) -> u32) -> Option<Result<&[u64], Refusal>> {
         if self.over {
             return None;
         }
         let status = call(&mut self.out);
         let answer = answer(status, &self.out, state);
-        self.over = !matches!(answer, Ok(Some(_)));
+        self.over = status == LAST || !matches!(answer, Ok(Some(_)));
         answer.transpose()
     }
 
@@ -90,11 +90,11 @@ impl<const N: usize> Walk<N> {
     }
 }
 
-/// A walk whose calls give many records at once, of R words each: the records of the last call, and how many of them were taken.
+/// A walk whose calls give many records at once, of R words W each: the records of the last call, and how many of them were taken.
 #[derive(Clone, Debug)]
-pub(crate) struct Many<const N: usize, const R: usize> {
+pub(crate) struct Many<W, const N: usize, const R: usize> {
     walk: Walk<N>,
-    records: Vec<RecordWord>,
+    records: Vec<W>,
     given: usize,
     taken: usize,
 }
@@ -104,20 +104,20 @@ pub(crate) struct Many<const N: usize, const R: usize> {
 const FIRST: usize = 16;
 const MOST: usize = 1 << 16;
 
-impl<const N: usize, const R: usize> Many<N, R> {
+impl<W: Copy + Default, const N: usize, const R: usize> Many<W, N, R> {
     /// The records that a walk gives.
     pub(crate) fn of(walk: Walk<N>) -> Self {
         Many { walk, records: vec![], given: 0, taken: 0 }
     }
 
     /// The next record's words; where those of the last call are taken, `call` gives more.
-    pub(crate) fn next(&mut self, state: usize, call: impl FnOnce(&mut [RecordWord], &mut [u64]) -> u32) -> Option<Result<&[RecordWord], Refusal>> {
+    pub(crate) fn next(&mut self, state: usize, call: impl FnOnce(&mut [W], &mut [u64]) -> u32) -> Option<Result<&[W], Refusal>> {
         if self.taken >= self.given {
             if self.walk.over {
                 return None;
             }
             let records = &mut self.records;
-            records.resize((2 * records.len()).clamp(FIRST * R, MOST * R), 0);
+            records.resize((2 * records.len()).clamp(FIRST * R, MOST * R), W::default());
             match self.walk.next(state, |out| call(records, out))? {
                 Ok(count) => self.given = size(count, 0),
                 Err(why) => return Some(Err(why)),

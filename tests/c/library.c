@@ -43,7 +43,7 @@ static uint32_t lines(const uint8_t *a, size_t n, uint64_t *o, size_t m) {
     return c13_lines(a, n, slots, slots_used, records_end - 2 * C13_RECORD, 2 * C13_RECORD, o, m);
 }
 static uint32_t files(const uint8_t *a, size_t n, uint64_t *o, size_t m) {
-    return c13_files(a, n, records_end - 2 * C13_FILE_RECORD, 2 * C13_FILE_RECORD, o, m);
+    return c13_files(a, n, (uint32_t *)records_end - 2 * C13_FILE_RECORD, 2 * C13_FILE_RECORD, o, m);
 }
 static uint32_t symbol(const uint8_t *a, size_t n, uint64_t *o, size_t m) { return c13_lines_for_symbol(a, n, slots, slots_used, 1, number, o, m); }
 static uint32_t file_at(const uint8_t *a, size_t n, uint64_t *o, size_t m) { return c13_file_at(a, n, number, o, m); }
@@ -148,10 +148,13 @@ static void writes(const struct writer *w) {
 
 /* ---- examples */
 
+static const char *const status_names[] = {"none", "given", "refused", "too short", "last"};
+static int answered(uint32_t status) { return status == C13_GIVEN || status == C13_LAST; }
+
 static void show(const struct function *f, uint32_t status, const uint64_t *out) {
-    size_t from = f->state, to = status == C13_GIVEN ? f->words : status == C13_REFUSED ? f->state + 2 : f->state;
+    size_t from = f->state, to = answered(status) ? f->words : status == C13_REFUSED ? f->state + 2 : f->state;
     if (f->f == symbol && status == C13_GIVEN) to = 4; /* of the state the first words: the lines themselves are shown, too */
-    printf("%s: %s", f->name, status == C13_GIVEN ? "given" : status == C13_NONE ? "none" : status == C13_REFUSED ? "refused" : "too short");
+    printf("%s: %s", f->name, status_names[status]);
     for (; from < to; from++) printf(" %llu", (unsigned long long)out[from]);
     printf("\n");
 }
@@ -207,7 +210,7 @@ static void examples(const uint8_t *area, size_t n, const uint8_t *names, size_t
     ask("c13_next_file", area, n);
     ask("c13_files", area, n);
     printf("  the file:");
-    for (const uint64_t *w = records_end - 2 * C13_FILE_RECORD; w < records_end - C13_FILE_RECORD; w++) printf(" %llu", (unsigned long long)*w);
+    for (const uint32_t *w = (uint32_t *)records_end - 2 * C13_FILE_RECORD; w < (uint32_t *)records_end - C13_FILE_RECORD; w++) printf(" %u", *w);
     printf("\n");
     ask("c13_string_table", names, k);
     number = 2, ask("c13_name", names, k);
@@ -293,15 +296,15 @@ static uint32_t tried(const struct function *f, const uint8_t *bytes, size_t n, 
     memcpy(out, state, 8 * m);
     memset(kept, 0xee, sizeof kept), memcpy(records, kept, sizeof kept);
     again = f->f(bytes, n, out, m);
-    if (again != C13_GIVEN && memcmp(kept, records, sizeof kept)) fail(f, "records without an answer");
+    if (!answered(again) && memcmp(kept, records, sizeof kept)) fail(f, "records without an answer");
     memcpy(kept, records, sizeof kept);
     memcpy(first, out, 8 * m);
     memcpy(out, state, 8 * m);
     status = f->f(bytes, n, out, m);
     if (status != again || memcmp(first, out, 8 * m) || memcmp(kept, records, sizeof kept)) fail(f, "another answer to the same");
     if (n <= sizeof before && memcmp(before, bytes, n)) fail(f, "lent bytes changed");
-    size_t from = status == C13_REFUSED ? f->state : 0, to = status == C13_GIVEN ? f->words : status == C13_REFUSED ? f->state + 2 : 0;
-    if (status > C13_TOO_SHORT || to > m) fail(f, "no such status");
+    size_t from = status == C13_REFUSED ? f->state : 0, to = answered(status) ? f->words : status == C13_REFUSED ? f->state + 2 : 0;
+    if (status > C13_LAST || to > m) fail(f, "no such status");
     for (size_t i = 0; i < m; i++)
         if ((i < from || i >= to) && out[i] != state[i]) fail(f, "a word that is no part of the answer changed");
     if (status == C13_REFUSED && (out[from] < 1 || out[from] > 19)) fail(f, "no such refusal");
@@ -370,7 +373,7 @@ static void list_by_chance(const uint8_t *area, size_t n) {
 /* Bytes cut, spoilt and by chance, with states, slots and numbers by chance. */
 static void by_chance(void) {
     printf("-- by chance\n");
-    static uint64_t told[FUNCTIONS][4], refusals[20];
+    static uint64_t told[FUNCTIONS][5], refusals[20];
     for (int round = 0; round < 40000; round++) {
         uint64_t state[WORDS];
         int forged = chance() % 4;
@@ -385,9 +388,12 @@ static void by_chance(void) {
         told[f - functions][status]++;
         if (status == C13_REFUSED) refusals[(words_end - m)[f->state]]++;
     }
-    for (size_t f = 0; f < FUNCTIONS; f++)
-        printf("%s: none %llu, given %llu, refused %llu, too short %llu\n", functions[f].name, (unsigned long long)told[f][0],
-               (unsigned long long)told[f][1], (unsigned long long)told[f][2], (unsigned long long)told[f][3]);
+    for (size_t f = 0; f < FUNCTIONS; f++) {
+        printf("%s:", functions[f].name);
+        for (size_t i = 0; i <= C13_LAST; i++)
+            if (i < C13_LAST || told[f][i]) printf("%s %s %llu", i ? "," : "", status_names[i], (unsigned long long)told[f][i]);
+        printf("\n");
+    }
     for (int i = 1; i < 20; i++)
         if (refusals[i]) printf("refusal %d: %llu\n", i, (unsigned long long)refusals[i]);
     printf("sum %016llx\n", (unsigned long long)sum);

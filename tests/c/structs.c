@@ -68,20 +68,24 @@ static void words_of_another(const uint8_t *area, size_t n) {
 
 static unsigned compared, given, refused;
 
+static int answered(uint32_t status) { return status == C13_GIVEN || status == C13_LAST; }
+
 /* Two answers to the same: the call's status and words, and the struct's status, fields and refusal. */
-static void same(const char *what, uint32_t status, const uint64_t *words, enum c13_status told, const void *fields, size_t size,
+static void same(const char *what, uint32_t status, const void *words, enum c13_status told, const void *fields, size_t size,
                  const struct c13_refused *why) {
     int right = status == (uint32_t)told;
-    if (status == C13_GIVEN) right = right && !memcmp(words, fields, size);
-    if (status == C13_REFUSED)
-        right = right && why->number == words[0] && why->carried == words[1];
-    else
+    uint64_t refusal[2];
+    if (answered(status)) right = right && !memcmp(words, fields, size);
+    if (status == C13_REFUSED) {
+        memcpy(refusal, words, sizeof refusal);
+        right = right && why->number == refusal[0] && why->carried == refusal[1];
+    } else
         right = right && !why->number && !why->carried;
     if (!right) {
         printf("%s: another answer\n", what);
         exit(1);
     }
-    compared++, given += status == C13_GIVEN, refused += status == C13_REFUSED;
+    compared++, given += answered(status), refused += status == C13_REFUSED;
 }
 
 /* Both walks, record by record, and their last answer a second time. */
@@ -114,8 +118,23 @@ static void lines_many(const uint8_t *area, size_t n, size_t used) {
     } while (status == C13_GIVEN || room == 1); /* the first has no room, and is refused for that alone */
 }
 
+/* A file's fields, of 32 bits, in words of 64 as c13_next_file and c13_file_at give them. */
+struct file_words {
+    uint64_t words[C13_FILE_RECORD];
+};
+static void widen(struct file_words *to, const struct c13_file *file) {
+    to->words[0] = file->index, to->words[1] = file->name, to->words[2] = file->kind, to->words[3] = file->start, to->words[4] = file->length;
+}
+static enum c13_status next_file(struct c13_file_walk *walk, struct file_words *to) {
+    struct c13_file file;
+    enum c13_status status = c13_file_walk_next(walk, &file);
+    if (status == C13_GIVEN) widen(to, &file);
+    return status;
+}
+
 static void files_many(const uint8_t *area, size_t n) {
-    uint64_t out[C13_MOST] = {0}, words[3 * C13_FILE_RECORD];
+    uint64_t out[C13_MOST] = {0};
+    uint32_t words[3 * C13_FILE_RECORD];
     struct c13_file three[3];
     struct c13_file_walk walk = c13_file_walk_begin(area, n);
     size_t count, room = 0;
@@ -123,8 +142,9 @@ static void files_many(const uint8_t *area, size_t n) {
     do {
         status = c13_files(area, n, words, room * C13_FILE_RECORD, out, C13_MOST);
         enum c13_status told = c13_file_walk_many(&walk, three, room, &count);
-        if (count != (status == C13_GIVEN ? out[C13_TABLE_STATE] : 0)) exit(1);
-        same("c13_file_walk_many", status, status == C13_GIVEN ? words : out + C13_TABLE_STATE, told, three, count * sizeof *three, &walk.refused);
+        if (count != (answered(status) ? out[C13_TABLE_STATE] : 0)) exit(1);
+        same("c13_file_walk_many", status, answered(status) ? (const void *)words : out + C13_TABLE_STATE, told, three, count * sizeof *three, &walk.refused);
+        if (status == C13_LAST && c13_next_file(area, n, out, C13_MOST) != C13_NONE) exit(1);
         room = room == 3 ? 1 : room + 1;
     } while (status == C13_GIVEN || room == 1);
 }
@@ -149,13 +169,15 @@ static void area_questions(const uint8_t *area, size_t n) {
     static const uint64_t indices[] = {0, 1, 7, 23, 24, 25, 0x80000000, 0x80000001, 0x80000008, 0x80100000, UINT32_MAX};
     uint64_t out[C13_MOST], fields[5];
     struct c13_file file;
+    struct file_words wide;
     struct c13_refused why;
     uint32_t status;
     for (size_t i = 0; i < sizeof indices / sizeof *indices; i++) {
         uint32_t index = (uint32_t)indices[i];
         status = c13_file_at(area, n, index, out + 1, 4), out[0] = index;
         enum c13_status told = c13_ask_file_at(area, n, index, &file, &why);
-        same("c13_ask_file_at", status, status == C13_GIVEN ? out : out + 1, told, &file, sizeof file, &why);
+        if (told == C13_GIVEN) widen(&wide, &file);
+        same("c13_ask_file_at", status, status == C13_GIVEN ? out : out + 1, told, &wide, sizeof wide, &why);
         status = c13_resolve_import(area, n, index, out, 2);
         told = c13_ask_resolve_import(area, n, index, fields, fields + 1, &why);
         same("c13_ask_resolve_import", status, out, told, fields, 16, &why);
@@ -176,7 +198,7 @@ static void hold_area(const uint8_t *area, size_t n) {
     struct c13_refused why;
     struct c13_sub sub;
     struct c13_line line;
-    struct c13_file file;
+    struct file_words file;
     struct c13_inlinee inlinee;
     struct c13_import imported;
     struct c13_export exported;
@@ -193,7 +215,7 @@ static void hold_area(const uint8_t *area, size_t n) {
     lines = c13_line_walk_begin(area, n, slots, used);
     SAME_WALK("c13_sub_walk_next", c13_next_sub(area, n, out, C13_MOST), C13_SUB_STATE, c13_sub_walk_next, subs, sub);
     SAME_WALK("c13_line_walk_next", c13_next_line(area, n, slots, used, out, C13_MOST), C13_LINE_STATE, c13_line_walk_next, lines, line);
-    SAME_WALK("c13_file_walk_next", c13_next_file(area, n, out, C13_MOST), C13_TABLE_STATE, c13_file_walk_next, files, file);
+    SAME_WALK("c13_file_walk_next", c13_next_file(area, n, out, C13_MOST), C13_TABLE_STATE, next_file, files, file);
     SAME_WALK("c13_inlinee_walk_next", c13_next_inlinee(area, n, out, C13_MOST), C13_TABLE_STATE, c13_inlinee_walk_next, inlinees, inlinee);
     SAME_WALK("c13_import_walk_next", c13_next_import(area, n, out, C13_MOST), C13_TABLE_STATE, c13_import_walk_next, imports, imported);
     SAME_WALK("c13_export_walk_next", c13_next_export(area, n, out, C13_MOST), C13_TABLE_STATE, c13_export_walk_next, exports, exported);

@@ -1,16 +1,23 @@
--- Laws of a call that gives many records: each way out of it, and that only an answer changes the words lent for records.
-use Prim.Native.Nat.{ℕ, _+_, _≤_, _<_}
+-- Laws of a call that gives many records: each way out of it, that only an answer changes the words lent for records, and that nothing comes behind the
+-- last ones.
+use Prim.Native.Nat.{ℕ, zero, suc, _+_, _/_, _≤_, _<_}
 use mathlib.Core.Path.{_≡_, refl, sym, ap, _∙_, subst}
 use mathlib.Core.Logic.{_⊎_, inl, inr, ⊎-elim}
 use mathlib.Core.List.{List, [], _∷_}
-use mathlib.Core.Bool.{Bool, true, false}
+use mathlib.Core.Bool.{Bool, true, false, cond}
 use native.Mathlib.Omega.{arith}
+use native.Mathlib.Nat.{le-div-iff-mul-le}
 use lib.ListN.{length, length-append}
+use lib.Dec.{leb, ltb}
+use borrow.Author.Tests.{ltb-false}
+use Rattle.word.specs.Word.{put}
+use Rattle.walk.specs.Cases.{by-cases}
 use Rattle.walk.specs.Listing.{Answer, gives, none, refuses}
+use Rattle.walk.specs.Many.{Many, thenMany, asMany, many}
 use Rattle.refusal.specs.Told.{Told}
-use Rattle.answer_words.specs.Given.{given, Gives, statusIn}
-use Rattle.answer_words.specs.GivenLaws.{gives-put, gives-as, room-changes, room-keeps, room-still}
-use Rattle.answer_words.specs.Fill.{counted, filled}
+use Rattle.answer_words.specs.Given.{given, Gives, statusIn, shortGiven}
+use Rattle.answer_words.specs.GivenLaws.{gives-put, gives-fits, gives-as, room-changes, room-keeps, room-still}
+use Rattle.answer_words.specs.Fill.{noRoom, counted, filled, fillOf}
 use Rattle.answer_words.specs.FillGiven.{countWords, answerStatus, manyGiven, askedSize, fillGiven, fillLeft}
 
 -- an answer: 1, or 4 where nothing comes behind it
@@ -20,6 +27,45 @@ Answered r = (r ≡ 1) ⊎ (r ≡ 4)
 answer-answered : (last : Bool) → Answered (answerStatus last)
 answer-answered true = inr refl
 answer-answered false = inl refl
+
+-- P of the state behind what is given
+abbrev pub Behind : {S B : Type 0} → (S → Type 0) → Answer S B Told → Type 0
+Behind P (gives b w) = P w
+Behind P none = Unit {0}
+Behind P (refuses t) = Unit {0}
+
+-- what holds behind each record holds behind many
+module _ {S B : Type 0} (next : S → Answer S B Told) (P : S → Type 0) (each : (w : S) → Behind P (next w)) where
+  many-behind : (k : ℕ) (w : S) → P w → P (many next k w .next)
+  unfolding many
+  many-behind zero w h = h
+  many-behind (suc k) w h = by (many-behind k) (next w) (each w)
+    where
+      by : ((t : S) → P t → P (many next k t .next)) → (a : Answer S B Told) → Behind P a → P (thenMany (many next k) w a .next)
+      by ih (gives b t) q = ih t q
+      by ih none q = h
+      by ih (refuses t) q = h
+
+  of-behind : (k : ℕ) (w : S) → 0 < k → Behind P (asMany (many next k w) (next w))
+  unfolding many
+  of-behind zero w l = absurd (omega arith)
+  of-behind (suc k) w l = by (next w) (each w)
+    where
+      by : (a : Answer S B Told) → Behind P a → Behind P (asMany (thenMany (many next k) w a) a)
+      by (gives b t) q = many-behind k t q
+      by none q = tt
+      by (refuses t) q = tt
+
+  no-behind : (a : Answer S B Told) → Behind P (noRoom a)
+  no-behind (gives b t) = tt
+  no-behind none = tt
+  no-behind (refuses t) = tt
+
+  pub fill-behind-each : (k n : ℕ) (w : S) → 0 < k → Behind P (fillOf k next n w)
+  unfolding fillOf
+  fill-behind-each k n w l =
+      by-cases (Behind P) (ltb n k) (λ e. no-behind (next w))
+      (λ e. of-behind (n / k) w (le-div-iff-mul-le {x = 1} l .1 (omega (arith, ltb-false n k e))))
 
 -- a has the answer for each state of the walk; w is the state that was read, b what was told, and y what was left
 pub fill-given : {S B W : Type 0} (k : ℕ) (over : S → Bool) (g : S → List ℕ) (f : B → List ℕ) (o x : List ℕ) (a : W → Answer S (List B) Told) {w v : W}
@@ -46,3 +92,29 @@ module _ {S B : Type 0} (k : ℕ) (over : S → Bool) (g : S → List ℕ) (f : 
           inl (subst Answered (gives-put o (given (answerStatus (over w)) 0 ws) (omega (arith, sized w)) .status) (answer-answered (over w)))
       by none l = inr refl
       by (refuses t) l = inr refl
+
+  -- THE LAW: behind an answer of status 4 the walk is at its end, if it is so at each state that is over and stands behind a record; `read` has the
+  -- state that words say
+  pub fill-last : (read : List ℕ → S) → ((w : S) (n : ℕ) → over w ≡ true → read (put o 0 (countWords g n w)) ≡ w) → (next : S → Answer S B Told)
+      → Behind (λ w. over w ≡ true → next w ≡ none) a → {left : List ℕ} → Gives o (fillGiven k over g o a) 4 left → next (read left) ≡ none
+  fill-last read same next h {left} q = room (leb (askedSize k) (length o)) q
+    where
+      other : (n : ℕ) → 4 ≡ n → (n ≡ 4 → ⊥) → next (read left) ≡ none
+      other n e z = absurd (z (sym e))
+
+      is-over : (t : Bool) → 4 ≡ answerStatus t → t ≡ true
+      is-over true e = refl
+      is-over false e = absurd (omega arith)
+
+      by : (b : Answer S (List B) Told) → Behind (λ w. over w ≡ true → next w ≡ none) b → Gives o (manyGiven k over g (counted b)) 4 left
+          → next (read left) ≡ none
+      by (gives rs w) h q =
+          let f = gives-fits q (λ e. omega arith) in
+          let e = is-over (over w) (f .0) in
+          ap (λ l. next (read l)) (f .1) ∙ ap next (same w (length rs) e) ∙ h e
+      by none h q = other 0 (gives-fits q (λ e. omega arith) .0) (λ e. omega arith)
+      by (refuses t) h q = other 2 (gives-fits q (λ e. omega arith) .0) (λ e. omega arith)
+
+      room : (t : Bool) → Gives o (cond t (manyGiven k over g (counted a)) shortGiven) 4 left → next (read left) ≡ none
+      room true q = by a h q
+      room false q = other 3 (gives-fits q (λ e. omega arith) .0) (λ e. omega arith)

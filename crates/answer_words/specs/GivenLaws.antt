@@ -29,6 +29,15 @@ module _ (o : List ℕ) (g : Given) where
   unfolding statusIn store
   gives-short h = record { status = rw (lt-leb (g .at + length (g .words)) (length o) h); words = rw (lt-leb (g .at + length (g .words)) (length o) h) }
 
+-- any status but 3 is the answer's own, and its words are put
+pub gives-fits : {o left : List ℕ} {g : Given} {r : ℕ} → Gives o g r left → (r ≡ 3 → ⊥) → (r ≡ g .status) × (left ≡ put o (g .at) (g .words))
+unfolding statusIn store
+gives-fits {o} {left} {g} {r} h z = go (leb (g .at + length (g .words)) (length o)) (h .status) (h .words)
+  where
+    go : (t : Bool) → r ≡ cond t (g .status) 3 → left ≡ cond t (put o (g .at) (g .words)) o → (r ≡ g .status) × (left ≡ put o (g .at) (g .words))
+    go true s w = (s, w)
+    go false s w = absurd (z s)
+
 -- what is put changes nothing else: neither a word before its place nor one behind it
 module _ {o left : List ℕ} {g : Given} {r : ℕ} (h : Gives o g r left) where
   pub keeps-before : (i : ℕ) → i < g .at → getD left i 0 ≡ getD o i 0
@@ -59,6 +68,9 @@ gives-none o = gives-nothing 0 o
 -- what is given of an answer m is given of every n that it equals
 pub gives-as : {A : Type 0} (f : A → Given) {m n : A} {o left : List ℕ} {r : ℕ} → m ≡ n → Gives o (f m) r left → Gives o (f n) r left
 gives-as f {o = o} {left = left} {r = r} e h = subst (λ x. Gives o (f x) r left) e h
+
+pub gives-status : {o left ws : List ℕ} {at m n r : ℕ} → m ≡ n → Gives o (given m at ws) r left → Gives o (given n at ws) r left
+gives-status {ws = ws} {at = at} e h = gives-as (λ s. given s at ws) e h
 
 -- a loop that copies the words s to a place of o one by one: a turn of it, and its end
 module _ (o : List ℕ) (at : ℕ) (s : List ℕ) (t : List ℕ) (i : ℕ) (e : t ≡ paste o at s i) where

@@ -3,6 +3,7 @@
 ghost use mathlib.Core.Path.{_≡_};
 ghost use mathlib.Core.List.{[], _∷_};
 ghost use lib.ListN.{getD};
+ghost use Rattle.word.specs.Word.{store};
 ghost use Rattle.refusal.specs.Told.{told};
 ghost use Rattle.answer_words.specs.Given.{given, Gives, refusalGiven};
 ghost use Rattle.answer_words.specs.FillGiven.{answerStatus};
@@ -45,6 +46,23 @@ pub fn put(out: &mut [u64], at: usize, words: &[u64], status: u32) -> u32
         i += 1;
     }
     status
+}
+
+// Puts the words of a record, of 32 bits each. Where they do not fit nothing is put.
+pub fn put32(records: &mut [u32], at: usize, words: &[u32])
+    ensures { λ _. ⌜ now (records .exit) ≡ store (now (records .entry)) at (now (words .entry)) ⌝ }
+{
+    if records.len() < at {
+        return;
+    }
+    if records.len() - at < words.len() {
+        return;
+    }
+    let mut i: usize = 0;
+    while i < words.len() {
+        records[at + i] = words[i];
+        i += 1;
+    }
 }
 
 // The status of an answer, by whether nothing comes behind it.

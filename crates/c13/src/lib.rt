@@ -2,9 +2,9 @@
 // `rt staticlib c13` writes libc13.a, which has them all and nothing else.
 //
 // A call answers a status and puts its words into `out`, its last slice. 0: none. 1: an answer. 2: a refusal; its words are the number of document 01 and
-// what is carried, or 0. 3: the words do not fit, and nothing is changed. A walk's state is the first words of `out`, all 0 for a new walk, and a refusal
-// is put behind it. A call that changes other lent memory than `out` asks there for room for a refusal, behind the state if it steps a walk, before it
-// does anything. A slice is two C parameters: its pointer and its length.
+// what is carried, or 0. 3: the words do not fit, and nothing is changed. 4: an answer, and nothing comes behind it. A walk's state is the first words of
+// `out`, all 0 for a new walk, and a refusal is put behind it. A call that changes other lent memory than `out` asks there for room for a refusal, behind
+// the state if it steps a walk, before it does anything. A slice is two C parameters: its pointer and its length.
 ghost use mathlib.Core.Path.{_≡_};
 ghost use lib.ListN.{length};
 ghost use Rattle.reading.specs.Reading.{openChecksums, openInlinees, openImports, openExports, opaque};
@@ -33,7 +33,7 @@ pub extern "C" fn c13_next_file(area: &[u8], out: &mut [u64]) -> u32
 }
 
 #[no_mangle]
-pub extern "C" fn c13_files(area: &[u8], records: &mut [u64], out: &mut [u64]) -> u32
+pub extern "C" fn c13_files(area: &[u8], records: &mut [u32], out: &mut [u64]) -> u32
     ensures { λ r. ⌜ Gives (now (out .entry))
         (filesGiven crateRule (now (area .entry)) (length (now (records .entry))) (now (out .entry)))
         r (now (out .exit)) ⌝ }

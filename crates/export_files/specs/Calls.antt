@@ -2,12 +2,11 @@
 -- Definitions only; a reader must believe them.
 use Prim.Native.Nat.{ℕ}
 use mathlib.Core.List.{List}
-use mathlib.Core.Bool.{false}
 use lib.ListN.{length}
 use Rattle.area.specs.Kind.{Sort}
 use Rattle.files.specs.Files.{fileStep, fileAt}
 use Rattle.answer_words.specs.Given.{Given, stepGiven, replyGiven}
-use Rattle.answer_words.specs.TableWords.{tableStateSize, walkIn, walkWords, tableWords}
+use Rattle.answer_words.specs.TableWords.{tableStateSize, walkIn, walkWords, overTable, tableWords}
 use Rattle.answer_words.specs.FillGiven.{fillGiven, fillLeft}
 use Rattle.many_files.specs.FileWords.{infoWords, fileWords}
 use Rattle.many_files.specs.Files.{filesOf}
@@ -17,7 +16,7 @@ fileGiven rule s o = stepGiven tableStateSize (tableWords fileWords) (fileStep r
 
 -- many files, with n words lent for them
 abbrev pub filesGiven : (ℕ → Sort) → List ℕ → ℕ → List ℕ → Given
-filesGiven rule s n o = fillGiven tableStateSize (λ w. false) walkWords o (filesOf rule s n (walkIn o))
+filesGiven rule s n o = fillGiven tableStateSize overTable walkWords o (filesOf rule s n (walkIn o))
 
 -- the words x lent for files, after the call for many
 abbrev pub filesLeft : (ℕ → Sort) → List ℕ → List ℕ → List ℕ → List ℕ

@@ -10,6 +10,8 @@ use answer_words::NONE;
 use answer_words::REFUSAL_WORDS;
 use answer_words::TABLE_STATE_WORDS;
 use answer_words::TOO_SHORT;
+use answer_words::answer_status;
+use answer_words::over_table;
 use answer_words::put;
 use answer_words::put_refusal;
 use answer_words::walk_in;
@@ -60,9 +62,9 @@ pub fn next_file(area: &[u8], out: &mut [u64]) -> u32
     }
 }
 
-// The files from the walk in `out` on, into `records`. Words: the next state, and how many files there are. Where there is none to give the answer is
-// that of `next_file`; without room for one it is number 10.
-pub fn files(area: &[u8], records: &mut [u64], out: &mut [u64]) -> u32
+// The files from the walk in `out` on, into `records`, in words of 32 bits. Words: the next state, and how many files there are. Where these are the last
+// ones the status says so. Where there is none to give the answer is that of `next_file`; without room for one it is number 10.
+pub fn files(area: &[u8], records: &mut [u32], out: &mut [u64]) -> u32
     ensures { λ r. ⌜ Gives (now (out .entry))
         (filesGiven crateRule (now (area .entry)) (length (now (records .entry))) (now (out .entry)))
         r (now (out .exit)) ⌝ }
@@ -73,8 +75,9 @@ pub fn files(area: &[u8], records: &mut [u64], out: &mut [u64]) -> u32
     }
     match next_files(area, walk_in(out), records) {
         FilesStep::Files { count, next } => {
+            let status = answer_status(over_table(next));
             let w = walk_words(next);
-            put(out, 0, &[w.0, w.1, w.2, w.3, count as u64], GIVEN)
+            put(out, 0, &[w.0, w.1, w.2, w.3, count as u64], status)
         }
         FilesStep::None => NONE,
         FilesStep::Refused(why) => put_refusal(out, TABLE_STATE_WORDS, why),

@@ -1,19 +1,20 @@
 -- Laws of the files of an area: a law for each way out of the code, the walk, the file at an index, and what the files are in the bytes.
 use Prim.Native.Nat.{ℕ, _+_, _-_, _≤_}
-use mathlib.Core.Path.{_≡_, sym, ap, _∙_, subst⁻¹}
+use mathlib.Core.Path.{_≡_, refl, sym, ap, _∙_, subst⁻¹}
 use mathlib.Core.List.{List}
 use native.Mathlib.Omega.{arith}
-use lib.ListN.{length, take, drop, length-take}
+use lib.ListN.{length, take, drop, length-take, length-drop}
+use lib.Seq.{length-take-le}
 use Rattle.word.specs.PartLaws.{part-bytes}
-use Rattle.walk.specs.Listing.{Listing, mapped, Answer, gives, Reply, gave, nothing, refused, calls, replies}
+use Rattle.walk.specs.Listing.{Listing, mapped, Answer, gives, none, refuses, Reply, gave, nothing, refused, calls, replies}
 use Rattle.walk.specs.ListingLaws.{Every}
 use Rattle.walk.specs.Pick.{mapReply}
 use Rattle.refusal.specs.Told.{Told, longest}
 use Rattle.area.specs.Kind.{Sort}
 use Rattle.find.specs.Find.{same, Span, lastSub, bytesAt}
-use Rattle.table.specs.Table.{Place, spotIn, shifted, tableOf}
+use Rattle.table.specs.Table.{Place, spotIn, spotOf, shifted, readAt, tableOf}
 use Rattle.table.specs.StepLaws.{Steps, steps}
-use Rattle.table.specs.TableLaws.{Finds, Inside, in-inside, spot-inside, last-finds, table-walk}
+use Rattle.table.specs.TableLaws.{Finds, Inside, in-inside, spot-lies, spot-inside, last-finds, table-walk}
 use Rattle.table.specs.Whole.{ofBody}
 use Rattle.table.specs.WholeLaws.{mapped-every, table-means}
 use Rattle.table.specs.declared.TableWalk.{TableWalk}
@@ -22,7 +23,7 @@ use Rattle.body.specs.Checksums.{Checksum, checksums}
 use Rattle.checksums.specs.Entry.{Entry, entryAt, entriesFrom, shown}
 use Rattle.checksums.specs.Entry as entry
 use Rattle.checksums.specs.Told.{toldEntry}
-use Rattle.checksums.specs.EntryLaws.{entry-lies, entries-step, entries-mean, In, entries-in, Stands, entries-stand}
+use Rattle.checksums.specs.EntryLaws.{EntryWithin, entry-within, entry-none, entry-lies, entries-step, entries-mean, In, entries-in, Stands, entries-stand}
 use Rattle.lines.specs.Lines.{countLines}
 use Rattle.files.specs.Files.{Info, File, infoOf, fileOf, ifPassed, filesSub, fileStep, filesIn, atIndex, fileIn, fileAt, held, partOf, fileSpelt}
 
@@ -62,6 +63,52 @@ pub file-entry : (start len at : ℕ) (b : List ℕ) (e : Entry) (x : ℕ) (out 
 file-entry start len at b e x out l q =
     let i : at ≡ e .start - 6 = omega (arith, entry-lies b at e x l) in
     (λ j. gives (record { index = i j; info = infoOf start e }) (walk.In start len x)) ∙ q
+
+-- where a step leads: on in its body, which lies in an area that is not too long; the bytes of its file stand before that place
+pub record Leads (s : List ℕ) (f : File) (t : TableWalk) : Type 0 where
+  pub start : ℕ
+  pub len : ℕ
+  pub at : ℕ
+  pub is : t ≡ walk.In start len at
+  pub lies : start + len ≤ length s
+  pub short : length s ≤ longest
+  pub inside : at ≤ len
+  pub bytes : f .info .start + f .info .len ≤ start + at
+
+abbrev Led : List ℕ → Answer TableWalk File Told → Type 0
+Led s (gives f t) = Leads s f t
+Led s none = Unit {0}
+Led s (refuses t) = Unit {0}
+
+module _ (rule : ℕ → Sort) (s : List ℕ) where
+  step-led : (w : TableWalk) → Led s (fileStep rule s w)
+  unfolding fileStep
+  step-led w = by (spotOf (filesSub rule s) s w) (spot-lies s (filesSub rule s) (files-finds rule s) w)
+    where
+      read : (q : Place) → Inside s (gave q) → (a : Answer ℕ Entry Told) → EntryWithin (length (take (q .len) (drop (q .start) s))) (q .at) a
+          → Led s (shifted fileOf (q .start) (q .len) a)
+      read q h (gives e x) l =
+          let n = length-take (q .len) (drop (q .start) s) in
+          record { start = q .start; len = q .len; at = x; is = refl; lies = h .0; short = h .1; inside = omega arith; bytes = omega arith }
+      read q h none l = tt
+      read q h (refuses t) l = tt
+
+      by : (x : Reply Place Told) → Inside s x → Led s (readAt entryAt fileOf s x)
+      by (gave q) h = let b = take (q .len) (drop (q .start) s) in read q h (entryAt b (q .at)) (entry-within b (q .at))
+      by nothing h = tt
+      by (refused t) h = tt
+
+  pub file-leads : (w : TableWalk) (f : File) (t : TableWalk) → gives f t ≡ fileStep rule s w → Leads s f t
+  file-leads w f t e = subst⁻¹ (Led s) e (step-led w)
+
+  -- at the end of a body there is no file
+  pub file-over : (start len : ℕ) → start + len ≤ length s → length s ≤ longest → fileStep rule s (walk.In start len len) ≡ none
+  unfolding fileStep
+  file-over start len h m =
+      let b = take len (drop start s) in
+      let n : length b ≡ len = length-take-le len (drop start s) (omega (arith, length-drop start s)) in
+      ap (readAt entryAt fileOf s) (sym (spot-inside s start len len m h))
+      ∙ ap (shifted fileOf start len) (sym (entry-none b len (omega arith) (omega arith)))
 
 -- THE WALK: n calls from a new walk on answer the files in order, and then the end, or the same refusal, again and again
 pub files-walk : (rule : ℕ → Sort) (s : List ℕ) (n : ℕ) → calls (fileStep rule s) n walk.New ≡ replies n (filesIn rule s)

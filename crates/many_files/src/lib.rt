@@ -1,4 +1,4 @@
-// Many files of an area at once, in words (crate: `LineProgram::files`, a whole `FileIterator` in coarse calls): as many as the lent words have room for,
+// Many files of an area at once, in words of 32 bits (crate: `LineProgram::files`, a whole `FileIterator` in coarse calls): as many as the lent words have room for,
 // and the walk behind the last. The first step of a new walk finds the checksum body, which the others know.
 //
 // The files before an end or a refusal are given first, and the next call, from the walk answered, tells it.
@@ -11,8 +11,7 @@ ghost use Rattle.answer_words.specs.Fill.{noRoom, counted, filled};
 ghost use Rattle.many_files.specs.FileWords.{fileSize, fileWords};
 ghost use Rattle.many_files.specs.Files.{filesOf};
 ghost use Rattle.many_files.specs.Told.{toldFiles};
-use answer_words::GIVEN;
-use answer_words::put;
+use answer_words::put32;
 use checksums::number;
 use files::FileStep;
 use files::next_file;
@@ -47,7 +46,7 @@ fn no_room(step: FileStep) -> FilesStep
 }
 
 // The files from a walk on, put step after step; `w` is the walk behind the last of them.
-fn fill(area: &[u8], walk: TableWalk, out: &mut [u64]) -> FilesStep
+fn fill(area: &[u8], walk: TableWalk, out: &mut [u32]) -> FilesStep
     requires { ⌜ fileSize ≤ length (now out) ⌝ }
     ensures { λ r. ⌜ toldFiles r ≡ counted (filesOf crateRule (now (area .entry)) (length (now (out .entry))) walk) ⌝ }
     ensures { λ _. ⌜ now (out .exit) ≡ filled fileWords (now (out .entry)) (filesOf crateRule (now (area .entry)) (length (now (out .entry))) walk) ⌝ }
@@ -65,13 +64,12 @@ fn fill(area: &[u8], walk: TableWalk, out: &mut [u64]) -> FilesStep
                 len,
                 next,
             } => {
-                let k = number(kind) as u64;
+                let k = number(kind) as u32;
                 let at = FILE_WORDS * n;
-                put(
+                put32(
                     &mut out[at..at + FILE_WORDS],
                     0,
-                    &[index as u64, name as u64, k, start as u64, len as u64],
-                    GIVEN,
+                    &[index, name, k, start as u32, len as u32],
                 );
                 n += 1;
                 w = next;
@@ -94,7 +92,7 @@ fn fill(area: &[u8], walk: TableWalk, out: &mut [u64]) -> FilesStep
 }
 
 // The files from a walk on, as many as `out` has room for.
-pub fn next_files(area: &[u8], walk: TableWalk, out: &mut [u64]) -> FilesStep
+pub fn next_files(area: &[u8], walk: TableWalk, out: &mut [u32]) -> FilesStep
     ensures { λ r. ⌜ toldFiles r ≡ counted (filesOf crateRule (now (area .entry)) (length (now (out .entry))) walk) ⌝ }
     ensures { λ _. ⌜ now (out .exit) ≡ filled fileWords (now (out .entry)) (filesOf crateRule (now (area .entry)) (length (now (out .entry))) walk) ⌝ }
 {

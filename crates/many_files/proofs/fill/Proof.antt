@@ -8,6 +8,7 @@ use lib.ListN.{length}
 use Rattle.area.specs.Kind.{crateRule}
 use Rattle.walk.specs.Listing.{none, refuses}
 use Rattle.files.specs.Files.{fileStep}
+use Rattle.files.specs.FilesLaws.{file-leads}
 use Rattle.files.specs.Told.{toldFile}
 use Rattle.answer_words.specs.FillLaws.{fill-start, fill-full, fill-stop, fill-none}
 use Rattle.many_files.specs.FileWords.{fileSize, fileWords}
@@ -25,11 +26,21 @@ abbrev μ-loop : tie.MeasureT-loop
 loop-holds : tie.Need-loop-holds Inv-loop μ-loop
 loop-holds c = (fill-start fileSize fileWords file-length (fileStep crateRule _) _ _, refl)
 
-add-put : tie.Need-add-put Inv-loop μ-loop
-add-put c = let l = c .before .before .before .before .before .before .loop in omega (arith, l .inv .0 .size, l .inv .1)
+add-put32 : tie.Need-add-put32 Inv-loop μ-loop
+add-put32 c = let l = c .before .before .before .before .before .before .loop in omega (arith, l .inv .0 .size, l .inv .1)
 
-part-put-end : tie.Need-part-put-end Inv-loop μ-loop
-part-put-end c = let l = c .before .before .before .before .before .before .loop in omega (arith, l .inv .0 .size, l .inv .1)
+part-put32-end : tie.Need-part-put32-end Inv-loop μ-loop
+part-put32-end c = let l = c .before .before .before .before .before .before .loop in omega (arith, l .inv .0 .size, l .inv .1)
+
+cast-t28 : tie.Need-cast-t28 Inv-loop μ-loop
+cast-t28 c =
+    let m = c .before .before .before in
+    omega (arith, file-leads _ _ _ _ _ (ap toldFile (sym (m .index .given .1)) ∙ m .before .before .next-file .ensures))
+
+cast-t29 : tie.Need-cast-t29 Inv-loop μ-loop
+cast-t29 c =
+    let m = c .before .before .before in
+    omega (arith, file-leads _ _ _ _ _ (ap toldFile (sym (m .index .given .1)) ∙ m .before .before .next-file .ensures))
 
 add-n : tie.Need-add-n Inv-loop μ-loop
 add-n c = search needs
@@ -44,7 +55,7 @@ loop-again c =
     let l = h .before .before .loop in
     let e = ap toldFile (sym (m .index .given .1)) ∙ h .next-file .ensures in
     let ws = file-words _ _ _ _ _ (c .before .before .before .before .before .number .ensures) _ in
-    (put-file crateRule _ _ _ (l .inv .0) _ _ e (omega arith) ws (c .before .before .put .ensures), l .inv .1)
+    (put-file crateRule _ _ _ (l .inv .0) _ _ e (omega arith) ws (c .before .before .put32 .ensures), l .inv .1)
 
 returns : tie.Need-returns Inv-loop μ-loop
 returns c =
@@ -85,13 +96,13 @@ fill-spec =
     (λ c κs. search needs)
     (λ c. search needs)
     (λ c. search needs)
-    add-put
+    add-put32
     (λ c. search needs)
     (λ c. search needs)
     (λ c. search needs)
-    part-put-end
-    (λ c. search needs)
-    (λ c. search needs)
+    part-put32-end
+    cast-t28
+    cast-t29
     (λ c. search needs)
     (λ c κs. search needs)
     add-n
