@@ -1,20 +1,20 @@
--- Names for the proofs of the lines of a body: a place some lines on, a held record as the words that it was made of, and what each loop keeps.
+-- Names for the proofs of the lines of a body: a held record as the words that it was made of, and what each loop keeps.
 -- Definitions only; of public contracts that of `body_lines` alone cites them, and no answer of another call depends on it.
 use mathlib.Core.Bool.{false}
-use Prim.Native.Nat.{ℕ, _+_, _-_, _*_, _<_, _≤_}
+use Prim.Native.Nat.{ℕ, _+_, _*_, _<_, _≤_}
 use mathlib.Core.Path.{_≡_}
 use mathlib.Core.List.{List}
 use lib.ListN.{length, take}
-use Rattle.walk.specs.Listing.{pass, none}
+use Rattle.walk.specs.Listing.{nothing}
 use Rattle.word.specs.Word.{u32At, store}
 use Rattle.refusal.specs.Told.{longest}
+use Rattle.area.specs.Kind.{Sort}
 use Rattle.body.specs.Lines.{columned}
 use Rattle.line_record.specs.Record.{columnIf, recordOf, closedAt, maxOffset}
 use Rattle.line_record.specs.Flags.{isMarker}
 use Rattle.line_record.specs.declared.LineRecord.{LineRecord}
 use Rattle.line_state_words.specs.LineWords.{recordSize, recordWords}
-use Rattle.lines.specs.Blocks.{blockAt}
-use Rattle.line_step.specs.Turn.{sourceOf, withHeld, blockTurn}
+use Rattle.line_step.specs.Turn.{sourceOf, withHeld, linesOn, nextBlock}
 use Rattle.line_step.specs.declared.Held.{Held}
 use Rattle.line_step.specs.declared.Held.the-variants.{Nothing, One}
 use Rattle.line_step.specs.declared.Rest.{Rest}
@@ -23,14 +23,7 @@ use Rattle.line_step.specs.declared.LineWalk.{LineWalk}
 use Rattle.line_step.specs.declared.LineWalk.the-variants.{Inside}
 use Rattle.body_lines.specs.declared.LineHeld.{LineHeld}
 use Rattle.body_lines.specs.declared.InBody.{InBody}
-use Rattle.body_lines.specs.declared.Opened.{Opened}
-use Rattle.body_lines.specs.declared.Opened.the-variants as opened
 use Rattle.body_lines.specs.TurnsLaws.{TurnsPut}
-
--- the place behind i lines more of its block
-abbrev pub atLine : Place → ℕ → Place
-atLine p i =
-    record { head = p .head; end = p .end; next = p .next; file = p .file; lines = p .lines - i; line = p .line + 8 * i; column = p .column + 4 * i }
 
 -- the record of an entry whose sum and words these are
 abbrev pub heldRecord : Place → ℕ → ℕ → ℕ → LineRecord
@@ -53,15 +46,15 @@ pub record LinePut (s : List ℕ) (p : Place) (x : LineHeld) (a g : ℕ) (o : Li
   pub words : o′ ≡ store o (recordSize * x .n) (recordWords (closedAt (p .head .section) (p .head .offset + a) (heldRecord p (x .offset) (x .flags) (x .word))))
 
 abbrev pub insideAt : Place → Rest → LineHeld → LineWalk
-insideAt p t x = Inside (atLine p (x .done)) (withHeld t (One (heldRecord p (x .offset) (x .flags) (x .word))))
+insideAt p t x = Inside (linesOn p (x .done)) (withHeld t (One (heldRecord p (x .offset) (x .flags) (x .word))))
 
 -- from x to y, the words o being o′ then
-pub record LinesPut (s : List ℕ) (p : Place) (room : ℕ) (x : LineHeld) (o : List ℕ) (y : LineHeld) (o′ : List ℕ) : Type 0 where
+pub record LinesPut (rule : ℕ → Sort) (s : List ℕ) (p : Place) (room : ℕ) (x : LineHeld) (o : List ℕ) (y : LineHeld) (o′ : List ℕ) : Type 0 where
   pub most : y .n ≤ room
   pub on : x .done ≤ y .done
   pub inside : y .done ≤ p .lines
   pub size : length o′ ≡ length o
-  pub turns : (v : List ℕ) (t : Rest) → TurnsPut s v room (x .n) (insideAt p t x) o (y .n) (insideAt p t y) o′
+  pub turns : (v : List ℕ) (t : Rest) → TurnsPut rule s v room (x .n) (insideAt p t x) o (y .n) (insideAt p t y) o′
 
 -- how many records are put where `held` is closed by an end, and the words then
 abbrev pub PutAs : Held → ℕ → ℕ → ℕ → List ℕ → ℕ → List ℕ → Type 0
@@ -78,41 +71,26 @@ pub record FirstLine (s : List ℕ) (p : Place) (a g : ℕ) : Type 0 where
   pub line : isMarker g ≡ false
   pub sum : p .head .offset + a ≤ maxOffset
 
--- q is the place in the block behind p
-pub record Opens (s : List ℕ) (p q : Place) : Type 0 where
-  pub fit : LinesFit s q
-  pub head : q .head ≡ p .head
-  pub end : q .end ≡ p .end
-  pub less : q .end - q .next + 2 * q .lines < p .end - p .next
-  pub turn : (t : Rest) → pass (Inside q t) ≡ blockTurn (take (p .end) s) p t
-
 -- from a place of a body, with a held record or none and n records put, to another place of it
-pub record BlockPut (s : List ℕ) (room : ℕ) (p : Place) (held : Held) (n : ℕ) (o : List ℕ) (r : InBody) (o′ : List ℕ) : Type 0 where
+pub record BlockPut (rule : ℕ → Sort) (s : List ℕ) (room : ℕ) (p : Place) (held : Held) (n : ℕ) (o : List ℕ) (r : InBody) (o′ : List ℕ) : Type 0 where
   pub most : r .n ≤ room
   pub size : length o′ ≡ length o
   pub fit : LinesFit s (r .place)
   pub head : r .place .head ≡ p .head
   pub end : r .place .end ≡ p .end
   pub next : r .place .next ≡ p .next
-  pub turns : (v : List ℕ) (t : Rest) → TurnsPut s v room n (Inside p (withHeld t held)) o (r .n) (Inside (r .place) (withHeld t (r .held))) o′
+  pub turns : (v : List ℕ) (t : Rest) → TurnsPut rule s v room n (Inside p (withHeld t held)) o (r .n) (Inside (r .place) (withHeld t (r .held))) o′
 
--- what the block behind a place is, the area being s: a turn goes into it, or there is none; where the turn is refused nothing is said
-abbrev pub OpenedIs : List ℕ → Place → Opened → Type 0
-OpenedIs s p (opened.At q) = Opens s p q
-OpenedIs s p opened.End = none ≡ blockAt (columned (p .head .flags)) (take (p .end) s) (p .next)
-OpenedIs s p opened.Stuck = Unit {0}
+-- the body of a place is used up
+pub record Used (s : List ℕ) (p : Place) : Type 0 where
+  pub fit : LinesFit s p
+  pub lines : p .lines ≡ 0
+  pub over : nothing ≡ nextBlock (take (p .end) s) p
 
--- the body is used up, and there is room for another record
-pub record Used (s : List ℕ) (room : ℕ) (r : InBody) : Type 0 where
-  pub fit : LinesFit s (r .place)
-  pub less : r .n < room
-  pub lines : r .place .lines ≡ 0
-  pub over : none ≡ blockAt (columned (r .place .head .flags)) (take (r .place .end) s) (r .place .next)
-
--- from a place of a body on, to its end if the walk is not stuck
-pub record BodyPut (s : List ℕ) (room : ℕ) (p : Place) (held : Held) (n : ℕ) (o : List ℕ) (r : InBody) (o′ : List ℕ) : Type 0 where
+-- from a place of a body on, to its end if the walk is not stuck, and then there is room for another record
+pub record BodyPut (rule : ℕ → Sort) (s : List ℕ) (room : ℕ) (p : Place) (held : Held) (n : ℕ) (o : List ℕ) (r : InBody) (o′ : List ℕ) : Type 0 where
   pub size : length o′ ≡ length o
   pub head : r .place .head ≡ p .head
   pub end : r .place .end ≡ p .end
-  pub turns : (v : List ℕ) (t : Rest) → TurnsPut s v room n (Inside p (withHeld t held)) o (r .n) (Inside (r .place) (withHeld t (r .held))) o′
-  pub used : r .stuck ≡ false → Used s room r
+  pub turns : (v : List ℕ) (t : Rest) → TurnsPut rule s v room n (Inside p (withHeld t held)) o (r .n) (Inside (r .place) (withHeld t (r .held))) o′
+  pub used : r .stuck ≡ false → Used s (r .place) × (r .n < room)

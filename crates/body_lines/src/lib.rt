@@ -3,25 +3,26 @@
 //
 // It does what turn after turn does, and nothing where a turn would be refused: the walk stands before that turn then.
 ghost use mathlib.Core.Path.{_≡_};
-ghost use Prim.Native.Nat.{_+_, _*_, _<_, _≤_, _^_};
+ghost use Prim.Native.Nat.{_+_, _*_, _/_, _<_, _≤_};
 ghost use mathlib.Core.Bool.{true, false};
 ghost use lib.ListN.{length};
 ghost use Rattle.word.specs.Word.{u32At, store};
+ghost use Rattle.area.specs.Kind.{crateRule};
 ghost use Rattle.line_record.specs.Record.{columnIf, maxOffset};
 ghost use Rattle.line_state_words.specs.LineWords.{recordSize, recordWords};
-ghost use Rattle.line_step.specs.Turn.{columnPlace};
-ghost use Rattle.body_lines.specs.BodyLines.{atLine, heldRecord, LinesFit, LinePut, LinesPut, HeldPut, FirstLine, BlockPut, OpenedIs, BodyPut};
+ghost use Rattle.body_lines.specs.BodyLines.{heldRecord, LinesFit, LinePut, LinesPut, HeldPut, FirstLine, BlockPut, BodyPut};
 use line_record::LineRecord;
 use line_record::closed;
 use line_record::is_marker;
 use line_record::record_of;
 use line_state_words::RECORD_WORDS;
-use line_state_words::put_record;
+use line_state_words::put_row;
 use line_step::Held;
+use line_step::NextBlock;
 use line_step::Place;
+use line_step::next_block;
+use line_step::past_lines;
 use line_step::source_of;
-use lines::BlockStep;
-use lines::block_at;
 use lines::has_columns;
 use refusal::LONGEST;
 use word::u32_at;
@@ -70,15 +71,15 @@ pub struct LineHeld {
 }
 
 // A record whose words have room. They are put as a part of their own, of a length that is known.
-fn put_words(out: &mut [u64], at: usize, r: LineRecord)
+fn put_words(out: &mut [u32], at: usize, r: LineRecord)
     requires { ⌜ at + recordSize ≤ length (now out) ⌝ }
     ensures { λ _. ⌜ now (out .exit) ≡ store (now (out .entry)) at (recordWords r) ⌝ }
 {
-    put_record(&mut out[at..at + RECORD_WORDS], 0, r);
+    put_row(&mut out[at..at + RECORD_WORDS], 0, r);
 }
 
 // A line that gives a record: the held one is put, closed by it, and the line's own is held.
-fn put_line(area: &[u8], p: Place, x: LineHeld, e: Line, out: &mut [u64]) -> LineHeld
+fn put_line(area: &[u8], p: Place, x: LineHeld, e: Line, out: &mut [u32]) -> LineHeld
     requires { ⌜ LinesFit (now area) p ⌝ }
     requires { ⌜ (x .done < p .lines) × (recordSize * x .n + recordSize ≤ length (now out)) × (p .head .offset + e .offset ≤ maxOffset) ⌝ }
     ensures { λ r. ⌜ LinePut (now (area .entry)) p x (e .offset) (e .flags) (now (out .entry)) r (now (out .exit)) ⌝ }
@@ -101,10 +102,10 @@ fn put_line(area: &[u8], p: Place, x: LineHeld, e: Line, out: &mut [u64]) -> Lin
 }
 
 // The lines of a block from `first` on, until there are no more, or no room for another record, or one that is refused.
-fn put_lines(area: &[u8], p: Place, first: LineHeld, room: usize, out: &mut [u64]) -> LineHeld
+fn put_lines(area: &[u8], p: Place, first: LineHeld, room: usize, out: &mut [u32]) -> LineHeld
     requires { ⌜ LinesFit (now area) p ⌝ }
     requires { ⌜ (first .n ≤ room) × (first .done ≤ p .lines) × (recordSize * room ≤ length (now out)) ⌝ }
-    ensures { λ r. ⌜ LinesPut (now (area .entry)) p room first (now (out .entry)) r (now (out .exit)) ⌝ }
+    ensures { λ r. ⌜ LinesPut crateRule (now (area .entry)) p room first (now (out .entry)) r (now (out .exit)) ⌝ }
 {
     let h = p.head;
     let mut x = first;
@@ -125,25 +126,8 @@ fn put_lines(area: &[u8], p: Place, first: LineHeld, room: usize, out: &mut [u64
     x
 }
 
-// The place some lines on.
-fn at_line(p: Place, i: usize) -> Place
-    requires { ⌜ (i ≤ p .lines) × (p .line + 8 * p .lines < 2 ^ 64) × (p .column + 4 * p .lines < 2 ^ 64) ⌝ }
-    ensures { λ r. ⌜ r ≡ atLine p i ⌝ }
-{
-    let head = p.head;
-    Place {
-        head,
-        end: p.end,
-        next: p.next,
-        file: p.file,
-        lines: p.lines - i,
-        line: p.line + 8 * i,
-        column: p.column + 4 * i,
-    }
-}
-
 // Puts the record that is held, if there is one, as an end closes it; how many records there are then.
-fn put_held(out: &mut [u64], n: usize, held: Held, section: u16, end: u32) -> usize
+fn put_held(out: &mut [u32], n: usize, held: Held, section: u16, end: u32) -> usize
     requires { ⌜ recordSize * n + recordSize ≤ length (now out) ⌝ }
     ensures { λ r. ⌜ HeldPut held section end n (now (out .entry)) r (now (out .exit)) ⌝ }
 {
@@ -173,12 +157,12 @@ fn first_line(
     n: usize,
     e: Line,
     room: usize,
-    out: &mut [u64],
+    out: &mut [u32],
 ) -> InBody
     requires { ⌜ LinesFit (now area) p ⌝ }
     requires { ⌜ (1 ≤ p .lines) × (n < room) × (recordSize * room ≤ length (now out)) ⌝ }
     requires { ⌜ FirstLine (now area) p (e .offset) (e .flags) ⌝ }
-    ensures { λ r. ⌜ BlockPut (now (area .entry)) room p held n (now (out .entry)) r (now (out .exit)) ⌝ }
+    ensures { λ r. ⌜ BlockPut crateRule (now (area .entry)) room p held n (now (out .entry)) r (now (out .exit)) ⌝ }
     ensures { λ r. ⌜ (r .stuck ≡ false → (r .n < room) × (r .place .lines < p .lines)) ⌝ }
 {
     let h = p.head;
@@ -193,7 +177,7 @@ fn first_line(
         word,
     };
     let x = put_lines(area, p, first, room, out);
-    let place = at_line(p, x.done);
+    let place = past_lines(p, x.done);
     let r = record_in(p, x.offset, x.flags, x.word);
     InBody {
         n: x.n,
@@ -204,16 +188,16 @@ fn first_line(
 }
 
 // The lines of a block, of which there is one at least.
-fn block_lines(area: &[u8], p: Place, held: Held, n: usize, room: usize, out: &mut [u64]) -> InBody
+fn block_lines(area: &[u8], p: Place, held: Held, n: usize, room: usize, out: &mut [u32]) -> InBody
     requires { ⌜ LinesFit (now area) p ⌝ }
     requires { ⌜ (1 ≤ p .lines) × (n < room) × (recordSize * room ≤ length (now out)) ⌝ }
-    ensures { λ r. ⌜ BlockPut (now (area .entry)) room p held n (now (out .entry)) r (now (out .exit)) ⌝ }
+    ensures { λ r. ⌜ BlockPut crateRule (now (area .entry)) room p held n (now (out .entry)) r (now (out .exit)) ⌝ }
     ensures { λ r. ⌜ (r .stuck ≡ false → (r .n < room) × (r .place .lines < p .lines)) ⌝ }
 {
     let h = p.head;
     let e = line_at(area, p.line);
     if is_marker(e.flags) {
-        let place = at_line(p, 1);
+        let place = past_lines(p, 1);
         return InBody {
             n,
             place,
@@ -230,54 +214,6 @@ fn block_lines(area: &[u8], p: Place, held: Held, n: usize, room: usize, out: &m
         };
     }
     first_line(area, p, held, n, e, room, out)
-}
-
-// Where the columns of a block begin, as for a turn.
-fn columns_at(columns: bool, start: usize, count: usize) -> usize
-    requires { ⌜ start + 8 * count < 2 ^ 64 ⌝ }
-    ensures { λ r. ⌜ r ≡ columnPlace columns start count ⌝ }
-{
-    if columns {
-        return start + 8 * count;
-    }
-    start
-}
-
-// The next block of a body, or that there is none to go into.
-enum Opened {
-    At(Place),
-    End,
-    Stuck,
-}
-
-fn open_block(area: &[u8], p: Place) -> Opened
-    requires { ⌜ LinesFit (now area) p ⌝ }
-    ensures { λ r. ⌜ OpenedIs (now (area .entry)) p r ⌝ }
-{
-    let end = p.end;
-    let head = p.head;
-    let columns = has_columns(head.flags);
-    match block_at(&area[..end], p.next, columns) {
-        BlockStep::Block {
-            file,
-            count,
-            start,
-            next,
-        } => {
-            let column = columns_at(columns, start, count);
-            Opened::At(Place {
-                head,
-                end,
-                next,
-                file,
-                lines: count,
-                line: start,
-                column,
-            })
-        }
-        BlockStep::None => Opened::End,
-        BlockStep::Refused(_) => Opened::Stuck,
-    }
 }
 
 // Do the lines of the place, and their columns, lie in its body, and that in an area that is not too long?
@@ -305,10 +241,10 @@ fn fits(area: &[u8], p: Place) -> bool
 }
 
 // The blocks of a body from a place on, and their lines, until the body is used up or the walk is stuck.
-fn blocks(area: &[u8], first: InBody, room: usize, out: &mut [u64]) -> InBody
+fn blocks(area: &[u8], first: InBody, room: usize, out: &mut [u32]) -> InBody
     requires { ⌜ LinesFit (now area) (first .place) ⌝ }
     requires { ⌜ (first .n < room) × (recordSize * room ≤ length (now out)) ⌝ }
-    ensures { λ r. ⌜ BodyPut (now (area .entry)) room (first .place) (first .held) (first .n) (now (out .entry)) r (now (out .exit)) ⌝ }
+    ensures { λ r. ⌜ BodyPut crateRule (now (area .entry)) room (first .place) (first .held) (first .n) (now (out .entry)) r (now (out .exit)) ⌝ }
 {
     let mut x = first;
     loop {
@@ -316,30 +252,18 @@ fn blocks(area: &[u8], first: InBody, room: usize, out: &mut [u64]) -> InBody
         let p = x.place;
         let held = x.held;
         if p.lines == 0 {
-            match open_block(area, p) {
-                Opened::At(place) => {
-                    x = InBody {
-                        n,
-                        place,
-                        held,
-                        stuck: false,
-                    };
+            let end = p.end;
+            match next_block(&area[..end], p) {
+                NextBlock::In(q) => {
+                    x.place = q;
                 }
-                Opened::End => {
-                    return InBody {
-                        n,
-                        place: p,
-                        held,
-                        stuck: false,
-                    };
+                NextBlock::Done => {
+                    x.stuck = false;
+                    return x;
                 }
-                Opened::Stuck => {
-                    return InBody {
-                        n,
-                        place: p,
-                        held,
-                        stuck: true,
-                    };
+                NextBlock::Refused(_) => {
+                    x.stuck = true;
+                    return x;
                 }
             }
         } else {
@@ -352,16 +276,10 @@ fn blocks(area: &[u8], first: InBody, room: usize, out: &mut [u64]) -> InBody
 }
 
 // The lines of a body from a place on, as many as there is room for. Where anything is unusual the walk stands before it.
-pub fn body_lines(
-    area: &[u8],
-    place: Place,
-    held: Held,
-    n: usize,
-    room: usize,
-    out: &mut [u64],
-) -> InBody
-    ensures { λ r. ⌜ BodyPut (now (area .entry)) room place held n (now (out .entry)) r (now (out .exit)) ⌝ }
+pub fn body_lines(area: &[u8], place: Place, held: Held, n: usize, out: &mut [u32]) -> InBody
+    ensures { λ r. ⌜ BodyPut crateRule (now (area .entry)) (length (now (out .entry)) / recordSize) place held n (now (out .entry)) r (now (out .exit)) ⌝ }
 {
+    let room = out.len() / RECORD_WORDS;
     let x = InBody {
         n,
         place,
@@ -369,9 +287,6 @@ pub fn body_lines(
         stuck: true,
     };
     if room <= n {
-        return x;
-    }
-    if out.len() / RECORD_WORDS < room {
         return x;
     }
     if !fits(area, place) {

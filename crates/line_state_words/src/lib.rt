@@ -169,14 +169,14 @@ pub fn line_walk_in(out: &[u64]) -> LineWalk
 
 // ---- put
 
-struct Pair(u64, u64);
+struct Pair(u32, u32);
 
 fn length_words(l: Length) -> Pair
     ensures { λ r. ⌜ lengthWords l ≡ r .0 ∷ r .1 ∷ [] ⌝ }
 {
     match l {
         Length::Unset => Pair(0, 0),
-        Length::Is(n) => Pair(1, n as u64),
+        Length::Is(n) => Pair(1, n),
     }
 }
 
@@ -185,11 +185,11 @@ fn column_words(l: Column) -> Pair
 {
     match l {
         Column::None => Pair(0, 0),
-        Column::At(n) => Pair(1, n as u64),
+        Column::At(n) => Pair(1, n),
     }
 }
 
-fn kind_word(k: LineKind) -> u64
+fn kind_word(k: LineKind) -> u32
     ensures { λ r. ⌜ kindWord k ≡ r ⌝ }
 {
     match k {
@@ -198,7 +198,7 @@ fn kind_word(k: LineKind) -> u64
     }
 }
 
-// A record at a place. Where its words do not fit nothing is put.
+// A record at a place, in words of 64 bits, as a state has it. Where its words do not fit nothing is put.
 pub fn put_record(out: &mut [u64], at: usize, r: LineRecord)
     ensures { λ _. ⌜ now (out .exit) ≡ store (now (out .entry)) at (recordWords r) ⌝ }
 {
@@ -216,18 +216,50 @@ pub fn put_record(out: &mut [u64], at: usize, r: LineRecord)
         &[
             r.section as u64,
             r.offset as u64,
-            l.0,
-            l.1,
+            l.0 as u64,
+            l.1 as u64,
             r.file as u64,
             r.start_line as u64,
             r.end_line as u64,
+            s.0 as u64,
+            s.1 as u64,
+            e.0 as u64,
+            e.1 as u64,
+            k as u64,
+        ],
+        GIVEN,
+    );
+}
+
+// The same in words of 32 bits, as a call for many records gives it.
+pub fn put_row(records: &mut [u32], at: usize, r: LineRecord)
+    ensures { λ _. ⌜ now (records .exit) ≡ store (now (records .entry)) at (recordWords r) ⌝ }
+{
+    let length = r.length;
+    let column_start = r.column_start;
+    let column_end = r.column_end;
+    let kind = r.kind;
+    let l = length_words(length);
+    let s = column_words(column_start);
+    let e = column_words(column_end);
+    let k = kind_word(kind);
+    answer_words::put32(
+        records,
+        at,
+        &[
+            r.section as u32,
+            r.offset,
+            l.0,
+            l.1,
+            r.file,
+            r.start_line,
+            r.end_line,
             s.0,
             s.1,
             e.0,
             e.1,
             k,
         ],
-        GIVEN,
     );
 }
 

@@ -14,14 +14,14 @@ line-at-requires c κs = search needs
 is-marker-requires : tie.Need-is-marker-requires
 is-marker-requires c κs = search needs
 
-at-line-requires : tie.Need-at-line-requires
-at-line-requires c κs = search needs
+past-lines-requires : tie.Need-past-lines-requires
+past-lines-requires c κs = search needs
 
 returns : tie.Need-returns
 returns c =
     let q = c .before .before .before in
     let r = q .before .before .before .before .pre in
-    (block-put-marker _ _ _ _ _ _ (r .0) (omega (arith, r .1)) (omega (arith, r .1)) _ _ (q .line-at .ensures .1) (sym (c .before .before .is-marker .ensures) ∙ c .before .if1 .taken) (c .at-line .ensures), λ e. (omega (arith, r .1), omega (arith, ap (λ (x : Place). x .lines) (c .at-line .ensures), r .1)))
+    (block-put-marker _ _ _ _ _ _ _ (r .0) (omega (arith, r .1)) (omega (arith, r .1)) _ _ (q .line-at .ensures .1) (sym (c .before .before .is-marker .ensures) ∙ c .before .if1 .taken) (c .past-lines .ensures), λ e. (omega (arith, r .1), omega (arith, ap (λ (x : Place). x .lines) (c .past-lines .ensures), r .1)))
 
 sub-if2 : tie.Need-sub-if2
 sub-if2 c = search needs
@@ -29,7 +29,7 @@ sub-if2 c = search needs
 returns-2 : tie.Need-returns-2
 returns-2 c =
     let r = c .before .before .before .before .before .before .before .before .before .pre in
-    (block-put-same _ _ _ _ _ _ (r .0) (omega (arith, r .1)) _, not-false)
+    (block-put-same _ _ _ _ _ _ _ (r .0) (omega (arith, r .1)) _, not-false)
 
 first-line-requires : tie.Need-first-line-requires
 first-line-requires c κs =
@@ -49,7 +49,7 @@ block-lines-spec =
     (tie.spec
     line-at-requires
     is-marker-requires
-    at-line-requires
+    past-lines-requires
     returns
     sub-if2
     returns-2

@@ -4,58 +4,52 @@
 use borrow.Author.Needs.{needs}
 use native.Mathlib.Omega.{arith}
 use Prim.Native.Nat.{_+_, _-_, _*_}
-use mathlib.Core.Path.{subst}
-use Rattle.body_lines.specs.BodyLines.{Opens, OpenedIs}
+use mathlib.Core.Path.{sym, ap, _∙_}
+use lib.Seq.{length-take-le}
+use Rattle.line_step.specs.Told.{toldNextBlock}
+use Rattle.line_step.specs.TurnLaws.{next-block-opens}
+use Rattle.area.specs.Kind.{crateRule}
 use Rattle.body_lines.specs.BodyLinesLaws.{BlocksPut, blocks-put-start, blocks-put-block, blocks-put-lines, body-put-stuck, body-put-refused, body-put-used}
 use Rattle.body_lines.proofs.blocks.Statement.{statement}
 use Rattle.body_lines.proofs.blocks.Tie as tie
 
 abbrev Inv-loop : tie.InvT-loop
-Inv-loop area room out₀ x₀ out x = BlocksPut area room (x₀ .place) (x₀ .held) (x₀ .n) out₀ x out
+Inv-loop area room out₀ x₀ out x = BlocksPut crateRule area room (x₀ .place) (x₀ .held) (x₀ .n) out₀ x out
 
 abbrev μ-loop : tie.MeasureT-loop
 μ-loop area room out₀ x₀ out x = x .place .end - x .place .next + 2 * x .place .lines
 
 loop-holds : tie.Need-loop-holds Inv-loop μ-loop
-loop-holds c = blocks-put-start _ _ _ _ _ _ (c .before .before .pre .0) (omega (arith, c .before .before .pre .1)) _
+loop-holds c = blocks-put-start _ _ _ _ _ _ _ (c .before .before .pre .0) (omega (arith, c .before .before .pre .1)) _
 
-open-block-requires : tie.Need-open-block-requires Inv-loop μ-loop
-open-block-requires c κs = c .before .before .before .loop .inv .fit
-
-enum-known-place : tie.Need-enum-known-place Inv-loop μ-loop
-enum-known-place c = search needs
+slice-aggregate-next-block : tie.Need-slice-aggregate-next-block Inv-loop μ-loop
+slice-aggregate-next-block c =
+    let l = c .before .before .before .before .loop in
+    sym (length-take-le (l .x .place .end) _ (l .inv .fit .body))
 
 loop-less : tie.Need-loop-less Inv-loop μ-loop
 loop-less c =
-    let k : Opens _ _ _ = subst (OpenedIs _ _) (c .before .place .given .1) (c .before .before .before .open-block .ensures) in
+    let m = c .before .before .before in
+    let l = m .before .before .before .before .before .loop in
+    let k = next-block-opens _ (l .x .place) (l .inv .fit .body) _ (ap toldNextBlock (sym (c .before .q .given .1)) ∙ m .next-block .ensures) in
     omega (arith, k .less)
 
 loop-again : tie.Need-loop-again Inv-loop μ-loop
 loop-again c =
-    let l = c .before .before .before .before .before .before .before .loop in
-    blocks-put-block _ _ _ _ _ _ (l .x) (l .out) (l .inv) (c .before .before .before .before .if1 .taken) _ _ (subst (OpenedIs _ _) (c .before .place .given .1) (c .before .before .before .open-block .ensures))
-
-enum-told : tie.Need-enum-told Inv-loop μ-loop
-enum-told c = search needs
-
-same-length : tie.Need-same-length Inv-loop μ-loop
-same-length c = search needs
+    let m = c .before .before .before in
+    let l = m .before .before .before .before .before .loop in
+    blocks-put-block _ _ _ _ _ _ _ (l .x) (l .out) (l .inv) (m .before .before .if1 .taken) _ _ (ap toldNextBlock (sym (c .before .q .given .1)) ∙ m .next-block .ensures)
 
 returns : tie.Need-returns Inv-loop μ-loop
 returns c =
-    let l = c .before .before .before .before .before .before .loop in
-    body-put-used _ _ _ _ _ _ (l .x) (l .out) (l .inv) (c .before .before .before .if1 .taken) (subst (OpenedIs _ _) (c .enum-told .given .1) (c .before .before .open-block .ensures))
-
-enum-told-2 : tie.Need-enum-told-2 Inv-loop μ-loop
-enum-told-2 c = search needs
-
-same-length-2 : tie.Need-same-length-2 Inv-loop μ-loop
-same-length-2 c = search needs
+    let m = c .before .before in
+    let l = m .before .before .before .before .before .loop in
+    body-put-used _ _ _ _ _ _ _ (l .x) (l .out) (l .inv) (m .before .before .if1 .taken) (ap toldNextBlock (sym (c .enum-told .given .1)) ∙ m .next-block .ensures)
 
 returns-2 : tie.Need-returns-2 Inv-loop μ-loop
 returns-2 c =
-    let l = c .before .before .before .before .before .before .loop in
-    body-put-refused _ _ _ _ _ _ (l .x) (l .out) (l .inv)
+    let l = c .before .before .before .before .before .before .before .loop in
+    body-put-refused _ _ _ _ _ _ _ (l .x) (l .out) (l .inv)
 
 block-lines-requires : tie.Need-block-lines-requires Inv-loop μ-loop
 block-lines-requires c κs =
@@ -63,13 +57,10 @@ block-lines-requires c κs =
     let r = c .before .before .before .before .before .before .before .pre in
     (l .inv .fit, (omega (arith, c .before .if1 .left), l .inv .less, omega (arith, l .inv .size, r .1)))
 
-same-length-3 : tie.Need-same-length-3 Inv-loop μ-loop
-same-length-3 c = search needs
-
 returns-3 : tie.Need-returns-3 Inv-loop μ-loop
 returns-3 c =
     let l = c .before .before .before .before .before .before .before .before .loop in
-    body-put-stuck _ _ _ _ _ _ (l .x) (l .out) (l .inv) _ _ (c .before .before .before .block-lines .ensures .0) (c .if2 .taken)
+    body-put-stuck _ _ _ _ _ _ _ (l .x) (l .out) (l .inv) _ _ (c .before .before .before .block-lines .ensures .0) (c .if2 .taken)
 
 loop-less-2 : tie.Need-loop-less-2 Inv-loop μ-loop
 loop-less-2 c =
@@ -81,7 +72,7 @@ loop-again-2 : tie.Need-loop-again-2 Inv-loop μ-loop
 loop-again-2 c =
     let l = c .before .before .before .before .before .before .before .before .loop in
     let k = c .before .before .before .block-lines .ensures in
-    blocks-put-lines _ _ _ _ _ _ (l .x) (l .out) (l .inv) _ _ (k .0) (k .1 (c .if2 .left) .0)
+    blocks-put-lines _ _ _ _ _ _ _ (l .x) (l .out) (l .inv) _ _ (k .0) (k .1 (c .if2 .left) .0)
 
 pub blocks-spec : {M : Type 1} → statement M
 blocks-spec =
@@ -90,18 +81,19 @@ blocks-spec =
     Inv-loop
     μ-loop
     loop-holds
-    open-block-requires
-    enum-known-place
+    slice-aggregate-next-block
+    (λ c κs. search needs)
+    (λ c. search needs)
     loop-less
     loop-again
-    enum-told
-    same-length
+    (λ c. search needs)
+    (λ c. search needs)
     returns
-    enum-told-2
-    same-length-2
+    (λ c. search needs)
+    (λ c. search needs)
     returns-2
     block-lines-requires
-    same-length-3
+    (λ c. search needs)
     returns-3
     loop-less-2
     loop-again-2)

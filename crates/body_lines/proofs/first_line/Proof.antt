@@ -26,13 +26,12 @@ put-lines-requires c κs =
     let q = c .before .before .before in
     let a = q .before .before .before .before .before .before .before .before .before .args in
     let r = q .before .before .before .before .before .before .before .before .before .pre in
-    let w = columns-as _ _ _ _ (q .before .before .before .has-columns .ensures) (q .before .before .column-at .ensures) in
-    let m = held-most (a .area .now) (a .room) (a .p) (a .held) (a .n) (a .out .now) (r .0) (omega (arith, r .1 .0)) (omega (arith, r .1 .0)) _ _ _ _ _ (r .1 .1) w (omega (arith, r .1 .0)) (q .put-held .ensures) in
-    let z = held-size (a .area .now) (a .room) (a .p) (a .held) (a .n) (a .out .now) (r .0) (omega (arith, r .1 .0)) (omega (arith, r .1 .0)) _ _ _ _ _ (r .1 .1) w (omega (arith, r .1 .0)) (q .put-held .ensures) in
+    let m = held-most _ _ _ _ _ _ _ (q .put-held .ensures) (a .room) (omega (arith, r .1 .0)) in
+    let z = held-size _ _ _ _ _ _ _ (q .put-held .ensures) (omega (arith, r .1 .0)) in
     (r .0, (m, omega (arith, r .1 .0), omega (arith, z, r .1 .0)))
 
-at-line-requires : tie.Need-at-line-requires
-at-line-requires c κs = search needs
+past-lines-requires : tie.Need-past-lines-requires
+past-lines-requires c κs = search needs
 
 record-in-requires : tie.Need-record-in-requires
 record-in-requires c κs = search needs
@@ -48,7 +47,7 @@ returns c =
     let r = q .before .before .before .before .before .before .before .before .before .pre in
     let w = columns-as _ _ _ _ (q .before .before .before .has-columns .ensures) (q .before .before .column-at .ensures) in
     let x = y .put-lines .ensures in
-    (block-put-first (a .area .now) (a .room) (a .p) (a .held) (a .n) (a .out .now) (r .0) (omega (arith, r .1 .0)) (omega (arith, r .1 .0)) _ _ _ _ _ (r .1 .1) w (omega (arith, r .1 .0)) (q .put-held .ensures) _ _ _ _ _ x (c .before .before .at-line .ensures) (c .before .record-in .ensures), λ e. (omega (arith, x .most, eqb-false), omega (arith, ap (λ (k : Place). k .lines) (c .before .before .at-line .ensures), x .on, r .1 .0)))
+    (block-put-first _ (a .area .now) (a .room) (a .p) (a .held) (a .n) (a .out .now) (r .0) (omega (arith, r .1 .0)) (omega (arith, r .1 .0)) _ _ _ _ _ (r .1 .1) w (omega (arith, r .1 .0)) (q .put-held .ensures) _ _ _ _ _ x (c .before .before .past-lines .ensures) (c .before .record-in .ensures), λ e. (omega (arith, x .most, eqb-false), omega (arith, ap (λ (k : Place). k .lines) (c .before .before .past-lines .ensures), x .on, r .1 .0)))
 
 pub first-line-spec : {M : Type 1} → statement M
 first-line-spec =
@@ -59,7 +58,7 @@ first-line-spec =
     column-at-requires
     put-held-requires
     put-lines-requires
-    at-line-requires
+    past-lines-requires
     record-in-requires
     same-length
     returns)

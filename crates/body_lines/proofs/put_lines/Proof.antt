@@ -4,19 +4,20 @@ use borrow.Author.Needs.{needs}
 use native.Mathlib.Omega.{arith}
 use Prim.Native.Nat.{_-_}
 use mathlib.Core.Path.{sym, _∙_}
+use Rattle.area.specs.Kind.{crateRule}
 use Rattle.body_lines.specs.BodyLines.{LinesPut}
 use Rattle.body_lines.specs.BodyLinesLaws.{lines-put-start, lines-put-marker, lines-put-line}
 use Rattle.body_lines.proofs.put_lines.Statement.{statement}
 use Rattle.body_lines.proofs.put_lines.Tie as tie
 
 abbrev Inv-loop : tie.InvT-loop
-Inv-loop area p room out₀ h x₀ out x = LinesPut area p room x₀ out₀ x out
+Inv-loop area p room out₀ h x₀ out x = LinesPut crateRule area p room x₀ out₀ x out
 
 abbrev μ-loop : tie.MeasureT-loop
 μ-loop area p room out₀ h x₀ out x = p .lines - x .done
 
 loop-holds : tie.Need-loop-holds Inv-loop μ-loop
-loop-holds c = lines-put-start _ _ _ _ _ (omega arith) (omega arith)
+loop-holds c = lines-put-start _ _ _ _ _ _ (omega arith) (omega arith)
 
 same-length : tie.Need-same-length Inv-loop μ-loop
 same-length c = search needs
@@ -46,7 +47,7 @@ loop-again : tie.Need-loop-again Inv-loop μ-loop
 loop-again c =
     let q = c .before .before .before in
     let l = q .before .before .before .before .before .before .before .before .loop in
-    lines-put-marker _ _ _ _ _ (q .before .before .before .before .before .before .before .before .before .before .before .before .pre .0) (l .x) (l .out) (l .inv) (omega (arith, l .inv .most)) (omega arith) _ (q .line-at .ensures .1) (sym (c .before .before .is-marker .ensures) ∙ c .before .if3 .taken)
+    lines-put-marker _ _ _ _ _ _ (q .before .before .before .before .before .before .before .before .before .before .before .before .pre .0) (l .x) (l .out) (l .inv) (omega (arith, l .inv .most)) (omega arith) _ (q .line-at .ensures .1) (sym (c .before .before .is-marker .ensures) ∙ c .before .if3 .taken)
 
 sub-if4 : tie.Need-sub-if4 Inv-loop μ-loop
 sub-if4 c = search needs
@@ -72,7 +73,7 @@ loop-again-2 c =
     let q = c .before .before .before .before .before .before .before .before .before in
     let l = q .before .before .before .before .before .before .before .before .loop in
     let r = q .before .before .before .before .before .before .before .before .before .before .before .before .pre in
-    lines-put-line _ _ _ _ _ (r .0) (l .x) (l .out) (l .inv) (omega (arith, l .inv .most)) (omega arith) _ _ _ _ (q .line-at .ensures .0) (q .line-at .ensures .1) (sym (c .before .before .before .before .before .before .before .before .is-marker .ensures) ∙ c .before .before .before .before .before .before .before .if3 .left) (omega (arith, c .before .before .before .before .if4 .left)) (omega (arith, r .1)) (c .before .before .put-line .ensures)
+    lines-put-line _ _ _ _ _ _ (r .0) (l .x) (l .out) (l .inv) (omega (arith, l .inv .most)) (omega arith) _ _ _ _ (q .line-at .ensures .0) (q .line-at .ensures .1) (sym (c .before .before .before .before .before .before .before .before .is-marker .ensures) ∙ c .before .before .before .before .before .before .before .if3 .left) (omega (arith, c .before .before .before .before .if4 .left)) (omega (arith, r .1)) (c .before .before .put-line .ensures)
 
 same-length-3 : tie.Need-same-length-3 Inv-loop μ-loop
 same-length-3 c = search needs

@@ -7,7 +7,7 @@ use Rattle.body_lines.proofs.put_words.Statement.{statement}
 use Rattle.body_lines.proofs.put_words.Tie as tie
 
 returns : tie.Need-returns
-returns c = put-part _ _ _ _ 12 (record-length (c .before .before .before .before .before .args .r)) (c .before .before .before .before .before .pre) (c .before .before .put-record .ensures)
+returns c = put-part _ _ _ _ 12 (record-length (c .before .before .before .before .before .args .r)) (c .before .before .before .before .before .pre) (c .before .before .put-row .ensures)
 
 pub put-words-spec : {M : Type 1} → statement M
 put-words-spec =

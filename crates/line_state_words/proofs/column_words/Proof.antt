@@ -12,6 +12,5 @@ column-words-spec =
     (tie.spec
     (λ c. search needs)
     (λ c. search needs)
-    (λ c. search needs)
     (λ c. ap columnWords (c .enum-told .given .1))
     (λ c. ap columnWords (c .before .l .given .1)))

@@ -12,6 +12,5 @@ length-words-spec =
     (tie.spec
     (λ c. search needs)
     (λ c. search needs)
-    (λ c. search needs)
     (λ c. ap lengthWords (c .enum-told .given .1))
     (λ c. ap lengthWords (c .before .l .given .1)))
