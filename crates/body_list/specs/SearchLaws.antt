@@ -1,6 +1,6 @@
 -- THE LAWS of the search by a lent list: it finds what the search without one finds, and what it found out is true.
 use Prim.Native.Nat.{ℕ, _+_, _-_, _≤_}
-use mathlib.Core.Path.{_≡_, refl, sym, ap, _∙_, subst}
+use mathlib.Core.Path.{_≡_, refl, sym, ap, _∙_, subst, subst⁻¹}
 use mathlib.Core.List.{List, [], _∷_}
 use mathlib.Core.Bool.{true, cond}
 use native.Mathlib.Omega.{arith}
@@ -15,13 +15,16 @@ use Rattle.area.specs.Kind.{Sort}
 use Rattle.find.specs.Find.{Span}
 use Rattle.lines.specs.Slots.{bodyFrom, scanFrom, nameOf, slotAt}
 use Rattle.lines.specs.SlotsLaws.{Scans, scans-start, scan-anew, slot-same, slot-missing, slot-scans}
+use Rattle.lines.specs.Told.{toldNamed}
 use Rattle.body_list.specs.BodyList.{startsFrom}
+use Rattle.body_list.specs.Told.{toldLocated}
 use Rattle.body_list.specs.Search.{halved, sameList, isAreas, beginIn, beginHeld, beginOf, FoundBody, foundBody}
 use Rattle.body_list.specs.HalvingLaws.{In, found-in}
 use Rattle.body_list.specs.PlacesLaws.{list-scans}
 use Rattle.body_list.specs.declared.Known.{Known}
 use Rattle.body_list.specs.declared.Known.the-variants.{Nothing, Place, Bodies, Other}
 use Rattle.body_list.specs.declared.Begin.{Begin}
+use Rattle.body_list.specs.declared.Located.{Located}
 
 -- what is known is true of the list b, and of the place p at which a search may begin
 abbrev pub Right : (ℕ → Sort) → List ℕ → List ℕ → Known → ℕ → Type 0
@@ -110,3 +113,13 @@ module _ (rule : ℕ → Sort) (s v b : List ℕ) where
         by-cases (λ (x : FoundBody). gave a ≡ x .reply → Right rule s b (x .known) (a .start + a .len)) (leb (length v) i)
         (λ e q. let z : _≡_ {A = ℕ} 0 1 = cc in absurd (omega arith))
         (λ e. begin-sound k i p g .behind a)
+
+    -- the same of x, as code has it
+    module _ (x : Located) (e : toldLocated x ≡ foundBody rule s v b k i p) where
+      pub located-right : toldNamed (x .named) ≡ slotAt rule s v i p
+      located-right = ap (λ (f : FoundBody). f .reply) e ∙ found-right
+
+      pub located-known : (a : Span) → gave a ≡ toldNamed (x .named) → Right rule s b (x .known) (a .start + a .len)
+      located-known a q =
+          subst⁻¹ (λ (h : Known). Right rule s b h (a .start + a .len)) (ap (λ (f : FoundBody). f .known) e)
+          (found-known a (q ∙ ap (λ (f : FoundBody). f .reply) e))

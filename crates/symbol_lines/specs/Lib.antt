@@ -3,3 +3,4 @@ pub mod Told
 pub mod Untold
 pub mod SymbolLaws
 pub mod RecordsLaws
+pub mod BuiltLaws

@@ -7,7 +7,7 @@ use Prim.Native.Nat.{ℕ, _+_}
 use mathlib.Core.List.{List}
 use mathlib.Core.Bool.{Bool, cond, _&&_}
 use lib.Dec.{ltb, eqb}
-use Rattle.walk.specs.Listing.{Listing, more, ends, fails, Reply, gave, nothing, refused}
+use Rattle.walk.specs.Listing.{Listing, more, ends, fails, before, Reply, gave, nothing, refused}
 use Rattle.walk.specs.Pick.{orElse, firstBy, lastBy, mapReply}
 use Rattle.refusal.specs.Told.{Told}
 use Rattle.area.specs.Kind.{Sort}
@@ -15,6 +15,7 @@ use Rattle.body.specs.Lines.{LineHead, lineHead}
 use Rattle.find.specs.Find.{same}
 use Rattle.lines.specs.Body.{Body}
 use Rattle.lines.specs.Slots.{listOf}
+use Rattle.order.specs.Order.{inOrder}
 use Rattle.line_step.specs.declared.Held.the-variants.{Nothing}
 use Rattle.line_step.specs.declared.LineWalk.{LineWalk}
 use Rattle.line_step.specs.declared.LineWalk.the-variants.{Between}
@@ -46,6 +47,10 @@ bodyRecords (refused t) = fails t
 -- THE RECORDS of a symbol
 abbrev pub symbolRecords : (ℕ → Sort) → List ℕ → List ℕ → ℕ → ℕ → Records
 symbolRecords rule s v section offset = bodyRecords (symbolBody section offset (listOf rule s v))
+
+-- the same of an area alone: over its line bodies in ascending (section, offset), equal keys in area order
+abbrev pub areaSymbol : (ℕ → Sort) → List ℕ → ℕ → ℕ → Records
+areaSymbol rule s section offset = bodyRecords (symbolBody section offset (before (inOrder rule s) ends))
 
 -- ---- the walk over a symbol's records: the slot of the body that they stand in
 

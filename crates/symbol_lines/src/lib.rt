@@ -2,13 +2,15 @@
 // `line_walk::next_line` steps it.
 //
 // The crate searches its sorted list by halves. Here the list is lent and may be wrong, so that each slot on the way is looked at; the area is
-// passed over once if the bodies ascend in it as in the list.
+// passed over once if the bodies ascend in it as in the list, and a few times at most where the area's list of bodies is lent beside it.
 ghost use mathlib.Core.Path.{_≡_};
 ghost use Rattle.area.specs.Kind.{crateRule};
 ghost use Rattle.lines.specs.Slots.{bodyAt, named};
 ghost use Rattle.lines.specs.Told.{toldHeader};
 ghost use Rattle.symbol_lines.specs.Symbol.{headIs, better, slotIn, walkOf, walkTo, symbolWalk};
 ghost use Rattle.symbol_lines.specs.Told.{toldBest, toldSymbol};
+use body_list::Known;
+use body_list::find_body;
 use line_step::Held;
 use line_step::LineWalk;
 use line_step::Rest;
@@ -17,9 +19,6 @@ use lines::LineHeader;
 use lines::Named;
 use lines::count_lines;
 use lines::header_of;
-use lines::slot_body;
-use list_test::begin_at;
-use list_test::tested_list;
 use refusal::Refusal;
 
 // The walk over the symbol's subsection; where there is none it is at its end.
@@ -75,17 +74,25 @@ fn walk_of(best: Best) -> LineWalk
     }
 }
 
-// The walk over the symbol's subsection, which is looked for through the first n slots. The list is tested once, so that each body is looked for where
-// it is.
-fn find_slot(area: &[u8], slots: &[u32], n: usize, section: u16, offset: u32) -> SymbolLines
+// The walk over the symbol's subsection, which is looked for through the first n slots.
+fn find_slot(
+    area: &[u8],
+    slots: &[u32],
+    bodies: &[u32],
+    n: usize,
+    section: u16,
+    offset: u32,
+) -> SymbolLines
     ensures { λ r. ⌜ toldSymbol r ≡ walkTo (slotIn section offset (named (bodyAt crateRule (now (area .entry))) n (now (slots .entry)))) ⌝ }
 {
-    let whole = tested_list(area, slots, 0);
     let mut best = Best::None;
+    let mut known = Known::Place;
     let mut scan: usize = 0;
     let mut i: usize = 0;
     while i < n {
-        match slot_body(area, slots, i, begin_at(slots, whole, i, scan)) {
+        let found = find_body(area, slots, bodies, known, i, scan);
+        let body = found.named;
+        match body {
             Named::Body { start, len } => {
                 let end = start + len;
                 let head = header_of(&area[start..end]);
@@ -93,6 +100,7 @@ fn find_slot(area: &[u8], slots: &[u32], n: usize, section: u16, offset: u32) ->
                     return SymbolLines::Lines(walk_of(Best::Slot(i)));
                 }
                 best = better_slot(best, head, section, offset, i);
+                known = found.known;
                 scan = end;
                 i += 1;
             }
@@ -105,11 +113,18 @@ fn find_slot(area: &[u8], slots: &[u32], n: usize, section: u16, offset: u32) ->
 }
 
 // The list's first subsection at just this section and offset; else the last one in list order of the same section with a smaller offset; else none.
-pub fn lines_for_symbol(area: &[u8], slots: &[u32], section: u16, offset: u32) -> SymbolLines
+// The answer does not depend on `bodies`, which may be the area's list of line bodies and makes the call faster then.
+pub fn lines_for_symbol(
+    area: &[u8],
+    slots: &[u32],
+    bodies: &[u32],
+    section: u16,
+    offset: u32,
+) -> SymbolLines
     ensures { λ r. ⌜ toldSymbol r ≡ symbolWalk crateRule (now (area .entry)) (now (slots .entry)) section offset ⌝ }
 {
     match count_lines(area) {
-        Counted::Lines(n) => find_slot(area, slots, n, section, offset),
+        Counted::Lines(n) => find_slot(area, slots, bodies, n, section, offset),
         Counted::Refused(why) => SymbolLines::Refused(why),
     }
 }
