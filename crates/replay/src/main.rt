@@ -503,7 +503,7 @@ fn lines(area: &[u8], call: Call) {
         line_walk(area, &slots, call, LineWalk::New);
         return;
     }
-    match lines_for_symbol(area, &slots, call.section, call.word) {
+    match lines_for_symbol(area, &slots, &[], call.section, call.word) {
         SymbolLines::Lines(walk) => line_walk(area, &slots, call, walk),
         SymbolLines::Refused(why) => refused_line(call, why),
     }
