@@ -120,6 +120,7 @@ module _ (rule : ℕ → Sort) (s xs : List ℕ) where
 -- the list takes n slots only after the tests
 pub listed-counted : (m : ℕ) (x : Reply ℕ Told) (n : ℕ) → gave n ≡ inRoom m x → gave n ≡ x
 listed-counted m (gave k) n =
-    by-cases (λ (y : Reply ℕ Told). gave n ≡ y → _≡_ {A = Reply ℕ Told} (gave n) (gave k)) (ltb m k) (λ e q. let z : _≡_ {A = ℕ} 0 1 = cc in absurd (omega arith)) (λ e q. q)
+    by-cases (λ (y : Reply ℕ Told). gave n ≡ y → _≡_ {A = Reply ℕ Told} (gave n) (gave k)) (ltb m k)
+    (λ e q. let z : _≡_ {A = ℕ} 0 1 = cc in absurd (omega arith)) (λ e q. q)
 listed-counted m nothing n = λ q. q
 listed-counted m (refused t) n = λ q. let z : _≡_ {A = ℕ} 0 1 = cc in absurd (omega arith)

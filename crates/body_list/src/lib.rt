@@ -1,7 +1,8 @@
 // The list of an area's line bodies in the order of the area, and the search for the body that a slot of another list names, which may go by it.
 //
-// No answer depends on the lent list of bodies. A walk that steps back in the area would search from its start each time; where the list is
-// just the area's, each further body is found in it by halving. It is held against the area once, at the second step back.
+// A walk that steps back in the area would search from its start each time. Where the lent list is just the area's, each further body is found in it
+// by halving. It is held against the area once: at the first step back of a walk whose place is known to be one, and at the second of any other. A
+// caller that starts with `Nothing`, or at 0 with `Place`, and hands on what it is answered, finds the same bodies with any list.
 ghost use mathlib.Core.Path.{_≡_};
 ghost use Prim.Native.Nat.{_≤_};
 ghost use mathlib.Core.List.{_++_};
@@ -184,8 +185,8 @@ fn begin_held(area: &[u8], bodies: &[u32], body: usize, scan: usize) -> Begin
     }
 }
 
-// A body that does not lie behind `scan` is a step back: the first one shows that the place behind it may be gone on from, the second is worth a look
-// at the list.
+// A body that does not lie behind `scan` is a step back: the search goes through the area from its start. That shows that the place behind the body is
+// one that the subsections come to; a step back from such a place is worth a look at the list.
 fn begin_of(area: &[u8], bodies: &[u32], known: Known, body: usize, scan: usize) -> Begin
     ensures { λ r. ⌜ r ≡ beginOf crateRule (now (area .entry)) (now (bodies .entry)) known body scan ⌝ }
 {

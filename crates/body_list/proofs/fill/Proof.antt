@@ -71,12 +71,14 @@ loop-again-2 c =
 returns : tie.Need-returns Inv-loop μ-loop
 returns c =
     let h = c .before .before in
-    store-end _ _ _ _ _ (starts-end _ _ _ (ap toldStep (sym (c .enum-told .given .1)) ∙ h .sub-at .ensures)) ∙ h .before .loop .inv .0 ∙ stored-all _ _ (omega arith)
+    let e = starts-end _ _ _ (ap toldStep (sym (c .enum-told .given .1)) ∙ h .sub-at .ensures) in
+    store-end _ _ _ _ _ e ∙ h .before .loop .inv .0 ∙ stored-all _ _ (omega arith)
 
 returns-2 : tie.Need-returns-2 Inv-loop μ-loop
 returns-2 c =
     let h = c .before .before in
-    store-end _ _ _ _ _ (starts-refused _ _ _ _ (ap toldStep (sym (c .enum-told2 .given .1)) ∙ h .sub-at .ensures)) ∙ h .before .loop .inv .0 ∙ stored-all _ _ (omega arith)
+    let e = starts-refused _ _ _ _ (ap toldStep (sym (c .enum-told2 .given .1)) ∙ h .sub-at .ensures) in
+    store-end _ _ _ _ _ e ∙ h .before .loop .inv .0 ∙ stored-all _ _ (omega arith)
 
 pub fill-spec : {M : Type 1} → statement M
 fill-spec =

@@ -27,7 +27,8 @@ returns : tie.Need-returns Inv-loop μ-loop
 returns c =
     let m = c .before .before .before .before in
     let e = ap toldStep (sym (m .kind .given .1)) ∙ m .before .before .sub-at .ensures in
-    same-miss _ _ _ _ _ (starts-line _ _ _ _ _ e (c .before .before .if1 .taken)) (sym (c .before .holds .ensures) ∙ not-true _ (c .if2 .taken)) ∙ m .before .before .before .loop .inv .0
+    let h = sym (c .before .holds .ensures) ∙ not-true _ (c .if2 .taken) in
+    same-miss _ _ _ _ _ (starts-line _ _ _ _ _ e (c .before .before .if1 .taken)) h ∙ m .before .before .before .loop .inv .0
 
 add-n : tie.Need-add-n Inv-loop μ-loop
 add-n c = omega (arith, holds-within _ _ _ (sym (c .before .holds .ensures) ∙ not-false _ (c .if2 .left)))
@@ -43,7 +44,8 @@ loop-again c =
     let m = c .before .before .before .before in
     let e = ap toldStep (sym (m .kind .given .1)) ∙ m .before .before .sub-at .ensures in
     let h = sym (c .before .holds .ensures) ∙ not-false _ (c .if2 .left) in
-    (same-on _ _ _ _ _ (starts-line _ _ _ _ _ e (c .before .before .if1 .taken)) h ∙ m .before .before .before .loop .inv .0, omega (arith, holds-within _ _ _ h))
+    let g = same-on _ _ _ _ _ (starts-line _ _ _ _ _ e (c .before .before .if1 .taken)) h in
+    (g ∙ m .before .before .before .loop .inv .0, omega (arith, holds-within _ _ _ h))
 
 loop-less-2 : tie.Need-loop-less-2 Inv-loop μ-loop
 loop-less-2 c =

@@ -12,7 +12,8 @@ returns c =
     let m = c .before .before .before .before .before in
     let b = m .before .before .before .before in
     let a = b .before .before .before .before .args in
-    order-all _ _ (a .slots .now) _ (b .body-list .ensures .1) _ (ap toldCounted (sym (m .n .given .1)) ∙ b .body-list .ensures .0) _ (c .before .before .sort-first .ensures)
+    let e = ap toldCounted (sym (m .n .given .1)) ∙ b .body-list .ensures .0 in
+    order-all _ _ (a .slots .now) _ (b .body-list .ensures .1) _ e _ (c .before .before .sort-first .ensures)
 
 returns-2 : tie.Need-returns-2
 returns-2 c =
