@@ -69,7 +69,7 @@ module _ (Q : Told → Type 0) (cut : Q (told why.Cut)) (size : Q (told why.Bloc
   blocks-then-by h ends l e g = g
   blocks-then-by h (fails t) l e g = e
 
-  body-by : (b : Body) (l : Events) → FailsBy Q l → FailsBy Q (bodyThen b l)
+  pub body-by : (b : Body) (l : Events) → FailsBy Q l → FailsBy Q (bodyThen b l)
   unfolding bodyThen
   body-by b l g =
       let h = lineHead (b .bytes) in
@@ -90,7 +90,7 @@ module _ (Q : Told → Type 0) (cut : Q (told why.Cut)) (size : Q (told why.Bloc
   settle-one-by o ends e = tt
   settle-one-by o (fails t) e = e
 
-  settle-by : (l : Events) → FailsBy Q l → FailsBy Q (settle l)
+  pub settle-by : (l : Events) → FailsBy Q l → FailsBy Q (settle l)
   unfolding settle
   settle-by (more (line r) l) e = settle-one-by r l e
   settle-by (more (done h) l) e = settle-by l e

@@ -4,6 +4,7 @@ use Prim.Native.Nat.{ℕ, _+_}
 use mathlib.Core.Path.{_≡_, refl, ap, _∙_, subst⁻¹}
 use mathlib.Core.List.{List, [], _∷_, _++_}
 use mathlib.Core.Bool.{Bool}
+use native.Mathlib.Omega.{arith}
 use lib.ListN.{length}
 use Rattle.walk.specs.Cases.{by-cases}
 use Rattle.walk.specs.Listing.{Listing, more, ends, fails, before, Reply, gave, nothing, refused, calls, replies}
@@ -18,8 +19,10 @@ use Rattle.lines.specs.Slots.{listOf}
 use Rattle.order.specs.Order.{orderOf, ordered, slotsAfter, inOrder}
 use Rattle.order.specs.BuiltLaws.{built-list, built}
 use Rattle.line_step.specs.declared.LineWalk.{LineWalk}
+use Rattle.line_walk.specs.Meaning.{bodyThen}
+use Rattle.line_walk.specs.AreaLaws.{body-by, settle-by}
 use Rattle.line_walk.specs.Next.{nextOf}
-use Rattle.symbol_lines.specs.Symbol.{symbolBody, bodyRecords, symbolRecords, areaSymbol, Numbered, numbered, slotOf, atSlot, beforeSlot, walkOf, walkTo, symbolWalk}
+use Rattle.symbol_lines.specs.Symbol.{isAt, isBefore, symbolBody, bodyRecords, symbolRecords, areaSymbol, Numbered, numbered, slotOf, atSlot, beforeSlot, walkOf, walkTo, symbolWalk}
 use Rattle.symbol_lines.specs.RecordsLaws.{symbol-walk}
 
 -- ---- what is picked from a listing that does not fail is no refusal
@@ -91,3 +94,24 @@ module _ (rule : ℕ → Sort) (s : List ℕ) (section offset n : ℕ) where
     pub symbol-walk-built : (w : LineWalk) → gave w ≡ symbolWalk rule s (slotsAfter rule s xs) section offset → (k : ℕ)
         → calls (nextOf rule s (slotsAfter rule s xs)) k w ≡ replies k (areaSymbol rule s section offset)
     symbol-walk-built w q k = symbol-walk rule s (slotsAfter rule s xs) section offset w q k ∙ ap (replies k) symbol-built
+
+-- ---- the records of a body fail by 1, 7 and 8 alone, and so never for a slot
+
+bodies-whole : (bs : List Body) → FailsBy Fails (before bs ends)
+bodies-whole [] = tt
+bodies-whole (b ∷ bs) = bodies-whole bs
+
+abbrev NotSlot : Told → Type 0
+NotSlot t = t .number ≡ 19 → ⊥
+
+pub symbol-never-slot : (rule : ℕ → Sort) (s : List ℕ) (section offset : ℕ) → FailsBy NotSlot (areaSymbol rule s section offset)
+symbol-never-slot rule s section offset =
+    by (symbolBody section offset (before (inOrder rule s) ends))
+    (either-answered (isAt section offset) (isBefore section offset) (before (inOrder rule s) ends) (bodies-whole (inOrder rule s)))
+  where
+    by : (x : Reply Body Told) → Answered x → FailsBy NotSlot (bodyRecords x)
+    by (gave b) a =
+        settle-by NotSlot (λ e. omega arith) (λ e. omega arith) (λ e. omega arith) (bodyThen b ends)
+        (body-by NotSlot (λ e. omega arith) (λ e. omega arith) (λ e. omega arith) b ends tt)
+    by nothing a = tt
+    by (refused t) a = absurd a
