@@ -1,4 +1,4 @@
--- The search as code makes it: the first look, the loop that holds a list against the area, and one law for each way out.
+-- The search as code makes it: the loop that holds a list against the area, and one law for each way out.
 use Prim.Native.Nat.{ℕ, _+_, _-_, _<_, _≤_}
 use mathlib.Core.Path.{_≡_, refl, sym, ap, _∙_}
 use mathlib.Core.List.{List, [], _∷_}
@@ -26,7 +26,7 @@ use Rattle.body_list.specs.Search.{halved, sameList, isAreas, beginIn, b
 use Rattle.body_list.specs.declared.Known.{Known}
 use Rattle.body_list.specs.declared.Known.the-variants.{Nothing, Place, Bodies, Other}
 use Rattle.body_list.specs.declared.Begin.{Begin}
-use Rattle.body_list.specs.Looks.{holds, Look}
+use Rattle.body_list.specs.Looks.{holds}
 
 -- ---- a slot that is looked at
 
@@ -135,32 +135,6 @@ module _ (rule : ℕ → Sort) (s b : List ℕ) (u p : ℕ) where
     unfolding beginOf
     other-on e = ap (λ (x : Known). beginOf rule s b x u p) (sym e)
 
-  -- a search that may begin at the header of its body begins there, and nothing more is found out
-  header-on : (k : Known) → 8 ≤ u → p ≡ u - 8 → record { place = p; known = k } ≡ beginOf rule s b k u p
-  header-on Nothing l e = nothing-on Nothing refl (omega arith)
-  header-on Place l e = place-on Place refl (omega arith)
-  header-on Bodies l e = bodies-in Bodies refl p (in-place b u p e)
-  header-on Other l e = other-on Other refl
-
--- ---- the first look
-
--- a word of the part of k bytes at `at`, of the length as code has it
-pub part-word : (s : List ℕ) (at k i j : ℕ) → i + 4 ≤ k → at + i ≡ j → u32At (take (at + k - at) (drop at s)) i ≡ u32At s j
-part-word s at k i j h e = u32-take (drop at s) (at + k - at) i (omega arith) ∙ u32-drop s at i ∙ ap (u32At s) e
-
-module _ (s : List ℕ) (p u n : ℕ) (h : Look s p u n) where
-  look-step : gives (record { kind = 0xf2; start = p + 8; len = n }) (p + 8 + n) ≡ stepAt crateRule s p
-  look-step = step-gives crateRule s p (record { kind = 0xf2; start = p + 8; len = n }) (p + 8 + n)
-      (whole-known 0xf2 p n (omega arith) (omega arith)
-      ∙ head-whole crateRule s p (h .short) (omega (arith, h .place, h .inside)) (omega (arith, h .place, h .inside)) (omega (arith, h .place, h .inside))
-      (omega (arith, h .place, h .inside, h .len)) 0xf2 n (sym (h .kind)) (sym (h .len)))
-
-  look-slot : (v : List ℕ) (i : ℕ) → i < length v → getD v i 0 ≡ u → gave (record { start = u; len = n }) ≡ slotAt crateRule s v i p
-  look-slot v i l e =
-      ap (λ (k : ℕ). gave (record { start = k; len = n })) (sym (h .place))
-      ∙ slot-is crateRule s v i p l p (gave (record { start = p + 8; len = n })) (scan-on p (getD v i 0) (omega (arith, h .place)))
-      (seek-hit crateRule s p (getD v i 0) (record { kind = 0xf2; start = p + 8; len = n }) (p + 8 + n) look-step (h .place ∙ sym e) refl)
-
 -- ---- each way out of `find_body`
 
 module _ (rule : ℕ → Sort) (s v b : List ℕ) (k : Known) (i p : ℕ) where
@@ -173,10 +147,3 @@ module _ (rule : ℕ → Sort) (s v b : List ℕ) (k : Known) (i p : ℕ) where
   unfolding foundBody
   found-begin h g x eg ex =
       ap (λ (y : Reply Span Told). record { reply = y; known = g .known }) ex ∙ ap (foundFrom rule s v i) eg ∙ sym (simp tests)
-
-pub found-look : (s v b : List ℕ) (k : Known) (i p n : ℕ) → i < length v → Look s p (getD v i 0) n
-    → record { reply = gave (record { start = getD v i 0; len = n }); known = k } ≡ foundBody crateRule s v b k i p
-found-look s v b k i p n l h =
-    found-begin crateRule s v b k i p l (record { place = p; known = k }) (gave (record { start = getD v i 0; len = n }))
-    (header-on crateRule s b (getD v i 0) p k (omega (arith, h .place)) (omega (arith, h .place)))
-    (look-slot s p (getD v i 0) n h v i l refl)

@@ -11,7 +11,7 @@ ghost use Rattle.area.specs.Kind.{crateRule};
 ghost use Rattle.lines.specs.Told.{toldCounted};
 ghost use Rattle.body_list.specs.BodyList.{startsFrom, bodyList, bodiesAfter};
 ghost use Rattle.body_list.specs.Search.{halved, isAreas, beginIn, beginHeld, beginOf, foundBody};
-ghost use Rattle.body_list.specs.Looks.{holds, LookedIs};
+ghost use Rattle.body_list.specs.Looks.{holds};
 ghost use Rattle.body_list.specs.Told.{toldLocated};
 use area::SubStep;
 use area::sub_at;
@@ -19,9 +19,7 @@ use lines::Counted;
 use lines::Named;
 use lines::count_lines;
 use lines::slot_body;
-use refusal::LONGEST;
 use refusal::Refusal;
-use word::u32_at;
 
 // The starts of the line bodies, in the order of the area.
 fn fill(area: &[u8], bodies: &mut [u32])
@@ -223,40 +221,6 @@ fn begin_of(area: &[u8], bodies: &[u32], known: Known, body: usize, scan: usize)
     }
 }
 
-// What the first look of a search finds: the length of a line body, or nothing yet.
-enum Looked {
-    At(usize),
-    No,
-}
-
-// Does the header of the line body at `body` stand at `begin`? That is where most searches end.
-fn first_look(area: &[u8], begin: usize, body: usize) -> Looked
-    ensures { λ r. ⌜ LookedIs (now (area .entry)) begin body r ⌝ }
-{
-    if LONGEST < area.len() {
-        return Looked::No;
-    }
-    if area.len() < body {
-        return Looked::No;
-    }
-    if body < 8 {
-        return Looked::No;
-    }
-    if body - 8 != begin {
-        return Looked::No;
-    }
-    let head = &area[begin..begin + 8];
-    let kind = u32_at(head, 0);
-    let len = u32_at(head, 4) as usize;
-    if kind != 0xf2 {
-        return Looked::No;
-    }
-    if area.len() - body < len {
-        return Looked::No;
-    }
-    Looked::At(len)
-}
-
 // The line body that a slot names, as `slot_body` finds it. `scan` is where the search may begin: the end of the body that was named last, or 0.
 // `bodies` is the area's list of bodies, or any other; `known` is what the call before answered, or `Nothing`.
 pub fn find_body(
@@ -276,19 +240,11 @@ pub fn find_body(
         };
     }
     let start = slots[slot] as usize;
-    match first_look(area, scan, start) {
-        Looked::At(len) => Located {
-            named: Named::Body { start, len },
-            known,
-        },
-        Looked::No => {
-            let begin = begin_of(area, bodies, known, start, scan);
-            let after = begin.known;
-            let named = slot_body(area, slots, slot, begin.place);
-            Located {
-                named,
-                known: after,
-            }
-        }
+    let begin = begin_of(area, bodies, known, start, scan);
+    let after = begin.known;
+    let named = slot_body(area, slots, slot, begin.place);
+    Located {
+        named,
+        known: after,
     }
 }
