@@ -232,7 +232,17 @@ uint32_t c13_tables_part(const uint8_t *stream, size_t stream_len, uint32_t symb
  *
  * Refused, in this order: C13_WRONG_PLACE where the place lies past the buffer, what is before it is no plain area, or an entry is not of the last
  * subsection's kind; C13_NOT_PLAIN where the entry would break a rule of plain areas; C13_NO_ROOM where it does not fit in the buffer or in
- * 16,777,216 bytes. */
+ * 16,777,216 bytes.
+ *
+ * LONG AREAS. A call tests all that is before its place, so the time of a sequence on one area grows with the square of its length. Subsections do not depend
+ * on each other: areas that are written apart, each from place 0, and laid end to end are the area that all the calls write, and each call is answered the
+ * same, refused ones too (proved: `all-joined`, `same-apart` of crates/round_trip). So write each subsection as an area of its own into the free rest of the
+ * buffer. With `used` bytes written, and `end` the smaller of the buffer's length and 16,777,216:
+ *
+ *     a call that begins a subsection    buf + used, end - used, place 0
+ *     a call that adds an entry to it    buf + used, end - used, the place last answered
+ *
+ * and before the next subsection begins, add the place last answered to `used`. */
 
 /* Whether an area is plain, which is what the writer makes: the full reading refuses nothing, and document 01's rules hold. C13_NONE: it is not, or it
  * has more than 16,777,216 bytes. Never refused.

@@ -108,16 +108,24 @@ impl From<Refusal> for WriteError {
 ///
 /// Each call is refused with [`Refusal::WrongPlace`] where the last subsection is not of its entry's kind, with [`Refusal::NotPlain`] where the entry
 /// would break a rule of plain areas, and with [`Refusal::NoRoom`] where it does not fit in the buffer or in 16,777,216 bytes: in this order.
+///
+/// The time that a call takes grows with the subsection that it adds to, and not with what was written before that.
 #[derive(Debug)]
 pub struct Writer<'a> {
     buf: &'a mut [u8],
+    /// Where the last subsection begins. It is written as an area of its own, so that a call tests no more than that. Areas written apart and laid end to
+    /// end are the area that all the calls write, and each call is answered as if it were lent the whole (`same-apart` of crates/round_trip).
+    last: usize,
     place: usize,
 }
+
+/// An area of more bytes is refused.
+const LONGEST: usize = 16_777_216;
 
 impl<'a> Writer<'a> {
     /// A writer of an empty area at the start of a buffer. Bytes of the buffer behind what is written stay as they are.
     pub fn new(buf: &'a mut [u8]) -> Self {
-        Writer { buf, place: 0 }
+        Writer { buf, last: 0, place: 0 }
     }
 
     /// The area as it is written so far. It is whole after each call: all lengths are right.
@@ -125,9 +133,25 @@ impl<'a> Writer<'a> {
         self.buf.get(..self.place).unwrap_or(&[])
     }
 
-    fn step(&mut self, call: impl FnOnce(&mut [u8], usize, &mut [u64]) -> u32) -> Result<(), Refusal> {
-        let out: [u64; 2] = one(|out| call(self.buf, self.place, out))?;
-        self.place = size(&out, 0);
+    /// A call that opens a subsection: in the free rest of the buffer.
+    fn open(&mut self, call: impl FnOnce(&mut [u8], usize, &mut [u64]) -> u32) -> Result<(), Refusal> {
+        self.step(self.place, call)
+    }
+
+    /// A call that adds an entry to the last subsection.
+    fn add(&mut self, call: impl FnOnce(&mut [u8], usize, &mut [u64]) -> u32) -> Result<(), Refusal> {
+        self.step(self.last, call)
+    }
+
+    /// A call on the area that begins at a place. It is lent the buffer from there on, as far as the whole may reach, so that it is refused where the
+    /// whole would be.
+    fn step(&mut self, begin: usize, call: impl FnOnce(&mut [u8], usize, &mut [u64]) -> u32) -> Result<(), Refusal> {
+        let end = self.buf.len().min(LONGEST);
+        let area = self.buf.get_mut(begin..end).unwrap_or(&mut []);
+        let written = self.place.saturating_sub(begin);
+        let out: [u64; 2] = one(|out| call(area, written, out))?;
+        self.last = begin;
+        self.place = begin.saturating_add(size(&out, 0));
         Ok(())
     }
 
@@ -137,7 +161,7 @@ impl<'a> Writer<'a> {
     ///
     /// [`Refusal::NoRoom`].
     pub fn open_lines(&mut self, offset: PdbInternalSectionOffset, flags: u16, code_size: u32) -> Result<(), Refusal> {
-        self.step(|buf, at, out| calls::c13_open_lines(buf, at, offset.offset, offset.section, flags, code_size, out))
+        self.open(|buf, at, out| calls::c13_open_lines(buf, at, offset.offset, offset.section, flags, code_size, out))
     }
 
     /// Adds a block of lines of one file to the line subsection.
@@ -167,7 +191,7 @@ impl<'a> Writer<'a> {
     /// [`Refusal::WrongPlace`] where no line subsection is open; [`Refusal::NotPlain`] where a line lacks its second word, or there are more or fewer
     /// columns than the flags of the subsection say; [`Refusal::NoRoom`].
     pub fn add_block(&mut self, file: FileIndex, lines: &[u32], columns: &[u32]) -> Result<(), Refusal> {
-        self.step(|buf, at, out| calls::c13_add_block(buf, at, file.0, lines, columns, out))
+        self.add(|buf, at, out| calls::c13_add_block(buf, at, file.0, lines, columns, out))
     }
 
     /// Opens a checksum subsection.
@@ -176,7 +200,7 @@ impl<'a> Writer<'a> {
     ///
     /// [`Refusal::NoRoom`].
     pub fn open_checksums(&mut self) -> Result<(), Refusal> {
-        self.step(calls::c13_open_checksums)
+        self.open(calls::c13_open_checksums)
     }
 
     /// Adds a file, by its name in the string table, with its checksum.
@@ -186,7 +210,7 @@ impl<'a> Writer<'a> {
     /// [`Refusal::WrongPlace`] where no checksum subsection is open; [`Refusal::NotPlain`] where the checksum is not whole;
     /// [`Refusal::NoRoom`].
     pub fn add_entry(&mut self, name: StringRef, checksum: FileChecksum<'_>) -> Result<(), Refusal> {
-        self.step(|buf, at, out| calls::c13_add_entry(buf, at, name.0, checksum.number(), checksum.bytes(), out))
+        self.add(|buf, at, out| calls::c13_add_entry(buf, at, name.0, checksum.number(), checksum.bytes(), out))
     }
 
     /// Opens a subsection of inlinees, of signature 0 or, for inlinees with extra files, 1.
@@ -195,7 +219,7 @@ impl<'a> Writer<'a> {
     ///
     /// [`Refusal::NotPlain`] where the signature is another; [`Refusal::NoRoom`].
     pub fn open_inlinees(&mut self, signature: u32) -> Result<(), Refusal> {
-        self.step(|buf, at, out| calls::c13_open_inlinees(buf, at, signature, out))
+        self.open(|buf, at, out| calls::c13_open_inlinees(buf, at, signature, out))
     }
 
     /// Adds a function that was inlined: its index in the IPI stream, the file and line of its source, and further files.
@@ -205,7 +229,7 @@ impl<'a> Writer<'a> {
     /// [`Refusal::WrongPlace`] where no subsection of inlinees is open; [`Refusal::NotPlain`] for extra files under signature 0;
     /// [`Refusal::NoRoom`].
     pub fn add_inlinee(&mut self, index: u32, file: FileIndex, line: u32, extra_files: &[u32]) -> Result<(), Refusal> {
-        self.step(|buf, at, out| calls::c13_add_inlinee(buf, at, index, file.0, line, extra_files, out))
+        self.add(|buf, at, out| calls::c13_add_inlinee(buf, at, index, file.0, line, extra_files, out))
     }
 
     /// Opens a subsection of imports.
@@ -214,7 +238,7 @@ impl<'a> Writer<'a> {
     ///
     /// [`Refusal::NoRoom`].
     pub fn open_imports(&mut self) -> Result<(), Refusal> {
-        self.step(calls::c13_open_imports)
+        self.open(calls::c13_open_imports)
     }
 
     /// Adds a module that is imported from, and the local indices that are.
@@ -223,7 +247,7 @@ impl<'a> Writer<'a> {
     ///
     /// [`Refusal::WrongPlace`] where no subsection of imports is open; [`Refusal::NoRoom`].
     pub fn add_module(&mut self, name: ModuleRef, imports: &[u32]) -> Result<(), Refusal> {
-        self.step(|buf, at, out| calls::c13_add_module(buf, at, name.0 .0, imports, out))
+        self.add(|buf, at, out| calls::c13_add_module(buf, at, name.0 .0, imports, out))
     }
 
     /// Opens a subsection of exports.
@@ -232,7 +256,7 @@ impl<'a> Writer<'a> {
     ///
     /// [`Refusal::NoRoom`].
     pub fn open_exports(&mut self) -> Result<(), Refusal> {
-        self.step(calls::c13_open_exports)
+        self.open(calls::c13_open_exports)
     }
 
     /// Adds an export: a local index, and its global one.
@@ -242,7 +266,7 @@ impl<'a> Writer<'a> {
     /// [`Refusal::WrongPlace`] where no subsection of exports is open; [`Refusal::NotPlain`] where the local index is not above the last one;
     /// [`Refusal::NoRoom`].
     pub fn add_pair(&mut self, local: u32, global: u32) -> Result<(), Refusal> {
-        self.step(|buf, at, out| calls::c13_add_pair(buf, at, local, global, out))
+        self.add(|buf, at, out| calls::c13_add_pair(buf, at, local, global, out))
     }
 
     /// Adds a whole subsection of a kind that has no calls of its own, with its body.
@@ -252,6 +276,6 @@ impl<'a> Writer<'a> {
     /// [`Refusal::NotPlain`] where the kind has calls of its own or is [`Other`](SubsectionKind::Other), or the body's length is not divisible by 4;
     /// [`Refusal::NoRoom`].
     pub fn add_opaque(&mut self, kind: SubsectionKind, body: &[u8]) -> Result<(), Refusal> {
-        self.step(|buf, at, out| calls::c13_add_opaque(buf, at, kind.number(), body, out))
+        self.open(|buf, at, out| calls::c13_add_opaque(buf, at, kind.number(), body, out))
     }
 }

@@ -226,6 +226,28 @@ fn what_was_written_is_read() {
     assert!(buf[end..].iter().all(|b| *b == 0xaa), "bytes behind what is written");
 }
 
+#[test]
+fn the_limit_is_that_of_the_whole() {
+    const LONGEST: usize = 16_777_216;
+    let mut buf = vec![0xaa; LONGEST + 100];
+    let mut writer = Writer::new(&mut buf);
+    writer.add_opaque(SubsectionKind::FrameData, &vec![0; LONGEST - 2 * 8 - 12 - 20]).expect("room");
+    writer.open_lines(place(1, 0), 0, 4).expect("room");
+    assert_eq!(writer.add_block(FileIndex(0), &[0; 4], &[]), Err(Refusal::NoRoom));
+    writer.add_block(FileIndex(0), &[0; 2], &[]).expect("room");
+    assert_eq!(writer.written().len(), LONGEST);
+    assert_eq!(Area::new(writer.written()).is_plain(), Ok(true));
+    // Number 16 comes before 17, and 17 before 10, where the whole is full as well.
+    assert_eq!(writer.add_block(FileIndex(0), &[], &[]), Err(Refusal::NoRoom));
+    assert_eq!(writer.add_block(FileIndex(0), &[0], &[]), Err(Refusal::NotPlain));
+    assert_eq!(writer.add_pair(0, 0), Err(Refusal::WrongPlace));
+    assert_eq!(writer.open_checksums(), Err(Refusal::NoRoom));
+    assert_eq!(writer.open_inlinees(2), Err(Refusal::NotPlain));
+    assert_eq!(writer.add_entry(StringRef(1), FileChecksum::None), Err(Refusal::WrongPlace));
+    assert_eq!(writer.written().len(), LONGEST);
+    assert!(buf[LONGEST..].iter().all(|b| *b == 0xaa), "bytes behind what is written");
+}
+
 /// The words of the block that an area of one line subsection has.
 fn block_words(area: &[u8]) -> Vec<u32> {
     area[32..].chunks_exact(4).map(|w| u32::from_le_bytes(w.try_into().expect("four"))).collect()

@@ -224,11 +224,11 @@ unfolding runCalls
 run-append [] ys st = refl
 run-append (x ∷ xs) ys st = run-append xs ys (called x st)
 
-raws-append : (ss ts : List Sec) → rawsOf (ss ++ ts) ≡ rawsOf ss ++ rawsOf ts
+pub raws-append : (ss ts : List Sec) → rawsOf (ss ++ ts) ≡ rawsOf ss ++ rawsOf ts
 raws-append [] ts = refl
 raws-append (s ∷ ss) ts = ap (λ l. rawSec s ∷ l) (raws-append ss ts)
 
-secs-run : (ts : List Sec) → Each GoodSec ts → (st : State) (ss : List Sec) → Holds st ss → Roomy st (ss ++ ts) → Keeps st (runCalls (callsOf ts) st) (ss ++ ts)
+pub secs-run : (ts : List Sec) → Each GoodSec ts → (st : State) (ss : List Sec) → Holds st ss → Roomy st (ss ++ ts) → Keeps st (runCalls (callsOf ts) st) (ss ++ ts)
 unfolding runCalls
 secs-run [] g st ss H r = record { holds = rw (append-nil ss) H; len = refl }
 secs-run (t ∷ ts) g st ss H r =

@@ -7,3 +7,7 @@ pub mod BackLaws
 pub mod AgainLaws
 pub mod EachLaws
 pub mod Demand
+pub mod Apart
+pub mod ApartLaws
+pub mod JoinedLaws
+pub mod Joined

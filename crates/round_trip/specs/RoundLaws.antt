@@ -109,7 +109,7 @@ holds-bigger st ss s H it h m n b g k o eh em en l =
 
 -- ---- any call
 
-abbrev Held : State → Type 0
+abbrev pub Held : State → Type 0
 Held st = (ss : List Sec) × Holds st ss
 
 module _ (st : State) (ss : List Sec) (H : Holds st ss) (it : Item) (h m n : ℕ) (q : act it (st .buf) (st .at) ≡ goes h m n) where
@@ -153,14 +153,14 @@ module _ (st : State) (ss : List Sec) (H : Holds st ss) (it : Item) (h m n : ℕ
       go true b = goes-fresh b
       go false b = goes-bigger b
 
-call-held : (it : Item) (st : State) → Held st → Held (called it st)
+pub call-held : (it : Item) (st : State) → Held st → Held (called it st)
 call-held it st (ss, H) = go (act it (st .buf) (st .at)) refl
   where
     go : (a : Act) → act it (st .buf) (st .at) ≡ a → Held (called it st)
     go (goes h m n) q = rw (called-goes it st h m n q) (goes-held st ss H it h m n q)
     go (stops t) q = rw (called-stops it st t q) (ss, H)
 
-run-held : (its : List Item) (st : State) → Held st → Held (runCalls its st)
+pub run-held : (its : List Item) (st : State) → Held st → Held (runCalls its st)
 unfolding runCalls
 run-held [] st H = H
 run-held (it ∷ its) st H = run-held its (called it st) (call-held it st H)
