@@ -166,17 +166,17 @@ ascend-last : (f : ℕ) (xs : List Pair) (p : Pair) → Ascend f (xs ++ (p ∷ [
 ascend-last f [] p g = g .0
 ascend-last f (x ∷ xs) p g = ascend-last (x .local + 1) xs p (g .1)
 
-block-obeys : (f : ℕ) (b : Block) → Filled (columned f) b → blockRule (f % 2) (length (b .lines)) (length (b .columns)) ≡ true
+pub block-obeys : (f : ℕ) (b : Block) → Filled (columned f) b → blockRule (f % 2) (length (b .lines)) (length (b .columns)) ≡ true
 block-obeys f b g =
     let n = length (b .lines) in
     let e : f % 2 % 2 ≡ f % 2 = omega arith in
     let c : length (b .columns) ≡ columnsOf (columned (f % 2)) (n / 2) = g .columns ∙ ap (λ (x : ℕ). columnsOf (eqb x 1) (n / 2)) (sym e) in
     rw (eq-eqb (n % 2) 0 (omega (arith, g .pairs)), eq-eqb (length (b .columns)) (columnsOf (columned (f % 2)) (n / 2)) c)
 
-checksum-obeys : (c : Checksum) → Sized c → checksumRule (c .kind) (length (c .bytes)) ≡ true
+pub checksum-obeys : (c : Checksum) → Sized c → checksumRule (c .kind) (length (c .bytes)) ≡ true
 checksum-obeys c g = rw (le-leb (c .kind) 3 (g .low), eq-eqb (length (c .bytes)) (sizeOf (c .kind)) (g .size))
 
-extra-obeys : (t : Bool) (e : Inlinee) → Fits t e → cond t true (eqb (length (e .extra)) 0) ≡ true
+pub extra-obeys : (t : Bool) (e : Inlinee) → Fits t e → cond t true (eqb (length (e .extra)) 0) ≡ true
 extra-obeys true e g = refl
 extra-obeys false e g = eq-eqb (length (e .extra)) 0 (ap length g)
 

@@ -35,13 +35,13 @@ use Rattle.plain.specs.PlainLaws.{plain-block-sound, plain-checksum-sound}
 use Rattle.plain.specs.LastLaws.{not-long}
 use Rattle.round_trip.specs.Secs.{Sec, linesOf, checksumsOf, inlineesOf, importsOf, exportsOf, opaqueOf, kindSec, bodySec, Sized, Ascend, GoodSec, rawsOf}
 
-no-some : {A B : Type 0} {x : B} → _≡_ {A = Option B} none (some x) → A
+pub no-some : {A B : Type 0} {x : B} → _≡_ {A = Option B} none (some x) → A
 no-some e = let z : _≡_ {A = ℕ} 0 1 = cc in absurd (omega arith)
 
-no-true : {A : Type 0} → _≡_ {A = Bool} false true → A
+pub no-true : {A : Type 0} → _≡_ {A = Bool} false true → A
 no-true e = let z : _≡_ {A = ℕ} 0 1 = cc in absurd (omega arith)
 
-marked-some : (t : Bool) (x m : ℕ) → marked t x ≡ some m → t ≡ true
+pub marked-some : (t : Bool) (x m : ℕ) → marked t x ≡ some m → t ≡ true
 marked-some true x m q = refl
 marked-some false x m q = no-some q
 
@@ -90,12 +90,12 @@ checksum-back s h = fronts-strict checksumBytes Sized s (tidy s) (checksumBite s
 
 -- ---- bodies
 
-ends-list : {B : Type 0} (l : Listing B Told) → endsWhole l ≡ true → (bs : List B) × (l ≡ before bs ends)
+pub ends-list : {B : Type 0} (l : Listing B Told) → endsWhole l ≡ true → (bs : List B) × (l ≡ before bs ends)
 ends-list (more b l) e = let r = ends-list l e in (b ∷ r .0, ap (more b) (r .1))
 ends-list ends e = ([], refl)
 ends-list (fails r) e = no-true e
 
-whole-list : {B : Type 0} (step : List ℕ → Move (List ℕ) B Told) (s : List ℕ) → wholly step s ≡ true → (bs : List B) × (all step length s ≡ before bs ends)
+pub whole-list : {B : Type 0} (step : List ℕ → Move (List ℕ) B Told) (s : List ℕ) → wholly step s ≡ true → (bs : List B) × (all step length s ≡ before bs ends)
 unfolding wholly
 whole-list step s e = ends-list (all step length s) e
 
@@ -167,7 +167,7 @@ modules-back b m h q =
     let M = run-back moduleBite moduleBytes Any module-sound module-front b h (L .0) (L .1) in
     record { sec = importsOf (L .0); kind = refl; body = sym (M .bytes); good = M .good }
 
-pairs-list : (b : List ℕ) (ps : List Pair) → pairs b ≡ before ps ends → all pairBite length b ≡ before ps ends
+pub pairs-list : (b : List ℕ) (ps : List Pair) → pairs b ≡ before ps ends → all pairBite length b ≡ before ps ends
 unfolding pairs
 pairs-list b ps = go (eqb (length b % 8) 0) ps
   where
@@ -206,7 +206,7 @@ mark-back k b m h = go (eqb k 0xf2) refl (eqb k 0xf4) refl (eqb k 0xf6) refl (eq
 abbrev pub Marked : Raw → Type 0
 Marked r = (m : ℕ) × (markOf (r .kind) (r .body) ≡ some m)
 
-from-list : (l : Parts) (p : ℕ) (last x : Last) → plainFrom p last l ≡ some x → (rs : List Raw) × (l ≡ before rs ends) × Each Marked rs
+pub from-list : (l : Parts) (p : ℕ) (last x : Last) → plainFrom p last l ≡ some x → (rs : List Raw) × (l ≡ before rs ends) × Each Marked rs
 unfolding plainFrom
 from-list (more r l) p last x q = go (markOf (r .kind) (r .body)) refl q (λ m. from-list l (p + 8 + length (r .body)) (record { header = p; kind = r .kind; mark = m }) x)
   where

@@ -2,12 +2,14 @@
 -- written is exactly the list of accepted calls, in order. Each plain area, given room, is what the writer makes from its full reading.
 --
 -- To check what is said here a reader needs Run.antt of this crate (a run of calls), Calls.antt of `writer_decides` (what a call answers and leaves:
--- the contracts of the writer's functions cite it), Reading.antt of `reading` (the full reading) and Plain.antt of `plain` (which areas are plain, and
--- which rules for kinds know theirs), and no proof. The statements are the four definitions; the names below them prove them. What is said of a
--- reading holds by every rule for kinds that knows the plain ones; the crate's is one (`crate-knows`).
+-- the contracts of the writer's functions cite it), Reading.antt of `reading` (the full reading), Plain.antt of `plain` (which areas are plain, and
+-- which rules for kinds know theirs) and Listed.antt of this crate (the two, the length of an area aside), and no proof. The statements are the six
+-- definitions; the names below them prove them. What is said of a reading holds by every rule for kinds that knows the plain ones; the crate's is one
+-- (`crate-knows`).
 use Prim.Native.Nat.{ℕ, _≤_}
 use mathlib.Core.Path.{_≡_, refl, sym, ap, _∙_}
-use mathlib.Core.List.{List}
+use mathlib.Core.Logic.{_⊎_, ⊎-elim}
+use mathlib.Core.List.{List, [], _∷_, _++_}
 use mathlib.Core.Bool.{Bool, true, false, cond}
 use mathlib.Core.Option.{none, some}
 use native.Mathlib.Omega.{arith}
@@ -15,17 +17,21 @@ use lib.ListN.{length, drop}
 use lib.Dec.{ltb}
 use borrow.Author.Tests.{ltb-false, le-leb}
 use Rattle.word.specs.Word.{Bytes}
-use Rattle.walk.specs.Listing.{gave, refused, ends, before}
-use Rattle.refusal.specs.Told.{Told, longest}
+use Rattle.walk.specs.Listing.{Reply, gave, refused, ends, before}
+use Rattle.refusal.specs.Told.{Told, told, longest}
+use Rattle.refusal.specs.declared.Refusal.the-variants as why
 use Rattle.area.specs.Parts.{parts}
 use Rattle.area.specs.Kind.{Sort, crateRule}
 use Rattle.reading.specs.Reading.{Item, reading}
 use Rattle.plain.specs.Plain.{Last, nothing-yet, plainFrom, plainOf, Plain, KnowsPlain}
 use Rattle.writer_decides.specs.Calls.{answered, bufferAfter}
-use Rattle.round_trip.specs.Run.{runCalls, empty, written, accepted}
-use Rattle.round_trip.specs.RoundLaws.{round-trip, before-one}
+use Rattle.round_trip.specs.Run.{State, runCalls, empty, written, accepted}
+use Rattle.round_trip.specs.Listed.{PlainAtAnyLength, itemsIn}
+use Rattle.round_trip.specs.Secs.{callsOf, lastOf}
+use Rattle.round_trip.specs.RoundLaws.{plain-here, place-here, run-held, empty-holds, round-trip, before-one}
 use Rattle.round_trip.specs.AgainLaws.{made-again}
 use Rattle.round_trip.specs.EachLaws.{refused-same, behind-same, never-long}
+use Rattle.round_trip.specs.ExactLaws.{longer-fits, fits-longer, fits-told, told-fits}
 
 -- any calls, over any buffer: what was written is read as the calls that were accepted, and refuses nothing
 abbrev pub RoundTrip : Type 0
@@ -47,6 +53,25 @@ Careful =
     (it : Item) (b : List ℕ) (w : ℕ)
     → ((t : Told) → answered it b w ≡ refused t → bufferAfter it b w ≡ b) × ((n : ℕ) → answered it b w ≡ gave n → drop n (bufferAfter it b w) ≡ drop n b)
     × ((t : Told) → answered it b w ≡ refused t → t .number ≡ 11 → ⊥)
+
+-- any calls, over any buffer: what was written is plain
+abbrev pub WrittenPlain : Type 0
+WrittenPlain = (its : List Item) (b : List ℕ) → Plain (written its b)
+
+-- number 17, exactly. After any calls, over any buffer, the next call is refused with 16 or 17 where no area that is plain, its length aside, lists the
+-- accepted calls and then this one; with any other answer there is one. So where 16 is not given, 17 says that the longer area would not be plain, or
+-- would not be read as this call, and says nothing of its length
+abbrev pub nextAnswer : List Item → List ℕ → Item → Reply ℕ Told
+nextAnswer its b it = answered it (runCalls its (empty b) .buf) (runCalls its (empty b) .at)
+
+abbrev pub LongerPlain : List Item → List ℕ → Item → Type 0
+LongerPlain its b it = (s : List ℕ) × PlainAtAnyLength s × (itemsIn s ≡ before (accepted its b ++ (it ∷ [])) ends)
+
+abbrev pub NotPlainExactly : Type 0
+NotPlainExactly =
+    (its : List Item) (b : List ℕ) (it : Item)
+    → ((nextAnswer its b it ≡ refused (told why.WrongPlace)) ⊎ (nextAnswer its b it ≡ refused (told why.NotPlain)) → LongerPlain its b it → ⊥)
+    × ((nextAnswer its b it ≡ refused (told why.WrongPlace) → ⊥) → (nextAnswer its b it ≡ refused (told why.NotPlain) → ⊥) → LongerPlain its b it)
 
 -- ---- they hold
 
@@ -78,3 +103,22 @@ again rule knows s b h p r =
 
 pub careful : Careful
 careful it b w = (λ t e. refused-same it b w t e, λ n e. behind-same it b w n e, λ t e z. never-long it b w t e z)
+
+pub written-plain : WrittenPlain
+written-plain its b =
+    let R = run-held its (empty b) ([], empty-holds b) in
+    (lastOf 0 nothing-yet (R .0), plain-here (runCalls its (empty b)) (R .0) (R .1))
+
+pub not-plain-exactly : NotPlainExactly
+not-plain-exactly its b it =
+    let st : State = runCalls its (empty b) in
+    let R = run-held its (empty b) ([], empty-holds b) in
+    let ss = R .0 in
+    let l = lastOf 0 nothing-yet ss in
+    let p = place-here st ss (R .1) in
+    let e : accepted its b ≡ callsOf ss = R .1 .done in (
+      λ t g.
+          let f = fits-told it (st .buf) (st .at) l p (longer-fits ss it (rw e at g)) in
+          ⊎-elim (f .0) (f .1) t,
+      λ x y. rw e (fits-longer ss (R .1 .good) it (told-fits it (st .buf) (st .at) l p x y)),
+    )

@@ -6,6 +6,9 @@ pub mod RoundLaws
 pub mod BackLaws
 pub mod AgainLaws
 pub mod EachLaws
+pub mod Listed
+pub mod ListedLaws
+pub mod ExactLaws
 pub mod Demand
 pub mod Apart
 pub mod ApartLaws

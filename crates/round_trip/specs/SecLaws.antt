@@ -143,7 +143,7 @@ inlinees-marked n es l g =
     ∙ ap (λ (t : Bool). marked t n)
     (whole-forth (inlineeBite (extended n)) (inlineeBytes (extended n)) (Fits (extended n)) (inlinee-sound (extended n)) (inlinee-ended (extended n)) (inlinee-forth (extended n)) es g))
 
-opaque-kinds : (k : ℕ) → isOpaque k ≡ true → (k ≡ 0xf2 → ⊥) × (k ≡ 0xf4 → ⊥) × (k ≡ 0xf6 → ⊥) × (k ≡ 0xf7 → ⊥) × (k ≡ 0xf8 → ⊥)
+pub opaque-kinds : (k : ℕ) → isOpaque k ≡ true → (k ≡ 0xf2 → ⊥) × (k ≡ 0xf4 → ⊥) × (k ≡ 0xf6 → ⊥) × (k ≡ 0xf7 → ⊥) × (k ≡ 0xf8 → ⊥)
 unfolding isOpaque
 opaque-kinds k h = (λ e. no (rw e at h), λ e. no (rw e at h), λ e. no (rw e at h), λ e. no (rw e at h), λ e. no (rw e at h))
   where
@@ -221,7 +221,7 @@ opaque-kind k = go (eqb k 0xf1) refl (eqb k 0xf3) refl (eqb k 0xf5) refl (leb 0x
     go false ea false eb false ec true ed false ee q = let z : _≡_ {A = ℕ} 0 1 = cc in absurd (omega arith)
     go false ea false eb false ec false ed e ee q = let z : _≡_ {A = ℕ} 0 1 = cc in absurd (omega arith)
 
-good-kind : (s : Sec) → GoodSec s → (0xf1 ≤ kindSec s) × (kindSec s ≤ 0xfd)
+pub good-kind : (s : Sec) → GoodSec s → (0xf1 ≤ kindSec s) × (kindSec s ≤ 0xfd)
 good-kind (linesOf h bs) g = omega arith
 good-kind (checksumsOf cs) g = omega arith
 good-kind (inlineesOf n es) g = omega arith
@@ -230,11 +230,11 @@ good-kind (exportsOf ps) g = omega arith
 good-kind (opaqueOf k b) g = opaque-kind k (g .0)
 
 -- calls as a listing, with refusals as numbers
-numbered-before : (xs : List Item) → numbered (before xs ends) ≡ before xs ends
+pub numbered-before : (xs : List Item) → numbered (before xs ends) ≡ before xs ends
 numbered-before [] = refl
 numbered-before (x ∷ xs) = ap (more x) (numbered-before xs)
 
-before-numbered : (l : Items) (xs : List Item) → numbered l ≡ before xs ends → l ≡ before xs ends
+pub before-numbered : (l : Items) (xs : List Item) → numbered l ≡ before xs ends → l ≡ before xs ends
 before-numbered (more i l) (x ∷ xs) e =
     let ei : i ≡ x = cc in
     let el : numbered l ≡ before xs ends = cc in

@@ -1,0 +1,22 @@
+-- A plain area, its length aside: number 11 is tested before all else, and is no rule of plain areas. What such an area lists, its length aside, is what
+-- its full reading lists where it is short enough to have one (`listed-reads` of ListedLaws). Source: document 01, "Writer and plain areas": number
+-- 17 is what would break the rules other than by refusal 11.
+-- Definitions only; a reader must believe them.
+use Prim.Native.Nat.{ℕ}
+use mathlib.Core.Path.{_≡_}
+use mathlib.Core.List.{List}
+use mathlib.Core.Option.{some}
+use Rattle.walk.specs.Listing.{mapped}
+use Rattle.walk.specs.Spread.{spread}
+use Rattle.refusal.specs.Told.{told}
+use Rattle.refusal.specs.declared.Refusal.the-variants as why
+use Rattle.area.specs.Parts.{Raw, Lack, parts}
+use Rattle.reading.specs.Reading.{Items, itemsOf}
+use Rattle.plain.specs.Plain.{Last, nothing-yet, plainFrom}
+
+abbrev pub PlainAtAnyLength : List ℕ → Type 0
+PlainAtAnyLength s = (l : Last) × (plainFrom 0 nothing-yet (parts s) ≡ some l)
+
+-- the items of each subsection, one behind the other
+abbrev pub itemsIn : List ℕ → Items
+itemsIn s = spread itemsOf (mapped (λ (r : Raw). r) (λ (c : Lack). told why.Cut) (parts s))
