@@ -87,7 +87,7 @@ pub one-history : OneHistory
 one-history its its′ b b′ e =
     before-one (accepted its b) (accepted its′ b′) (sym (round crateRule crate-knows its b) ∙ ap (reading crateRule) e ∙ round crateRule crate-knows its′ b′)
 
-plain-short : (s : List ℕ) (l : Last) → plainOf s ≡ some l → length s ≤ longest
+pub plain-short : (s : List ℕ) (l : Last) → plainOf s ≡ some l → length s ≤ longest
 unfolding plainOf
 plain-short s l = by (ltb longest (length s)) refl
   where

@@ -14,3 +14,9 @@ pub mod Apart
 pub mod ApartLaws
 pub mod JoinedLaws
 pub mod Joined
+pub mod InWords
+pub mod SpotsLaws
+pub mod ItemLaws
+pub mod ToWordsLaws
+pub mod FromWordsLaws
+pub mod InWordsLaws

@@ -43,7 +43,7 @@ use Rattle.round_trip.specs.BackLaws.{no-some, marked-some, whole-list, 
 
 -- ---- a walk that also tests, and the same without
 
-not-before : {A B : Type 0} (r : Told) (bs : List B) → _≡_ {A = Listing B Told} (fails r) (before bs ends) → A
+pub not-before : {A B : Type 0} (r : Told) (bs : List B) → _≡_ {A = Listing B Told} (fails r) (before bs ends) → A
 not-before r [] e = let z : _≡_ {A = ℕ} 0 1 = cc in absurd (omega arith)
 not-before r (b ∷ bs) e = let z : _≡_ {A = ℕ} 0 1 = cc in absurd (omega arith)
 
@@ -95,7 +95,7 @@ block-holds c s =
     let ln : n ≡ length (wordsIn (2 * n) (drop blockHeadSize s)) / 2 = omega arith in
     record { pairs = omega arith; columns = words-length (columnsOf c n) (drop (blockHeadSize + 8 * n) s) ∙ ap (columnsOf c) ln })))))
 
-checksum-holds : (s : List ℕ) → Holds (Facts s) (checksumBite s)
+pub checksum-holds : (s : List ℕ) → Holds (Facts s) (checksumBite s)
 unfolding checksumBite
 checksum-holds s =
     let P : Move (List ℕ) Checksum Told → Type 0 = Holds (Facts s) in

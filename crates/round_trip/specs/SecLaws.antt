@@ -105,7 +105,7 @@ plain-checksum-forth c t g =
     (rw (eq-eqb (getD s 4 0) (sizeOf (getD s 5 0)) (e₄ ∙ g .size ∙ ap sizeOf (sym e₅)), eq-eqb (u16At s (6 + getD s 4 0)) 0 z))
     (checksum-forth c t (g .low))
 
-ascends-forth : (f : ℕ) (ps : List Pair) → Ascend f ps → ascendsFrom f (before ps ends) ≡ some (floorAfter f ps)
+pub ascends-forth : (f : ℕ) (ps : List Pair) → Ascend f ps → ascendsFrom f (before ps ends) ≡ some (floorAfter f ps)
 unfolding ascendsFrom
 ascends-forth f [] g = refl
 ascends-forth f (p ∷ ps) g = rw (le-leb f (p .local) (g .0)) (ascends-forth (p .local + 1) ps (g .1))
