@@ -59,7 +59,7 @@ done k f n o m = record { count = n + length (m .records); next = m .next; words
 
 -- fewer are enough where no more are given
 module _ {S B R : Type 0} (next : S → Answer S B R) where
-  many-fewer : (k j : ℕ) (w : S) → length (many next k w .records) ≤ j → j ≤ k → many next j w ≡ many next k w
+  pub many-fewer : (k j : ℕ) (w : S) → length (many next k w .records) ≤ j → j ≤ k → many next j w ≡ many next k w
   unfolding many
   many-fewer zero zero w h l = refl
   many-fewer zero (suc j) w h l = absurd (omega arith)

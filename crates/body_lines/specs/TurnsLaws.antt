@@ -51,6 +51,12 @@ module _ (rule : ℕ → Sort) (s v : List ℕ) (room : ℕ) where
     turns-put-on f g =
         record { under-way = λ w₀ o₀ e h. g .under-way w₀ o₀ e (f .under-way w₀ o₀ e h); less = omega (arith, f .less, g .less) }
 
+  -- where a call stands behind both
+  pub turns-put-both : {n n′ n″ : ℕ} {w w′ w″ : LineWalk} {o o′ o″ : List ℕ} (f : TurnsPut n w o n′ w′ o′) (g : TurnsPut n′ w′ o′ n″ w″ o″) (w₀ : LineWalk) (o₀ : List ℕ)
+      (e : length o₀ / recordSize ≡ room) (h : UnderWay rule s v w₀ o₀ n w o) → turns-put-on f g .under-way w₀ o₀ e h ≡ g .under-way w₀ o₀ e (f .under-way w₀ o₀ e h)
+  unfolding turns-put-on
+  turns-put-both f g w₀ o₀ e h = refl
+
   -- the walk behind the last record is known where a turn of its own gave that
   pub turns-put-last : {n n′ : ℕ} {w w′ : LineWalk} {o o′ : List ℕ} (f : TurnsPut n w o n′ w′ o′) (l : n′ < room) (r : LineRecord) (t : LineWalk) (o″ : List ℕ)
       (q : item r t ≡ turnOf rule s v w′) (eo : o″ ≡ store o′ (recordSize * n′) (recordWords r)) (w₀ : LineWalk) (o₀ : List ℕ) (e : length o₀ / recordSize ≡ room) (g : UnderWay rule s v w₀ o₀ n w o)

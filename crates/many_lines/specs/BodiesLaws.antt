@@ -1,35 +1,38 @@
--- Laws of the loop that makes turns one by one, and many at once: what it keeps, and how it stops.
-use Prim.Native.Nat.{ℕ, suc, _+_, _-_, _*_, _/_, _≤_, _<_}
-use mathlib.Core.Path.{_≡_, refl, sym, ap, _∙_, subst}
-use mathlib.Core.List.{List}
-use mathlib.Core.Bool.{Bool, true, false, cond}
+-- Laws of many turns at once, of the loop that makes turns one by one, and of how a call stops.
+use Prim.Native.Nat.{ℕ, suc, _+_, _-_, _*_, _/_, _^_, _≤_, _<_}
+use mathlib.Core.Path.{_≡_, refl, sym, ap, _∙_, subst, subst⁻¹}
+use mathlib.Core.Logic.{⊎-elim}
+use mathlib.Core.List.{List, _++_}
+use mathlib.Core.Bool.{Bool, true, false}
 use native.Mathlib.Omega.{arith}
-use lib.ListN.{length, getD, take}
-use lib.Dec.{eqb}
-use borrow.Author.Tests.{eqb-true, eqb-false}
+use lib.ListN.{length, getD, take, drop, take-append-drop}
+use lib.Seq.{length-take-le}
 use Rattle.word.specs.Word.{store}
-use Rattle.walk.specs.Cases.{by-cases}
-use Rattle.walk.specs.Listing.{item, pass, Answer, gives, none, gave}
+use Rattle.walk.specs.Cases.{le-or-gt, eq-or-ne}
+use Rattle.walk.specs.Listing.{item, pass, over, Answer, gives, none, refuses, Reply, gave, nothing}
 use Rattle.walk.specs.First.{onFirst}
-use Rattle.walk.specs.Many.{many}
-use Rattle.walk.specs.ManyLaws.{NoRecord, many-step, many-none, many-zero}
-use Rattle.refusal.specs.Told.{Told, longest}
-use Rattle.area.specs.Kind.{crateRule}
+use Rattle.walk.specs.ManyLaws.{NoRecord}
+use Rattle.refusal.specs.Told.{Told, told, longest}
+use Rattle.refusal.specs.declared.Refusal.the-variants as why
+use Rattle.area.specs.Kind.{Sort, known, crateRule}
 use Rattle.area.specs.Subs.{stepAt}
-use Rattle.area.specs.SubsLaws.{whole-known, head-whole, step-gives}
-use Rattle.line_record.specs.Record.{maxOffset, closedAt}
+use Rattle.area.specs.SubsLaws.{wholeAs, head-whole, step-gives}
+use Rattle.find.specs.Find.{Span}
 use Rattle.line_record.specs.declared.LineRecord.{LineRecord}
 use Rattle.line_state_words.specs.LineWords.{recordSize, recordWords}
-use Rattle.body.specs.Lines.{lineHead, columned}
-use Rattle.find.specs.Find.{bytesAt}
+use Rattle.line_state_words.specs.LineWordsLaws.{record-length}
 use Rattle.lines.specs.Lines.{countLines}
 use Rattle.lines.specs.LinesLaws.{counted-short}
 use Rattle.lines.specs.Slots.{slotAt}
-use Rattle.lines.specs.SlotsLaws.{seek-hit, scan-on, slot-is}
-use Rattle.lines.specs.Told.{toldHeader}
-use Rattle.lines.specs.declared.LineHeader.{LineHeader}
-use Rattle.line_step.specs.Turn.{LineMove, withHeld, placeAt, restAt, enterAt, betweenTurn, openOf, turnOf}
-use Rattle.line_step.specs.TurnLaws.{end-nothing, end-close, enter-in, sub-is, between-sub, block-is, inside-block, turn-is}
+use Rattle.lines.specs.SlotsLaws.{seek-hit, scan-on, slot-is, slot-missing, slot-scans, scans-start}
+use Rattle.lines.specs.Told.{toldNamed}
+use Rattle.lines.specs.declared.Named.{Named}
+use Rattle.body_list.specs.SearchLaws.{Right}
+use Rattle.body_list.specs.declared.Known.{Known}
+use Rattle.body_list.specs.declared.Known.the-variants as known
+use Rattle.line_step.specs.Turn.{LineMove, freshRest, withHeld, endHeld, enterPlace, behindBody, openOf, finishOf, turnOf}
+use Rattle.line_step.specs.TurnLaws.{end-on, sub-entered, enter-ends, between-end, between-sub, block-is, inside-block, turn-is}
+use Rattle.line_step.specs.declared.Held.{Held}
 use Rattle.line_step.specs.declared.Held.the-variants.{Nothing, One}
 use Rattle.line_step.specs.declared.Rest.{Rest}
 use Rattle.line_step.specs.declared.Place.{Place}
@@ -37,20 +40,27 @@ use Rattle.line_step.specs.declared.LineWalk.{LineWalk}
 use Rattle.line_step.specs.declared.LineWalk.the-variants.{New, Between, Inside}
 use Rattle.line_walk.specs.Next.{nextOf}
 use Rattle.line_walk.specs.NextLaws.{next-is}
-use Rattle.answer_words.specs.Fill.{noRoom, counted}
-use Rattle.list_test.specs.Begin.{beginAt}
+use Rattle.walk.specs.Many.{asMany, many}
+use Rattle.answer_words.specs.Fill.{noRoom, counted, fillOf}
 use Rattle.body_lines.specs.declared.InBody.{InBody}
 use Rattle.body_lines.specs.BodyLines.{Used, BodyPut}
-use Rattle.body_lines.specs.TurnsLaws.{UnderWay, TurnsPut, turns-put-same, turns-put-pass, turns-put-on}
-use Rattle.body_lines.specs.FillLaws.{Filled, turns-start, turns-record, turns-full, turns-stop, turns-none, turns-behind}
-use Rattle.many_lines.specs.ByListLaws.{ListLeads, begin-same, list-leads-kept}
-use Rattle.many_lines.specs.Bodies.{standsAt, Look, EndsTo, Leaves, EntersTo, EnteredIs, BodiesPut}
-use Rattle.many_lines.specs.declared.Entered.{Entered}
+use Rattle.body_lines.specs.BodyLinesLaws.{stored-length}
+use Rattle.body_lines.specs.TurnsLaws.{UnderWay, TurnsPut, turns-put-same, turns-put-pass, turns-put-record, turns-put-on, turns-put-both, turns-put-last}
+use Rattle.answer_words.specs.FillLaws as fill
+use Rattle.body_lines.specs.FillLaws.{Filled, turns-start, turns-full}
+use Rattle.many_lines.specs.Bodies.{Look, Knows, LocatedIs, LastAs, LastIs, walkAt, standsAt, StandOf, StandsFor, BodiesPut, toldEnd, StopsAt, FilledBy, Answers, Refilled, withoutRoom}
+use Rattle.many_lines.specs.AgainLaws.{same-count, same-state, lines-again}
+use Rattle.many_lines.specs.declared.Stand.{Stand}
+use Rattle.many_lines.specs.declared.Standing.{Standing}
 use Rattle.many_lines.specs.declared.Reached.{Reached}
+use Rattle.many_lines.specs.declared.End.{End}
+use Rattle.many_lines.specs.declared.End.the-variants as end
+use Rattle.many_lines.specs.declared.Stopped.{Stopped}
+use Rattle.many_lines.specs.declared.LinesStep.{LinesStep}
+use Rattle.many_lines.specs.declared.LinesStep.the-variants as lines-step
+use Rattle.many_lines.specs.Told.{toldLines}
 
--- ---- the measure of a loop that goes one of two ways
-
--- m is to be done, and `first` whether the first of two ways is tried
+-- how much is left to do: whether the walk is inside a body, and m subsections behind it
 abbrev pub toGo : Bool → ℕ → ℕ
 toGo true m = 2 * m + 1
 toGo false m = 2 * m
@@ -65,188 +75,385 @@ go-turn first k m e h next = subst (λ x. toGo next k < toGo x m) (sym e) (to ne
     to true = omega arith
     to false = omega arith
 
+not-so : {A : Type 0} → false ≡ true → A
+not-so e = let z : _≡_ {A = ℕ} 0 1 = cc in absurd (omega arith)
+
 -- ---- a search that ends at its first look
 
-module _ (s : List ℕ) (p u n : ℕ) (h : Look s p u n) where
-  look-step : gives (record { kind = 0xf2; start = p + 8; len = n }) (p + 8 + n) ≡ stepAt crateRule s p
-  look-step = step-gives crateRule s p (record { kind = 0xf2; start = p + 8; len = n }) (p + 8 + n)
-      (whole-known 0xf2 p n (omega arith) (omega arith)
-      ∙ head-whole crateRule s p (h .short) (omega (arith, h .place, h .inside)) (omega (arith, h .place, h .inside)) (omega (arith, h .place, h .inside))
+pub crate-lines : crateRule 0xf2 ≡ known
+unfolding crateRule
+crate-lines = refl
+
+module _ (rule : ℕ → Sort) (lines : rule 0xf2 ≡ known) (s : List ℕ) (p u n : ℕ) (h : Look s p u n) where
+  look-whole : item (record { kind = 0xf2; start = p + 8; len = n }) (p + 8 + n) ≡ wholeAs rule 0xf2 p n
+  unfolding wholeAs
+  look-whole = rw lines
+
+  look-step : gives (record { kind = 0xf2; start = p + 8; len = n }) (p + 8 + n) ≡ stepAt rule s p
+  look-step = step-gives rule s p (record { kind = 0xf2; start = p + 8; len = n }) (p + 8 + n)
+      (look-whole
+      ∙ head-whole rule s p (h .short) (omega (arith, h .place, h .inside)) (omega (arith, h .place, h .inside)) (omega (arith, h .place, h .inside))
       (omega (arith, h .place, h .inside, h .len)) 0xf2 n (sym (h .kind)) (sym (h .len)))
 
-  pub look-slot : (v : List ℕ) (i : ℕ) → i < length v → getD v i 0 ≡ u → gave (record { start = u; len = n }) ≡ slotAt crateRule s v i p
+  pub look-slot : (v : List ℕ) (i : ℕ) → i < length v → getD v i 0 ≡ u → gave (record { start = u; len = n }) ≡ slotAt rule s v i p
   look-slot v i l e =
       ap (λ (k : ℕ). gave (record { start = k; len = n })) (sym (h .place))
-      ∙ slot-is crateRule s v i p l p (gave (record { start = p + 8; len = n })) (scan-on p (getD v i 0) (omega (arith, h .place)))
-      (seek-hit crateRule s p (getD v i 0) (record { kind = 0xf2; start = p + 8; len = n }) (p + 8 + n) look-step (h .place ∙ sym e) refl)
+      ∙ slot-is rule s v i p l p (gave (record { start = p + 8; len = n })) (scan-on p (getD v i 0) (omega (arith, h .place)))
+      (seek-hit rule s p (getD v i 0) (record { kind = 0xf2; start = p + 8; len = n }) (p + 8 + n) look-step (h .place ∙ sym e) refl)
 
--- ---- the end of a body, and the next one
+-- ---- the body that a slot names
 
-pub ends-nothing : (h : LineHeader) (t : Rest) → t .held ≡ Nothing → EndsTo h t t
-ends-nothing h t e = record { turn = end-nothing (t .held) h t e; left = refl }
+module _ (rule : ℕ → Sort) (s v b : List ℕ) (i p : ℕ) where
+  -- what is known stays so behind a body that is found from there on
+  right-on : (k : Known) → Right rule s b k p → (a : Span) → gave a ≡ slotAt rule s v i p → Right rule s b k (a .start + a .len)
+  right-on known.Nothing g a e = tt
+  right-on known.Place g a e = slot-scans rule s v i p g a e
+  right-on known.Bodies g a e = (slot-scans rule s v i p (g .0) a e, g .1)
+  right-on known.Other g a e = slot-scans rule s v i p g a e
 
-pub ends-one : (h : LineHeader) (t : Rest) (r k : LineRecord) → t .held ≡ One r → h .offset + h .code ≤ maxOffset → k ≡ closedAt (h .section) (h .offset + h .code) r
-    → EndsTo h t (withHeld t (One k))
-ends-one h t r k e l ek = record { turn = end-close (t .held) h t r e l k (withHeld t (One k)) ek refl; left = refl }
+  pub located-as : (k : Known) (x : Named) → Knows rule s b k p → toldNamed x ≡ slotAt rule s v i p → LocatedIs rule s v b i p (record { named = x; known = k })
+  located-as k x g e = record { named = e; known = λ a q. record { so = right-on k (g .so) a (q ∙ e) } }
 
-module _ (s : List ℕ) (t : Rest) (a n : ℕ) where
-  -- k is the length of the part that was lent, and g its header
-  pub enters-in : 12 ≤ n → 1 ≤ t .left → (k : ℕ) (g : LineHeader) → k ≡ n → toldHeader g ≡ lineHead (bytesAt s (record { start = a; len = k }))
-      → EntersTo (enterAt s t a n) t (placeAt g (a + 12) (a + n)) (restAt t (a + n))
-  enters-in h l k g ek eg = record { turn = enter-in s t a n h k g (placeAt g (a + 12) (a + n)) ek eg refl; less = omega arith }
+pub knows-nothing : (rule : ℕ → Sort) (s b : List ℕ) (p : ℕ) → Knows rule s b known.Nothing p
+knows-nothing rule s b p = record { so = tt }
 
-module _ (s v : List ℕ) (whole : ℕ) (t : Rest) (h : ListLeads crateRule s v whole (Between t)) (l : t .left ≡ 0 → ⊥) where
-  -- y is where the search began, and r what the body at a is entered as
-  pub enters-next : (y a n : ℕ) (r : Entered) → y ≡ beginAt v whole (t .slot) (t .scan) → gave (record { start = a; len = n }) ≡ slotAt crateRule s v (t .slot) y
-      → EnteredIs (enterAt s t a n) t r → EnteredIs (betweenTurn crateRule s v t) t r
-  enters-next y a n r ey e k =
-      subst (λ m. EnteredIs m t r)
-      (sub-is crateRule s v t (gave (record { start = a; len = n })) (e ∙ ap (slotAt crateRule s v (t .slot)) ey ∙ begin-same crateRule s v whole t h) ∙ between-sub crateRule s v t l) k
+pub knows-at : (rule : ℕ → Sort) (s b : List ℕ) (k : Known) (p q : ℕ) → p ≡ q → Knows rule s b k q → Knows rule s b k p
+knows-at rule s b k p q e = subst⁻¹ (Knows rule s b k) e
 
--- the turn that opens a walk, k being how many line subsections there are
-pub open-turn : (s v : List ℕ) (k : ℕ) → gave k ≡ countLines crateRule s → pass (Between (record { slot = 0; left = k; scan = 0; held = Nothing })) ≡ turnOf crateRule s v New
-open-turn s v k e = ap openOf e ∙ turn-is crateRule s v New (counted-short crateRule s k e) New refl
+-- ---- the last record, as code puts it
 
--- the turn into a body
-pub enter-turn : (s v : List ℕ) (t : Rest) (q : Place) (u : Rest) → length s ≤ longest → EntersTo (betweenTurn crateRule s v t) t q u → pass (Inside q u) ≡ turnOf crateRule s v (Between t)
-enter-turn s v t q u f z = z .turn ∙ turn-is crateRule s v (Between t) f (Between t) refl
+module _ (n : ℕ) (t : Rest) (o : List ℕ) where
+  pub last-none : t .held ≡ Nothing → LastIs n t o (record { n = n; walk = Between t; over = false }) o
+  last-none e = record { is = subst⁻¹ (λ x. LastAs x n t o (record { n = n; walk = Between t; over = false }) o) e (refl, refl) }
+
+  pub last-one : (q : LineRecord) (u : Rest) (o′ : List ℕ) → t .held ≡ One q → u ≡ withHeld t Nothing → o′ ≡ store o (recordSize * n) (recordWords q)
+      → LastIs n t o (record { n = n + 1; walk = Between u; over = true }) o′
+  last-one q u o′ e eu eo = record {
+    is = subst⁻¹ (λ x. LastAs x n t o (record { n = n + 1; walk = Between u; over = true }) o′) e
+        (ap (λ x. record { n = n + 1; walk = Between x; over = true }) eu, eo);
+  }
+
+-- ---- turns that pass on
+
+module _ (rule : ℕ → Sort) (s v : List ℕ) where
+  -- over the end of a body: o is the record that is held then
+  pub pass-end : (p : Place) (t u : Rest) (o : Held) → Used s p → gave o ≡ endHeld (p .head) (t .held) → u ≡ withHeld t o → pass (Between u) ≡ turnOf rule s v (Inside p t)
+  pass-end p t u o k e eu =
+      end-on (p .head) t o u e eu ∙ block-is (take (p .end) s) p t nothing (k .over) ∙ inside-block s p t (k .fit .body) (k .lines)
+      ∙ turn-is rule s v (Inside p t) (k .fit .short) (Inside p t) refl
+
+  -- into the next one, whose n bytes start at a
+  module _ (t : Rest) (f : length s ≤ longest) (l : t .left ≡ 0 → ⊥) (g : length v < 2 ^ 64) (a n : ℕ)
+      (e : gave (record { start = a; len = n }) ≡ slotAt rule s v (t .slot) (t .scan)) (q : Place) (eq : gave q ≡ enterPlace s a n) where
+    pub pass-in : (u : Rest) → u ≡ behindBody t (q .end) → pass (Inside q u) ≡ turnOf rule s v (Between t)
+    pass-in u eu =
+        sub-entered rule s v t a n g e q u eq eu ∙ between-sub rule s v t l ∙ turn-is rule s v (Between t) f (Between t) refl
+
+    pub in-less : (u : Rest) → u ≡ behindBody t (q .end) → u .left < t .left
+    in-less u eu = let z : u .left ≡ t .left - 1 = ap (λ r. r .left) eu in omega arith
+
+    pub in-scan : (u : Rest) → u ≡ behindBody t (q .end) → u .scan ≡ a + n
+    in-scan u eu = ap (λ r. r .scan) eu ∙ enter-ends s a n q eq
+
+  -- the last record is given
+  pub last-gives : (t u : Rest) (r : LineRecord) → length s ≤ longest → t .left ≡ 0 → t .held ≡ One r → u ≡ withHeld t Nothing → item r (Between u) ≡ turnOf rule s v (Between t)
+  last-gives t u r f z e eu =
+      ap (λ x. item r (Between x)) eu ∙ given (t .held) e ∙ between-end rule s v t z ∙ turn-is rule s v (Between t) f (Between t) refl
+    where
+      given : (o : Held) → o ≡ One r → item r (Between (withHeld t Nothing)) ≡ finishOf (withHeld t o)
+      given o q = rw q
+
+  last-over : (t u : Rest) → length s ≤ longest → t .left ≡ 0 → u ≡ withHeld t Nothing → over ≡ turnOf rule s v (Between u)
+  last-over t u f z eu =
+      between-end rule s v (withHeld t Nothing) z ∙ turn-is rule s v (Between (withHeld t Nothing)) f (Between (withHeld t Nothing)) refl
+      ∙ ap (λ x. turnOf rule s v (Between x)) (sym eu)
+
+  -- ---- where a walk stands
+
+  module _ (b : List ℕ) where
+    pub stand-same : (w : LineWalk) (x : Stand) → length s ≤ longest → Knows rule s b (x .known) (x .rest .scan) → w ≡ standsAt x → StandOf rule s v b w x
+    stand-same w x f g e =
+        record { short = f; known = g; turns = λ room n o l. subst (λ y. TurnsPut rule s v room n w o n y o) e (turns-put-same rule s v room) }
+
+    -- a new walk; k is how many line subsections there are
+    pub stand-new : (w : LineWalk) (k : ℕ) (p : Place) (t : Rest) → w ≡ New → gave k ≡ countLines rule s → t ≡ freshRest 0 k
+        → StandOf rule s v b w (record { inside = false; place = p; rest = t; known = known.Place })
+    stand-new w k p t ew e et =
+        let f = counted-short rule s k e in
+        let q : pass (Between t) ≡ turnOf rule s v w = ap (λ x. pass (Between x)) et ∙ ap openOf e ∙ turn-is rule s v w f New ew in
+        record {
+          short = f;
+          known = subst⁻¹ (λ x. Knows rule s b known.Place (x .scan)) et (record { so = scans-start rule s });
+          turns = λ room n o l. turns-put-pass rule s v room l (Between t) q;
+        }
+
+-- w is x
+pub stands-as : (rule : ℕ → Sort) (s : List ℕ) (w x : LineWalk) (r : Standing) → w ≡ x → StandsFor rule s x r → StandsFor rule s w r
+stands-as rule s w x r e = subst⁻¹ (λ y. StandsFor rule s y r) e
 
 -- ---- many turns at once
 
-module _ (s v : List ℕ) (whole room n : ℕ) (w : LineWalk) (o : List ℕ) where
-  -- none; x is what w is
-  pub bodies-put-same : ListLeads crateRule s v whole w → (x : LineWalk) → w ≡ x → BodiesPut s v whole room n w o (record { n = n; walk = x }) o
-  bodies-put-same h x e = subst (λ y. BodiesPut s v whole room n w o (record { n = n; walk = y }) o) e (record { size = refl; leads = h; turns = turns-put-same s v room })
+module _ (rule : ℕ → Sort) (s v : List ℕ) (n : ℕ) (w : LineWalk) (o : List ℕ) where
+  -- where they have come to so far: x stands with room for another record
+  pub record Comes (m : ℕ) (x : LineWalk) (o′ : List ℕ) : Type 0 where
+    pub size : length o′ ≡ length o
+    pub turns : TurnsPut rule s v (length o / recordSize) n w o m x o′
 
-  pub bodies-put-as : (x : LineWalk) → w ≡ x → (r : Reached) (o′ : List ℕ) → BodiesPut s v whole room n x o r o′ → BodiesPut s v whole room n w o r o′
-  bodies-put-as x e r o′ h = subst (λ y. BodiesPut s v whole room n y o r o′) (sym e) h
+  pub comes-first : Comes n w o
+  comes-first = record { size = refl; turns = turns-put-same rule s v (length o / recordSize) }
 
   -- b says whether it is inside a body
-  pub bodies-put-at : (b c : Bool) → b ≡ c → (m : ℕ) (p : Place) (t : Rest) (o′ : List ℕ) → BodiesPut s v whole room n w o (record { n = m; walk = standsAt b p t }) o′
-      → BodiesPut s v whole room n w o (record { n = m; walk = standsAt c p t }) o′
-  bodies-put-at b c e m p t o′ = subst (λ x. BodiesPut s v whole room n w o (record { n = m; walk = standsAt x p t }) o′) e
-
-  -- a turn before them
-  pub bodies-put-pass : (x : LineWalk) → pass x ≡ turnOf crateRule s v w → n < room → (r : Reached) (o′ : List ℕ) → BodiesPut s v whole room n x o r o′ → BodiesPut s v whole room n w o r o′
-  bodies-put-pass x e l r o′ h = record { size = h .size; leads = h .leads; turns = turns-put-on s v room (turns-put-pass s v room l x e) (h .turns) }
+  pub comes-at : (b c : Bool) → b ≡ c → (m : ℕ) (p : Place) (t : Rest) (o′ : List ℕ) → Comes m (walkAt b p t) o′ → Comes m (walkAt c p t) o′
+  comes-at b c e m p t o′ = subst (λ x. Comes m (walkAt x p t) o′) e
 
   module _ (m : ℕ) (o′ : List ℕ) where
-    bodies-put-lines : (p : Place) (t : Rest) (r : InBody) (o″ : List ℕ) → BodiesPut s v whole room n w o (record { n = m; walk = Inside p t }) o′ → BodyPut s room p (t .held) m o′ r o″
-        → BodiesPut s v whole room n w o (record { n = r .n; walk = Inside (r .place) (withHeld t (r .held)) }) o″
-    bodies-put-lines p t r o″ h k = record {
-      size = k .size ∙ h .size;
-      leads = record { place = h .leads .place; whole = h .leads .whole; right = h .leads .right };
-      turns = turns-put-on s v room (h .turns) (k .turns v t);
+    pub comes-pass : (x y : LineWalk) → Comes m x o′ → m < length o / recordSize → pass y ≡ turnOf rule s v x → Comes m y o′
+    comes-pass x y h l e = record { size = h .size; turns = turns-put-on rule s v (length o / recordSize) (h .turns) (turns-put-pass rule s v (length o / recordSize) l y e) }
+
+    -- the lines of a body, u being what is behind them
+    pub comes-lines : (p : Place) (t : Rest) (r : InBody) (o″ : List ℕ) (u : Rest) → Comes m (Inside p t) o′
+        → BodyPut rule s (length o′ / recordSize) p (t .held) m o′ r o″ → u ≡ withHeld t (r .held) → Comes (r .n) (Inside (r .place) u) o″
+    comes-lines p t r o″ u h k e =
+        let er : length o′ / recordSize ≡ length o / recordSize = ap (λ (x : ℕ). x / recordSize) (h .size) in
+        let g = subst (λ (x : ℕ). TurnsPut rule s v x m (Inside p t) o′ (r .n) (Inside (r .place) (withHeld t (r .held))) o″) er (k .turns v t) in
+        subst (λ x. Comes (r .n) (Inside (r .place) x) o″) (sym e)
+        (record { size = k .size ∙ h .size; turns = turns-put-on rule s v (length o / recordSize) (h .turns) g })
+
+  -- ---- how they end
+
+  pub bodies-stuck : (m : ℕ) (x : LineWalk) (o′ : List ℕ) → Comes m x o′ → BodiesPut rule s v n w o (record { n = m; walk = x; over = false }) o′
+  bodies-stuck m x o′ h = record { size = h .size; turns = h .turns; ends = not-so; exactly = not-so }
+
+  -- r is where code says that it is
+  pub bodies-at : (m : ℕ) (x : LineWalk) (o′ : List ℕ) (r : Reached) → Comes m x o′ → r ≡ record { n = m; walk = x; over = false } → BodiesPut rule s v n w o r o′
+  bodies-at m x o′ r h e = subst⁻¹ (λ y. BodiesPut rule s v n w o y o′) e (bodies-stuck m x o′ h)
+
+  -- behind a walk that stands at x
+  pub bodies-behind : (x : Stand) (b : List ℕ) (r : Reached) (o′ : List ℕ) → StandOf rule s v b w x → n < length o / recordSize → BodiesPut rule s v n (standsAt x) o r o′
+      → BodiesPut rule s v n w o r o′
+  bodies-behind x b r o′ h l k =
+      let room = length o / recordSize in
+      let f = h .turns room n o l in
+      record {
+        size = k .size;
+        turns = turns-put-on rule s v room f (k .turns);
+        ends = k .ends;
+        exactly = λ z w₁ o₁ e g. ap (λ u. u .last) (turns-put-both rule s v room f (k .turns) w₁ o₁ e g) ∙ k .exactly z w₁ o₁ e (f .under-way w₁ o₁ e g);
+      }
+
+  pub bodies-none : BodiesPut rule s v n w o (record { n = n; walk = w; over = false }) o
+  bodies-none = record { size = refl; turns = turns-put-same rule s v (length o / recordSize); ends = not-so; exactly = not-so }
+
+  pub bodies-last : (m : ℕ) (t u : Rest) (o′ o″ : List ℕ) (r : LineRecord) → Comes m (Between t) o′ → m < length o / recordSize → length s ≤ longest → t .left ≡ 0 → t .held ≡ One r
+      → u ≡ withHeld t Nothing → o″ ≡ store o′ (recordSize * m) (recordWords r) → recordSize * m + recordSize ≤ length o′
+      → BodiesPut rule s v n w o (record { n = m + 1; walk = Between u; over = true }) o″
+  bodies-last m t u o′ o″ r h l f z e eu eo k =
+      let room = length o / recordSize in
+      let q = last-gives rule s v t u r f z e eu in
+      record {
+        size = stored-length o′ (recordSize * m) r o″ eo k ∙ h .size;
+        turns = turns-put-on rule s v room (h .turns) (turns-put-record rule s v room l r (Between u) o″ q eo);
+        ends = λ _. (last-over rule s v t u f z eu, omega arith);
+        exactly = λ _ w₁ o₁ e₁ g. turns-put-last rule s v room (h .turns) l r (Between u) o″ q eo w₁ o₁ e₁ g;
+      }
+
+  -- a is what `last_record` answers
+  pub bodies-finish : (m : ℕ) (t : Rest) (o′ o″ : List ℕ) (r : Reached) → Comes m (Between t) o′ → m < length o / recordSize → length s ≤ longest → t .left ≡ 0
+      → recordSize * m + recordSize ≤ length o′ → LastIs m t o′ r o″ → BodiesPut rule s v n w o r o″
+  bodies-finish m t o′ o″ r h l f z k a = by (t .held) refl (a .is)
+    where
+      by : (x : Held) → t .held ≡ x → LastAs x m t o′ r o″ → BodiesPut rule s v n w o r o″
+      by Nothing e q = rw (q .0, q .1) (bodies-stuck m (Between t) o′ h)
+      by (One c) e q = subst⁻¹ (λ y. BodiesPut rule s v n w o y o″) (q .0) (bodies-last m t (withHeld t Nothing) o′ o″ c h l f z e refl (q .1) k)
+
+-- ---- turn by turn
+
+module _ (rule : ℕ → Sort) (s v : List ℕ) (n₀ : ℕ) (w₀ : LineWalk) (o₀ : List ℕ) where
+  -- what the loop keeps: n records are put, the walk stands at w, and `exact` says that this is right behind the last of them
+  pub record Turning (n : ℕ) (w : LineWalk) (exact : Bool) (o : List ℕ) : Type 0 where
+    pub size : length o ≡ length o₀
+    pub turns : TurnsPut rule s v (length o₀ / recordSize) n₀ w₀ o₀ n w o
+    pub exactly : exact ≡ true → (w₁ : LineWalk) (o₁ : List ℕ) (e : length o₁ / recordSize ≡ length o₀ / recordSize) (g : UnderWay rule s v w₁ o₁ n₀ w₀ o₀)
+        → turns .under-way w₁ o₁ e g .last ≡ w
+
+  pub turning-start : Turning n₀ w₀ false o₀
+  turning-start = record { size = refl; turns = turns-put-same rule s v (length o₀ / recordSize); exactly = not-so }
+
+  module _ (n : ℕ) (w : LineWalk) (exact : Bool) (o : List ℕ) (h : Turning n w exact o) where
+    abbrev room : ℕ
+    room = length o₀ / recordSize
+
+    module _ (l : n < length o₀ / recordSize) where
+      pub turning-record : (r : LineRecord) (t : LineWalk) (o′ : List ℕ) → item r t ≡ turnOf rule s v w → o′ ≡ store o (recordSize * n) (recordWords r)
+          → recordSize * n + recordSize ≤ length o → Turning (n + 1) t true o′
+      turning-record r t o′ e q k = record {
+        size = stored-length o (recordSize * n) r o′ q k ∙ h .size;
+        turns = turns-put-on rule s v room (h .turns) (turns-put-record rule s v room l r t o′ e q);
+        exactly = λ _ w₁ o₁ f g. turns-put-last rule s v room (h .turns) l r t o′ e q w₁ o₁ f g;
+      }
+
+      -- a turn that passes on, and many at once behind it
+      pub turning-pass : (t : LineWalk) (x : Reached) (o′ : List ℕ) → pass t ≡ turnOf rule s v w → BodiesPut rule s v n t o x o′ → Turning (x .n) (x .walk) false o′
+      turning-pass t x o′ e k =
+          let er : length o / recordSize ≡ length o₀ / recordSize = ap (λ (z : ℕ). z / recordSize) (h .size) in
+          let f = subst (λ (z : ℕ). TurnsPut rule s v z n t o (x .n) (x .walk) o′) er (k .turns) in
+          record {
+            size = k .size ∙ h .size;
+            turns = turns-put-on rule s v room (h .turns) (turns-put-on rule s v room (turns-put-pass rule s v room l t e) f);
+            exactly = not-so;
+          }
+
+      -- a turn that tells an end
+      pub turning-stops : (u : LineMove) (k : End) → u ≡ turnOf rule s v w → toldEnd k ≡ onFirst (nextOf rule s v) u
+          → StopsAt rule s v n₀ w₀ o₀ (record { n = n; walk = w; exact = exact; end = k }) o
+      turning-stops u k e q = record {
+        size = h .size;
+        turns = h .turns;
+        exactly = λ x _. h .exactly x;
+        stops = λ _. q ∙ next-is rule s v w u e;
+        inexact = λ _. l;
+      }
+
+    pub turning-full : length o₀ / recordSize ≤ n → StopsAt rule s v n₀ w₀ o₀ (record { n = n; walk = w; exact = true; end = end.None }) o
+    turning-full l = record {
+      size = h .size;
+      turns = h .turns;
+      exactly = λ _ z. absurd (omega arith);
+      stops = λ z. absurd (omega arith);
+      inexact = λ z. not-so (sym z);
     }
 
-    pub bodies-put-stuck : (p : Place) (t : Rest) (r : InBody) (o″ : List ℕ) (u : Rest) → BodiesPut s v whole room n w o (record { n = m; walk = Inside p t }) o′
-        → BodyPut s room p (t .held) m o′ r o″ → u ≡ withHeld t (r .held) → BodiesPut s v whole room n w o (record { n = r .n; walk = Inside (r .place) u }) o″
-    bodies-put-stuck p t r o″ u h k e = subst (λ x. BodiesPut s v whole room n w o (record { n = r .n; walk = Inside (r .place) x }) o″) (sym e) (bodies-put-lines p t r o″ h k)
+end-no-record : (k : End) → NoRecord (toldEnd k)
+end-no-record end.None = tt
+end-no-record (end.Refused r) = tt
 
-    -- a body that is used up
-    bodies-put-end : (r : InBody) (u x : Rest) → r .n ≡ m → Used s room r → BodiesPut s v whole room n w o (record { n = m; walk = Inside (r .place) u }) o′ → EndsTo (r .place .head) u x
-        → BodiesPut s v whole room n w o (record { n = m; walk = Between x }) o′
-    bodies-put-end r u x en k h z =
-        let e = z .turn ∙ block-is (take (r .place .end) s) (r .place) u (columned (r .place .head .flags)) refl none (k .over)
-        ∙ inside-block s (r .place) u (k .fit .body) (k .lines) ∙ turn-is crateRule s v (Inside (r .place) u) (k .fit .short) (Inside (r .place) u) refl in
-        record {
-          size = h .size;
-          leads = list-leads-kept crateRule s v whole (Inside (r .place) u) (h .leads) (pass (Between x)) e;
-          turns = turns-put-on s v room (h .turns) (turns-put-pass s v room (omega (arith, k .less)) (Between x) e);
-        }
+-- ---- how a call stops
 
-    pub bodies-put-enter : (t : Rest) (q : Place) (u : Rest) → length s ≤ longest → m < room → BodiesPut s v whole room n w o (record { n = m; walk = Between t }) o′
-        → EntersTo (betweenTurn crateRule s v t) t q u → BodiesPut s v whole room n w o (record { n = m; walk = Inside q u }) o′
-    bodies-put-enter t q u f l h z =
-        let e = enter-turn s v t q u f z in
-        record {
-          size = h .size;
-          leads = list-leads-kept crateRule s v whole (Between t) (h .leads) (pass (Inside q u)) e;
-          turns = turns-put-on s v room (h .turns) (turns-put-pass s v room l (Inside q u) e);
-        }
+module _ (rule : ℕ → Sort) (s v : List ℕ) (w₀ : LineWalk) (o₁ : List ℕ) (fits : recordSize ≤ length o₁) where
+  abbrev begun : UnderWay rule s v w₀ o₁ 0 w₀ o₁
+  begun = record { last = w₀; fills = turns-start rule s v w₀ o₁; full = λ z. refl }
 
-  -- the lines of a body that is used up then, and its end
-  pub bodies-put-used : (m : ℕ) (o′ : List ℕ) (p : Place) (t : Rest) (r : InBody) (o″ : List ℕ) (x : Rest) → BodiesPut s v whole room n w o (record { n = m; walk = Inside p t }) o′
-      → BodyPut s room p (t .held) m o′ r o″ → Leaves r t x
-      → BodiesPut s v whole room n w o (record { n = r .n; walk = Between x }) o″
-  bodies-put-used m o′ p t r o″ x h k z = bodies-put-end (r .n) o″ r (withHeld t (r .held)) x refl (k .used (z .free)) (bodies-put-lines m o′ p t r o″ h k) (z .ends)
+  -- there is no more room
+  pub filled-full : (n : ℕ) (w : LineWalk) (o : List ℕ) → UnderWay rule s v w₀ o₁ n w o → length o₁ / recordSize ≤ n → Filled rule s v w₀ o₁ (gives n w) o
+  filled-full n w o h l = subst (λ z. Filled rule s v w₀ o₁ (gives n z) o) (h .full l) (turns-full rule s v w₀ o₁ (h .fills) fits l)
 
--- ---- the walk behind so many records
+  -- no record comes: a is what is answered where another was looked for
+  module _ (n : ℕ) (w : LineWalk) (o : List ℕ) (h : UnderWay rule s v w₀ o₁ n w o) (a : Answer LineWalk LineRecord Told) (e : a ≡ nextOf rule s v w) (f : NoRecord a) where
+    pub filled-stop : (n ≡ 0 → ⊥) → Filled rule s v w₀ o₁ (gives n (h .last)) o
+    filled-stop z = fill.fill-stop recordSize recordWords record-length (nextOf rule s v) w₀ o₁ (h .fills) fits a e f z
 
-module _ (s v : List ℕ) (w₀ : LineWalk) (n : ℕ) where
-  -- some are behind `last`, and `left` are to come; w is where the turns from there on stand
-  pub record Behind (left : ℕ) (last w : LineWalk) : Type 0 where
-    pub same : nextOf crateRule s v w ≡ nextOf crateRule s v last
-    pub rest : many (nextOf crateRule s v) left last .next ≡ many (nextOf crateRule s v) n w₀ .next
+    pub filled-none : n ≡ 0 → Filled rule s v w₀ o₁ (counted (noRoom a)) o
+    filled-none z = fill.fill-none recordSize recordWords record-length (nextOf rule s v) w₀ o₁ (h .fills) fits a e f z
 
-  pub behind-start : Behind n w₀ w₀
-  behind-start = record { same = refl; rest = refl }
+  -- the walk is over
+  pub filled-over : (r : Reached) (o : List ℕ) → BodiesPut rule s v 0 w₀ o₁ r o → r .over ≡ true → Filled rule s v w₀ o₁ (gives (r .n) (r .walk)) o
+  filled-over r o h z =
+      let k = h .turns .under-way w₀ o₁ refl begun in
+      subst (λ x. Filled rule s v w₀ o₁ (gives (r .n) x) o) (h .exactly z w₀ o₁ refl begun)
+      (filled-stop (r .n) (r .walk) o k none (next-is rule s v (r .walk) over (h .ends z .0)) tt (λ y. let m = h .ends z .1 in omega arith))
 
-  module _ (left : ℕ) (last w : LineWalk) (h : Behind left last w) where
-    pub behind-pass : (t : LineWalk) → pass t ≡ turnOf crateRule s v w → Behind left last t
-    behind-pass t e = record { same = next-is crateRule s v w (pass t) e ∙ h .same; rest = h .rest }
+  -- many turns at once, and then whatever answers
+  pub filled-on : (r : Reached) (o : List ℕ) → BodiesPut rule s v 0 w₀ o₁ r o → UnderWay rule s v w₀ o₁ (r .n) (r .walk) o
+  filled-on r o h = h .turns .under-way w₀ o₁ refl begun
 
-    pub behind-record : 0 < left → (r : LineRecord) (t : LineWalk) → item r t ≡ turnOf crateRule s v w → Behind (left - 1) t t
-    behind-record l r t e =
-        let k : suc (left - 1) ≡ left = omega arith in
-        record {
-          same = refl;
-          rest =
-              ap (λ m. m .next) (many-step (nextOf crateRule s v) (left - 1) last (gives r t) (next-is crateRule s v w (item r t) e ∙ h .same))
-              ∙ ap (λ (x : ℕ). many (nextOf crateRule s v) x last .next) k ∙ h .rest;
-        }
+  -- the records once more, with n of them behind many turns at once and x where turns stopped
+  pub refilled : (r : Reached) (o : List ℕ) (x : Stopped) (o′ : List ℕ) → BodiesPut rule s v 0 w₀ o₁ r o → StopsAt rule s v (r .n) (r .walk) o x o′ → Refilled rule s v w₀ o₁ (x .walk) o′
+  refilled r o x o′ h k = ⊎-elim full stops (le-or-gt (length o₁ / recordSize) (x .n))
+    where
+      er : length o₁ / recordSize ≡ length o / recordSize
+      er = ap (λ (z : ℕ). z / recordSize) (sym (h .size))
 
-    pub behind-stop : (u : LineMove) → u ≡ turnOf crateRule s v w → NoRecord (onFirst (nextOf crateRule s v) u) → last ≡ many (nextOf crateRule s v) n w₀ .next
-    behind-stop u e f =
-        ap (λ m. m .next) (sym (many-none (nextOf crateRule s v) left last (subst NoRecord (next-is crateRule s v w u e ∙ h .same) f))) ∙ h .rest
+      under : UnderWay rule s v w₀ o₁ (x .n) (x .walk) o′
+      under = k .turns .under-way w₀ o₁ er (filled-on r o h)
 
-    pub behind-end : left ≤ 0 → last ≡ many (nextOf crateRule s v) n w₀ .next
-    behind-end l =
-        let z : 0 ≡ left = omega arith in
-        ap (λ m. m .next) (sym (many-zero (nextOf crateRule s v) last)) ∙ ap (λ (x : ℕ). many (nextOf crateRule s v) x last .next) z ∙ h .rest
+      full : length o₁ / recordSize ≤ x .n → Refilled rule s v w₀ o₁ (x .walk) o′
+      full l = record { answer = gives (x .n) (x .walk); filled = filled-full (x .n) (x .walk) o′ under l; full = λ n last e z. sym (same-state e) }
 
--- ---- the loop
+      some : (x .n ≡ 0 → ⊥) → x .n < length o₁ / recordSize → Refilled rule s v w₀ o₁ (x .walk) o′
+      some z l = record {
+        answer = gives (x .n) (under .last);
+        filled = filled-stop (x .n) (x .walk) o′ under (toldEnd (x .end)) (k .stops (omega arith)) (end-no-record (x .end)) z;
+        full = λ n last e y. let m = same-count e in absurd (omega arith);
+      }
 
-module _ (s v : List ℕ) (w₀ : LineWalk) (o₀ : List ℕ) where
-  -- n records are put, and the walk stands at w, which is known to be the one behind the last record where `exact` says so
-  pub record Reaches (n : ℕ) (w : LineWalk) (exact : Bool) (o : List ℕ) : Type 0 where
-    pub under-way : UnderWay s v w₀ o₀ n w o
-    pub exactly : exact ≡ true → under-way .last ≡ w
+      no-answer : (a : End) (n : ℕ) (last : LineWalk) → counted (noRoom (toldEnd a)) ≡ gives n last → ⊥
+      no-answer end.None n last e = let z : _≡_ {A = ℕ} 0 1 = cc in omega arith
+      no-answer (end.Refused t) n last e = let z : _≡_ {A = ℕ} 0 1 = cc in omega arith
 
-  pub reach-start : Reaches 0 w₀ true o₀
-  reach-start = record { under-way = record { last = w₀; fills = turns-start crateRule s v w₀ o₀; full = λ f. refl }; exactly = λ e. refl }
+      nothing-put : x .n ≡ 0 → x .n < length o₁ / recordSize → Refilled rule s v w₀ o₁ (x .walk) o′
+      nothing-put z l = record {
+        answer = counted (noRoom (toldEnd (x .end)));
+        filled = filled-none (x .n) (x .walk) o′ under (toldEnd (x .end)) (k .stops (omega arith)) (end-no-record (x .end)) z;
+        full = λ n last e y. absurd (no-answer (x .end) n last e);
+      }
 
-  module _ (n : ℕ) (w : LineWalk) (exact : Bool) (o : List ℕ) (h : Reaches n w exact o) where
-    pub reach-record : (r : LineRecord) (t : LineWalk) (o′ : List ℕ) → item r t ≡ turnOf crateRule s v w → n < length o₀ / recordSize → o′ ≡ store o (recordSize * n) (recordWords r)
-        → Reaches (n + 1) t true o′
-    reach-record r t o′ e l q =
-        record { under-way = record { last = t; fills = turns-record crateRule s v w₀ o₀ (h .under-way .fills) r t o′ e l q; full = λ f. refl }; exactly = λ x. refl }
+      stops : x .n < length o₁ / recordSize → Refilled rule s v w₀ o₁ (x .walk) o′
+      stops l = ⊎-elim (λ (z : x .n ≡ 0). nothing-put z l) (λ (z : x .n ≡ 0 → ⊥). some z l) (eq-or-ne (x .n) 0)
 
-    -- many turns, or one that passes on
-    pub reach-goes : (room m : ℕ) (t : LineWalk) (o′ : List ℕ) → length o₀ / recordSize ≡ room → TurnsPut s v room n w o m t o′ → Reaches m t false o′
-    reach-goes room m t o′ er k = record { under-way = k .under-way w₀ o₀ er (h .under-way); exactly = λ z. let y : _≡_ {A = ℕ} 0 1 = cc in absurd (omega arith) }
+-- the room of n records, of which there is one at least
+pub take-fits : (o : List ℕ) (n : ℕ) → (n ≡ 0 → ⊥) → recordSize * n ≤ length o → recordSize ≤ length (take (recordSize * n) o)
+take-fits o n z h = omega (arith, length-take-le (recordSize * n) o h)
 
-    module _ (room : recordSize ≤ length o₀) where
-      pub reach-full : length o₀ / recordSize ≤ n → Filled crateRule s v w₀ o₀ (gives n w) o
-      reach-full l = subst (λ x. Filled crateRule s v w₀ o₀ (gives n x) o) (h .under-way .full l) (turns-full crateRule s v w₀ o₀ (h .under-way .fills) room l)
+-- ---- a call that stands behind many turns at once, and then stops at x
 
-      -- u is a turn that gives no record and does not pass on
-      module _ (u : LineMove) (e : u ≡ turnOf crateRule s v w) (f : NoRecord (onFirst (nextOf crateRule s v) u)) where
-        stop-told : (n ≡ 0 → ⊥) → Filled crateRule s v w₀ o₀ (gives n (cond exact w (many (nextOf crateRule s v) n w₀ .next))) o
-        stop-told z =
-            let q = turns-stop crateRule s v w₀ o₀ (h .under-way .fills) room u e f z in
-            let b = turns-behind crateRule s v w₀ o₀ (h .under-way .fills) u e f in
-            subst (λ x. Filled crateRule s v w₀ o₀ x o) (ap (gives n) (which exact (h .exactly) b)) q
-          where
-            which : (x : Bool) → (x ≡ true → h .under-way .last ≡ w) → h .under-way .last ≡ many (nextOf crateRule s v) n w₀ .next
-                → h .under-way .last ≡ cond x w (many (nextOf crateRule s v) n w₀ .next)
-            which true f g = f refl
-            which false f g = g
+module _ (rule : ℕ → Sort) (s v : List ℕ) (w₀ : LineWalk) (n : ℕ) (w : LineWalk) (o : List ℕ) (x : Stopped) (o′ : List ℕ) (h : StopsAt rule s v n w o x o′) where
+  module _ (o₁ : List ℕ) (e : length o₁ ≡ length o) (g : UnderWay rule s v w₀ o₁ n w o) where
+    abbrev same-room : length o₁ / recordSize ≡ length o / recordSize
+    same-room = ap (λ (z : ℕ). z / recordSize) e
 
-        pub reach-stop : (a : Answer LineWalk ℕ Told)
-            → a ≡ cond (eqb n 0) (counted (noRoom (onFirst (nextOf crateRule s v) u))) (gives n (cond exact w (many (nextOf crateRule s v) n w₀ .next)))
-            → Filled crateRule s v w₀ o₀ a o
-        reach-stop a ea =
-            subst (λ x. Filled crateRule s v w₀ o₀ x o) (sym ea)
-            (by-cases (λ x. Filled crateRule s v w₀ o₀ x o) (eqb n 0) (λ z. turns-none crateRule s v w₀ o₀ (h .under-way .fills) room u e f (eqb-true n 0 z))
-            (λ z. stop-told (eqb-false n 0 z)))
+    abbrev under-x : UnderWay rule s v w₀ o₁ (x .n) (x .walk) o′
+    under-x = h .turns .under-way w₀ o₁ same-room g
+
+  -- there is none
+  pub answers-none : x .n ≡ 0 → (r : LinesStep) → toldLines r ≡ counted (noRoom (toldEnd (x .end))) → Answers rule s v w₀ n w o r o′
+  answers-none z r er = record {
+    filled = λ o₁ e fits g.
+        let l : x .n < length o / recordSize = omega arith in
+        subst (λ a. Filled rule s v w₀ o₁ a o′) (sym er)
+        (filled-none rule s v w₀ o₁ fits (x .n) (x .walk) o′ (under-x o₁ e g) (toldEnd (x .end)) (h .stops l) (end-no-record (x .end)) z);
+  }
+
+  -- the walk is right behind the last
+  pub answers-exact : (x .n ≡ 0 → ⊥) → x .exact ≡ true → Answers rule s v w₀ n w o (lines-step.Lines (x .n) (x .walk)) o′
+  answers-exact z q = record {
+    filled = λ o₁ e fits g. ⊎-elim
+        (λ (l : length o₁ / recordSize ≤ x .n). filled-full rule s v w₀ o₁ fits (x .n) (x .walk) o′ (under-x o₁ e g) l)
+        (λ (l : x .n < length o₁ / recordSize).
+        subst (λ y. Filled rule s v w₀ o₁ (gives (x .n) y) o′) (h .exactly q (omega (arith, same-room o₁ e g)) w₀ o₁ (same-room o₁ e g) g)
+        (filled-stop rule s v w₀ o₁ fits (x .n) (x .walk) o′ (under-x o₁ e g) (toldEnd (x .end)) (h .stops (omega (arith, same-room o₁ e g))) (end-no-record (x .end)) z))
+        (le-or-gt (length o₁ / recordSize) (x .n));
+  }
+
+  -- it is found by filling the room of just these once more, y being the walk behind them
+  pub answers-again : (x .n ≡ 0 → ⊥) → x .exact ≡ false → (y : LineWalk) (o″ : List ℕ) → Refilled rule s v w₀ (take (recordSize * x .n) o′) y o″
+      → Answers rule s v w₀ n w o (lines-step.Lines (x .n) y) (o″ ++ drop (recordSize * x .n) o′)
+  answers-again z q y o″ k = record {
+    filled = λ o₁ e fits g.
+        let l = h .inexact q in
+        let f = filled-stop rule s v w₀ o₁ fits (x .n) (x .walk) o′ (under-x o₁ e g) (toldEnd (x .end)) (h .stops l) (end-no-record (x .end)) z in
+        let a = lines-again rule s v w₀ o₁ o′ (x .n) (under-x o₁ e g .last) fits f (k .answer) o″ (k .filled) in
+        let m : recordSize * x .n ≤ length o′ = omega (arith, h .size) in
+        let d : x .n ≡ length (take (recordSize * x .n) o′) / recordSize = omega (arith, length-take-le (recordSize * x .n) o′ m) in
+        let ey : under-x o₁ e g .last ≡ y = k .full (x .n) (under-x o₁ e g .last) (a .0) (omega arith) in
+        let eo : o′ ≡ o″ ++ drop (recordSize * x .n) o′ = sym (take-append-drop (recordSize * x .n) o′) ∙ ap (λ l. l ++ drop (recordSize * x .n) o′) (sym (a .1)) in
+        subst (λ u. Filled rule s v w₀ o₁ (gives (x .n) y) u) eo (subst (λ u. Filled rule s v w₀ o₁ (gives (x .n) u) o′) ey f);
+  }
+
+-- ---- without room for a record: x and o″ are what is answered with room for one, the words y
+
+one-room : (rule : ℕ → Sort) (s v : List ℕ) (w : LineWalk) → withoutRoom (counted (fillOf recordSize (nextOf rule s v) recordSize w)) ≡ counted (noRoom (nextOf rule s v w))
+unfolding fillOf
+one-room rule s v w = on (nextOf rule s v w)
+  where
+    on : (a : Answer LineWalk LineRecord Told) → withoutRoom (counted (asMany (many (nextOf rule s v) (recordSize / recordSize) w) a)) ≡ counted (noRoom a)
+    on (gives r t) = refl
+    on none = refl
+    on (refuses t) = refl
+
+pub lines-short : (rule : ℕ → Sort) (s v : List ℕ) (w : LineWalk) (o : List ℕ) → length o < recordSize → (y o″ : List ℕ) (x b : LinesStep)
+    → FilledBy rule s v w y x o″ → length y ≡ recordSize → toldLines b ≡ withoutRoom (toldLines x) → Filled rule s v w o (toldLines b) o
+lines-short rule s v w o h y o″ x b q ey e =
+    let f = fill.fill-no-room recordSize recordWords record-length (nextOf rule s v) w o h (nextOf rule s v w) refl in
+    let eb : toldLines b ≡ counted (noRoom (nextOf rule s v w))
+    = e ∙ ap withoutRoom (q .is .0) ∙ ap (λ (n : ℕ). withoutRoom (counted (fillOf recordSize (nextOf rule s v) n w))) ey ∙ one-room rule s v w in
+    subst⁻¹ (λ a. Filled rule s v w o a o) eb f

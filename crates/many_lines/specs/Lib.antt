@@ -1,7 +1,6 @@
 pub mod Lines
 pub mod Told
 pub mod Untold
-pub mod ByList
-pub mod ByListLaws
+pub mod AgainLaws
 pub mod Bodies
 pub mod BodiesLaws
