@@ -32,8 +32,8 @@
  * fault: it has one answer, too. So words that another call answered are a state as well, and may be that of a walk at its end: begin each walk with
  * zeros in an `out` of its own, or with a struct of those below.
  *
- * An area or a stream of more than 16,777,216 bytes is refused with C13_TOO_LONG, before anything else; but c13_plain says C13_NONE of such an area,
- * and the buffer of the writer may be longer. */
+ * An area, a stream or checksum data of more than 16,777,216 bytes is refused with C13_TOO_LONG, before anything else; but c13_plain says C13_NONE of such
+ * an area, and the buffer of the writer may be longer. */
 #ifndef C13_H
 #define C13_H
 
@@ -165,9 +165,20 @@ uint32_t c13_next_file(const uint8_t *area, size_t area_len, uint64_t *out, size
  * words of `out` too short, and nothing changes. */
 uint32_t c13_files(const uint8_t *area, size_t area_len, uint32_t *records, size_t records_len, uint64_t *out, size_t out_len);
 
-/* The file at an index, as line records name it. The index is a place in the checksum data: at its end C13_NO_FILE, behind it C13_CUT.
- *   out[0] its name's offset   out[1] checksum kind   out[2] start of its bytes   out[3] their length */
+/* The file at an index, as line records name it. The index is a place in the checksum data: at its end C13_NO_FILE, behind it C13_CUT. Each call passes
+ * over the headers of the whole area twice: whoever asks for more than one file asks c13_checksums once, and c13_file_in for each.
+ *   out[0] its name's offset   out[1] checksum kind   out[2] start of its bytes in the area   out[3] their length */
 uint32_t c13_file_at(const uint8_t *area, size_t area_len, uint32_t index, uint64_t *out, size_t out_len);
+
+/* The part of the area that is its checksum data, for c13_file_in. Without such a subsection the part is empty, and both words are 0. Refused as
+ * c13_file_at is for what is wrong with the area.
+ *   out[0] its start   out[1] its length */
+uint32_t c13_checksums(const uint8_t *area, size_t area_len, uint64_t *out, size_t out_len);
+
+/* The file at an index of checksum data that is lent alone: what c13_file_at answers, but that its bytes are placed in the data. Any bytes are taken; what it
+ * costs does not depend on their number.
+ *   out[0] its name's offset   out[1] checksum kind   out[2] start of its bytes in the data   out[3] their length */
+uint32_t c13_file_in(const uint8_t *data, size_t data_len, uint32_t index, uint64_t *out, size_t out_len);
 
 /* ---- inlinees, imports, exports: from the first subsection of their kind; without one there are none. State as of c13_next_file */
 
@@ -484,6 +495,19 @@ static inline enum c13_status c13_file_walk_many(struct c13_file_walk *walk, str
 static inline enum c13_status c13_ask_file_at(const uint8_t *area, size_t area_len, uint64_t index, struct c13_file *file, struct c13_refused *why) {
     uint64_t out[4] = {0, 0, 0, 0};
     enum c13_status status = c13_told(c13_file_at(area, area_len, c13_number(index), out, 4), out, why);
+    if (status == C13_GIVEN) c13_file_of(file, index, out);
+    return status;
+}
+/* The checksum data of an area, and a file of it, whose `start` names a part of the data: c13_checksums, c13_file_in. */
+static inline enum c13_status c13_ask_checksums(const uint8_t *area, size_t area_len, struct c13_part *data, struct c13_refused *why) {
+    uint64_t out[2] = {0, 0};
+    enum c13_status status = c13_told(c13_checksums(area, area_len, out, 2), out, why);
+    if (status == C13_GIVEN) { data->start = out[0]; data->length = out[1]; }
+    return status;
+}
+static inline enum c13_status c13_ask_file_in(const uint8_t *data, size_t data_len, uint64_t index, struct c13_file *file, struct c13_refused *why) {
+    uint64_t out[4] = {0, 0, 0, 0};
+    enum c13_status status = c13_told(c13_file_in(data, data_len, c13_number(index), out, 4), out, why);
     if (status == C13_GIVEN) c13_file_of(file, index, out);
     return status;
 }

@@ -66,6 +66,8 @@ calls! {
     c13_next_file([area: u8]);
     c13_files([area: u8] [mut records: FileWord]);
     c13_file_at([area: u8] (index: u32));
+    c13_checksums([area: u8]);
+    c13_file_in([data: u8] (index: u32));
     c13_next_inlinee([area: u8]);
     c13_next_import([area: u8]);
     c13_word([area: u8] (place: usize) (count: usize) (i: usize));

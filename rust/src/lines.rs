@@ -1,10 +1,11 @@
 //! Lines and files.
 
 use crate::calls::{self, FileWord, RecordWord, FILE_RECORD, LINE_STATE, RECORD, TABLE_STATE};
-use crate::words::{one, optional, part, size, word, word32, Many, Walk};
+use crate::words::{answer, one, optional, part, size, within, word, word32, Many, Walk};
 use crate::{Refusal, StringRef};
 use std::fmt;
 use std::iter::FusedIterator;
+use std::sync::atomic::{AtomicU64, Ordering};
 
 /// A place in code: a section of the executable, and an offset in it. Shown as in the sheet, the offset in hex: `1:88`.
 #[derive(Clone, Copy, Debug, Default, Eq, Hash, Ord, PartialEq, PartialOrd)]
@@ -178,9 +179,43 @@ pub struct FileInfo<'a> {
 }
 
 impl<'a> FileInfo<'a> {
-    /// The words: name, kind, start and length.
-    fn of<W: Copy + Into<u64>>(area: &'a [u8], w: &[W], i: usize) -> FileInfo<'a> {
-        FileInfo { name: StringRef(word32(w, i)), checksum: FileChecksum::of(word(w, i + 1), part(area, w, i + 2)) }
+    /// The words: name, kind, and start and length of a part of the bytes.
+    fn of<W: Copy + Into<u64>>(bytes: &'a [u8], w: &[W], i: usize) -> FileInfo<'a> {
+        FileInfo { name: StringRef(word32(w, i)), checksum: FileChecksum::of(word(w, i + 1), part(bytes, w, i + 2)) }
+    }
+}
+
+/// Where the checksum data stands in an area: its start in the high half, its length in the low one. Before it is first asked for, no part of any area.
+/// Whoever looks for it finds the same, so that no order of memory has to be asked for.
+#[derive(Debug)]
+struct ChecksumPart(AtomicU64);
+
+impl ChecksumPart {
+    fn unknown() -> Self {
+        ChecksumPart(AtomicU64::new(u64::MAX))
+    }
+
+    /// The checksum data of the area, which is always the same one.
+    #[inline]
+    fn of<'a>(&self, area: &'a [u8]) -> Result<&'a [u8], Refusal> {
+        let found = self.0.load(Ordering::Relaxed);
+        match within(area, (found >> 32) as usize, found as u32 as usize) {
+            Some(data) => Ok(data),
+            None => self.find(area),
+        }
+    }
+
+    #[cold]
+    fn find<'a>(&self, area: &'a [u8]) -> Result<&'a [u8], Refusal> {
+        let out: [u64; 2] = one(|out| calls::c13_checksums(area, out))?;
+        self.0.store(word(&out, 0) << 32 | word(&out, 1), Ordering::Relaxed);
+        Ok(part(area, &out, 0))
+    }
+}
+
+impl Clone for ChecksumPart {
+    fn clone(&self) -> Self {
+        ChecksumPart(AtomicU64::new(self.0.load(Ordering::Relaxed)))
     }
 }
 
@@ -189,6 +224,7 @@ impl<'a> FileInfo<'a> {
 pub struct LineProgram<'a> {
     area: &'a [u8],
     slots: Vec<u32>,
+    checksums: ChecksumPart,
 }
 
 impl<'a> LineProgram<'a> {
@@ -204,7 +240,7 @@ impl<'a> LineProgram<'a> {
         let out: [u64; 2] = one(|out| calls::c13_order_list(area, &mut slots, out))?;
         slots.truncate(size(&out, 0));
         slots.shrink_to_fit();
-        Ok(LineProgram { area, slots })
+        Ok(LineProgram { area, slots, checksums: ChecksumPart::unknown() })
     }
 
     /// All line records, by ascending section and offset of their subsections.
@@ -246,9 +282,12 @@ impl<'a> LineProgram<'a> {
     ///
     /// [`Refusal::NoFile`] at the end of the checksum data; [`Refusal::Cut`] behind it, and where the entry there is cut;
     /// [`Refusal::UnknownChecksumKind`].
+    #[inline]
     pub fn get_file_info(&self, index: FileIndex) -> Result<FileInfo<'a>, Refusal> {
-        let out: [u64; 4] = one(|out| calls::c13_file_at(self.area, index.0, out))?;
-        Ok(FileInfo::of(self.area, &out, 0))
+        let data = self.checksums.of(self.area)?;
+        let mut out = [0; 4];
+        answer(calls::c13_file_in(data, index.0, &mut out), &out, 0)?;
+        Ok(FileInfo::of(data, &out, 0))
     }
 }
 

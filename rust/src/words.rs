@@ -24,25 +24,45 @@ pub(crate) fn optional<W: Copy + Into<u64>>(words: &[W], i: usize) -> Option<u32
 }
 
 /// The part of the bytes whose start and length are the words at i.
+#[inline]
 pub(crate) fn part<'a, W: Copy + Into<u64>>(bytes: &'a [u8], words: &[W], i: usize) -> &'a [u8] {
-    let start = size(words, i);
-    let end = start.saturating_add(size(words, i + 1));
-    bytes.get(start..end).unwrap_or(&[])
+    within(bytes, size(words, i), size(words, i + 1)).unwrap_or_else(empty)
+}
+
+/// The part of the bytes at a place, if it lies in them.
+#[inline]
+pub(crate) fn within(bytes: &[u8], start: usize, length: usize) -> Option<&[u8]> {
+    bytes.get(start..).and_then(|rest| rest.get(..length))
+}
+
+#[cold]
+fn empty<'a>() -> &'a [u8] {
+    &[]
+}
+
+/// Why a call of this status gave no answer: the refusal whose words these are.
+#[cold]
+fn refused(status: u32, words: &[u64]) -> Refusal {
+    match status {
+        REFUSED => Refusal::of(word(words, 0), word(words, 1)),
+        // The words lent are always enough, so this is not answered.
+        _ => Refusal::of(0, u64::from(status)),
+    }
 }
 
 /// What a call answered whose status this is: the words from `state` on, or nothing, or the refusal that stands there.
+#[inline]
 pub(crate) fn answer(status: u32, out: &[u64], state: usize) -> Result<Option<&[u64]>, Refusal> {
     let words = out.get(state..).unwrap_or(&[]);
     match status {
         NONE => Ok(None),
         GIVEN | LAST => Ok(Some(words)),
-        REFUSED => Err(Refusal::of(word(words, 0), word(words, 1))),
-        // The words lent are always enough, so this is not answered.
-        _ => Err(Refusal::of(0, u64::from(status))),
+        _ => Err(refused(status, words)),
     }
 }
 
 /// The answer of a call that is no walk and never answers "none".
+#[inline]
 pub(crate) fn one<const N: usize>(call: impl FnOnce(&mut [u64]) -> u32) -> Result<[u64; N], Refusal> {
     let mut out = [0; N];
     let status = call(&mut out);

@@ -67,6 +67,19 @@ fn files_are_listed_and_found() {
 }
 
 #[test]
+fn files_are_found_in_the_last_checksum_data() {
+    let area = [subsection(0xf4, &[5, 0]), subsection(0xf4, &[6, 0, 7, 0])].concat();
+    let (program, without) = (Area::new(&area).line_program().expect("program"), Area::new(&[]).line_program().expect("program"));
+    // asked again, and asked of a copy, it is where it was found
+    for (program, without) in [(&program, &without), (&program, &without), (&program.clone(), &without.clone())] {
+        assert_eq!([0, 8].map(|i| program.get_file_info(FileIndex(i)).expect("file").name), [StringRef(6), StringRef(7)]);
+        assert_eq!(program.get_file_info(FileIndex(16)).map(|_| ()), Err(Refusal::NoFile(16)));
+        assert_eq!(without.get_file_info(FileIndex(0)).map(|_| ()), Err(Refusal::NoFile(0)));
+        assert_eq!(without.get_file_info(FileIndex(1)).map(|_| ()), Err(Refusal::Cut));
+    }
+}
+
+#[test]
 fn many_files_are_all_given() {
     // More than one call gives, each of 8 bytes without a checksum; the last is cut.
     for whole in [0, 1, 15, 16, 17, 32, 40] {

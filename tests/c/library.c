@@ -47,6 +47,7 @@ static uint32_t files(const uint8_t *a, size_t n, uint64_t *o, size_t m) {
 }
 static uint32_t symbol(const uint8_t *a, size_t n, uint64_t *o, size_t m) { return c13_lines_for_symbol(a, n, slots, slots_used, 1, number, o, m); }
 static uint32_t file_at(const uint8_t *a, size_t n, uint64_t *o, size_t m) { return c13_file_at(a, n, number, o, m); }
+static uint32_t file_in(const uint8_t *a, size_t n, uint64_t *o, size_t m) { return c13_file_in(a, n, number, o, m); }
 static uint32_t resolve_import(const uint8_t *a, size_t n, uint64_t *o, size_t m) { return c13_resolve_import(a, n, number, o, m); }
 static uint32_t resolve_export(const uint8_t *a, size_t n, uint64_t *o, size_t m) { return c13_resolve_export(a, n, number, o, m); }
 static uint32_t word_at(const uint8_t *a, size_t n, uint64_t *o, size_t m) { return c13_word(a, n, 8, 2, number, o, m); }
@@ -56,7 +57,7 @@ static uint32_t lines_part(const uint8_t *a, size_t n, uint64_t *o, size_t m) { 
 static uint32_t tables_part(const uint8_t *a, size_t n, uint64_t *o, size_t m) { return c13_tables_part(a, n, sizes[0], sizes[1], sizes[2], o, m); }
 
 /* The name, the words of its state, the words of an answer with it, and what the function reads. */
-enum reads { AN_AREA, NAMES, A_MODULE };
+enum reads { AN_AREA, NAMES, A_MODULE, CHECKSUMS, SORTS };
 static const struct function {
     const char *name;
     call *f;
@@ -84,6 +85,8 @@ static const struct function {
     {"c13_plain", c13_plain, 0, 3, AN_AREA},
     {"c13_lines", lines, C13_LINE_STATE, C13_LINE_STATE + 2, AN_AREA},
     {"c13_files", files, C13_TABLE_STATE, C13_TABLE_STATE + 2, AN_AREA},
+    {"c13_checksums", c13_checksums, 0, 2, AN_AREA},
+    {"c13_file_in", file_in, 0, 4, CHECKSUMS},
 };
 enum { FUNCTIONS = sizeof functions / sizeof *functions };
 
@@ -223,6 +226,8 @@ static void examples(const uint8_t *area, size_t n, const uint8_t *names, size_t
     for (size_t f = 0; f < 13; f++)
         if (functions[f].state) ask(functions[f].name, area, n);
     for (number = 0; number <= 25; number += number == 24 ? 1 : 24) ask("c13_file_at", area, n);
+    ask("c13_checksums", area, n);
+    for (number = 0; number <= 25; number += number == 24 ? 1 : 24) ask("c13_file_in", area + 8, 24);
     for (number = 0; number < 3; number++) ask("c13_word", area, n);
     static const uint32_t references[] = {0x80000001, 0x80000002, 0x80100000, 1};
     for (size_t i = 0; i < 4; i++) number = references[i], ask("c13_resolve_import", area, n);
@@ -314,8 +319,8 @@ static uint32_t tried(const struct function *f, const uint8_t *bytes, size_t n, 
     return status;
 }
 
-/* Whole bytes of each sort: an area, names, a module. */
-static struct { const uint8_t *bytes; size_t n; } whole[3];
+/* Whole bytes of each sort: an area, names, a module, the checksum data of the area. */
+static struct { const uint8_t *bytes; size_t n; } whole[SORTS];
 
 /* Each function with 0 to WORDS words for its answer: too few are told, and change nothing. */
 static void few_words(void) {
@@ -480,6 +485,7 @@ int main(int argc, char **argv) {
     whole[AN_AREA].bytes = every_bytes, whole[AN_AREA].n = sizeof every;
     whole[NAMES].bytes = names, whole[NAMES].n = k;
     whole[A_MODULE].bytes = module, whole[A_MODULE].n = sizeof module;
+    whole[CHECKSUMS].bytes = every_bytes + 8, whole[CHECKSUMS].n = 24;
     nothing_lent();
     few_words();
     by_chance();

@@ -165,6 +165,22 @@ static void symbol_lines(const uint8_t *area, size_t n, size_t used, uint32_t of
     if (told == C13_REFUSED && c13_line_walk_next(&walk, &line) != C13_REFUSED) exit(1);
 }
 
+/* A file of the checksum data alone: as from the call, and as c13_file_at finds it in the area, but for the place of its bytes. */
+static void files_in(const uint8_t *area, size_t n, struct c13_part data, uint32_t index) {
+    uint64_t out[5] = {index, 0, 0, 0, 0}, whole[4] = {0, 0, 0, 0};
+    struct c13_file file;
+    struct file_words wide;
+    struct c13_refused why;
+    uint32_t status = c13_file_in(area + data.start, (size_t)data.length, index, out + 1, 4);
+    enum c13_status told = c13_ask_file_in(area + data.start, (size_t)data.length, index, &file, &why);
+    if (told == C13_GIVEN) widen(&wide, &file);
+    same("c13_ask_file_in", status, status == C13_GIVEN ? out : out + 1, told, &wide, sizeof wide, &why);
+    if (c13_checksums(area, n, whole, 2) != C13_GIVEN) return;
+    if (c13_file_at(area, n, index, whole, 4) != status) exit(1);
+    if (status == C13_GIVEN) whole[2] -= data.start;
+    if (memcmp(whole, out + 1, (status == C13_GIVEN ? 4 : 2) * sizeof *whole)) exit(1);
+}
+
 static void area_questions(const uint8_t *area, size_t n) {
     static const uint64_t indices[] = {0, 1, 7, 23, 24, 25, 0x80000000, 0x80000001, 0x80000008, 0x80100000, UINT32_MAX};
     uint64_t out[C13_MOST], fields[5];
@@ -188,6 +204,10 @@ static void area_questions(const uint8_t *area, size_t n) {
         told = c13_ask_word(area, n, 8, 2, index, fields, &why);
         same("c13_ask_word", status, out, told, fields, 8, &why);
     }
+    struct c13_part data = {0, 0};
+    status = c13_checksums(area, n, out, 2);
+    same("c13_ask_checksums", status, out, c13_ask_checksums(area, n, &data, &why), &data, sizeof data, &why);
+    for (size_t i = 0; i < sizeof indices / sizeof *indices; i++) files_in(area, n, data, (uint32_t)indices[i]);
     status = c13_export_count(area, n, out, 2);
     same("c13_ask_export_count", status, out, c13_ask_export_count(area, n, fields, &why), fields, 8, &why);
 }

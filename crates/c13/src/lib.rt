@@ -12,7 +12,7 @@ ghost use Rattle.writer_decides.specs.Calls.{callLines, callBlock, callChecksum
 ghost use Rattle.area.specs.Kind.{crateRule};
 ghost use Rattle.answer_words.specs.Given.{Gives};
 ghost use Rattle.export_parts.specs.Calls.{subGiven, namesGiven, nameGiven, symbolsGiven, linesPartGiven, tablesPartGiven};
-ghost use Rattle.export_files.specs.Calls.{fileGiven, filesGiven, filesLeft, infoGiven};
+ghost use Rattle.export_files.specs.Calls.{fileGiven, filesGiven, filesLeft, infoGiven, checksumsGiven, fileInGiven};
 ghost use Rattle.export_tables.specs.Calls.{wordGiven, inlineeGiven, moduleGiven, refGiven, exportGiven, countGiven, globalGiven};
 ghost use Rattle.export_lines.specs.Calls.{linesGiven, recordsLeft};
 ghost use Rattle.export_lines.specs.Calls.{orderGiven, slotsLeft, lineGiven, symbolGiven};
@@ -47,6 +47,20 @@ pub extern "C" fn c13_file_at(area: &[u8], index: u32, out: &mut [u64]) -> u32
     ensures { λ r. ⌜ Gives (now (out .entry)) (infoGiven crateRule (now (area .entry)) index) r (now (out .exit)) ⌝ }
 {
     export_files::file_at(area, index, out)
+}
+
+#[no_mangle]
+pub extern "C" fn c13_checksums(area: &[u8], out: &mut [u64]) -> u32
+    ensures { λ r. ⌜ Gives (now (out .entry)) (checksumsGiven crateRule (now (area .entry))) r (now (out .exit)) ⌝ }
+{
+    export_files::checksums(area, out)
+}
+
+#[no_mangle]
+pub extern "C" fn c13_file_in(body: &[u8], index: u32, out: &mut [u64]) -> u32
+    ensures { λ r. ⌜ Gives (now (out .entry)) (fileInGiven (now (body .entry)) index) r (now (out .exit)) ⌝ }
+{
+    export_files::file_in(body, index, out)
 }
 
 #[no_mangle]

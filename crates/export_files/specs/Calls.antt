@@ -1,10 +1,12 @@
--- What each call on files gives, by the rule of kinds. s is the area, and o the lent words, whose first are a walk's state. Source: docs/DECISIONS.md, 32.
+-- What each call on files gives, by the rule of kinds. s is the area, b a checksum body that is lent alone, and o the lent words, whose first are a
+-- walk's state. Source: docs/DECISIONS.md, 32.
 -- Definitions only; a reader must believe them.
 use Prim.Native.Nat.{ℕ}
-use mathlib.Core.List.{List}
+use mathlib.Core.List.{List, [], _∷_}
 use lib.ListN.{length}
 use Rattle.area.specs.Kind.{Sort}
-use Rattle.files.specs.Files.{fileStep, fileAt}
+use Rattle.find.specs.Find.{Span}
+use Rattle.files.specs.Files.{fileStep, fileAt, checksumPart, fileIn}
 use Rattle.answer_words.specs.Given.{Given, stepGiven, replyGiven}
 use Rattle.answer_words.specs.TableWords.{tableStateSize, walkIn, walkWords, overTable, tableWords}
 use Rattle.answer_words.specs.FillGiven.{fillGiven, fillLeft}
@@ -24,3 +26,13 @@ filesLeft rule s x o = fillLeft tableStateSize fileWords o x (filesOf rule s (le
 
 abbrev pub infoGiven : (ℕ → Sort) → List ℕ → ℕ → Given
 infoGiven rule s index = replyGiven infoWords (fileAt rule s index)
+
+-- the place and the length of the checksum body
+abbrev pub partWords : Span → List ℕ
+partWords a = a .start ∷ a .len ∷ []
+
+abbrev pub checksumsGiven : (ℕ → Sort) → List ℕ → Given
+checksumsGiven rule s = replyGiven partWords (checksumPart rule s)
+
+abbrev pub fileInGiven : List ℕ → ℕ → Given
+fileInGiven b index = replyGiven infoWords (fileIn b index)

@@ -1,10 +1,13 @@
-// The calls on files, for programs in other languages: the walk one file at a time, many files in one call, and the file at an index. A call answers a
-// status, and the words of the answer as the crate `answer_words` puts them. The crate `c13` gives each its C name.
+// The calls on files, for programs in other languages: the walk one file at a time, many files in one call, the file at an index of the area, and, for
+// whoever asks often, the checksum body and the file at an index of that. A call answers a status, and the words of the answer as the crate
+// `answer_words` puts them. The crate `c13` gives each its C name.
 ghost use mathlib.Core.Path.{_≡_};
 ghost use lib.ListN.{length};
 ghost use Rattle.area.specs.Kind.{crateRule};
-ghost use Rattle.answer_words.specs.Given.{Gives};
-ghost use Rattle.export_files.specs.Calls.{fileGiven, filesGiven, filesLeft, infoGiven};
+ghost use Rattle.answer_words.specs.Given.{Gives, replyGiven};
+ghost use Rattle.files.specs.Told.{toldInfo};
+ghost use Rattle.many_files.specs.FileWords.{infoWords};
+ghost use Rattle.export_files.specs.Calls.{fileGiven, filesGiven, filesLeft, infoGiven, checksumsGiven, fileInGiven};
 use answer_words::GIVEN;
 use answer_words::NONE;
 use answer_words::REFUSAL_WORDS;
@@ -19,6 +22,8 @@ use answer_words::walk_words;
 use checksums::number;
 use files::FileAnswer;
 use files::FileStep;
+use files::checksum_body;
+use find::Found;
 use many_files::FilesStep;
 use many_files::next_files;
 
@@ -84,11 +89,11 @@ pub fn files(area: &[u8], records: &mut [u32], out: &mut [u64]) -> u32
     }
 }
 
-// The file at an index. Words: its name, its checksum's kind, and the place and the length of the bytes.
-pub fn file_at(area: &[u8], index: u32, out: &mut [u64]) -> u32
-    ensures { λ r. ⌜ Gives (now (out .entry)) (infoGiven crateRule (now (area .entry)) index) r (now (out .exit)) ⌝ }
+// What is known of a file. Words: its name, its checksum's kind, and the place and the length of the bytes.
+fn put_info(out: &mut [u64], answer: FileAnswer) -> u32
+    ensures { λ r. ⌜ Gives (now (out .entry)) (replyGiven infoWords (toldInfo answer)) r (now (out .exit)) ⌝ }
 {
-    match files::file_at(area, index) {
+    match answer {
         FileAnswer::File {
             name,
             kind,
@@ -100,4 +105,29 @@ pub fn file_at(area: &[u8], index: u32, out: &mut [u64]) -> u32
         }
         FileAnswer::Refused(why) => put_refusal(out, 0, why),
     }
+}
+
+// The file at an index.
+pub fn file_at(area: &[u8], index: u32, out: &mut [u64]) -> u32
+    ensures { λ r. ⌜ Gives (now (out .entry)) (infoGiven crateRule (now (area .entry)) index) r (now (out .exit)) ⌝ }
+{
+    put_info(out, files::file_at(area, index))
+}
+
+// Where the checksum body stands in the area. Words: its start and its length; without one both are 0.
+pub fn checksums(area: &[u8], out: &mut [u64]) -> u32
+    ensures { λ r. ⌜ Gives (now (out .entry)) (checksumsGiven crateRule (now (area .entry))) r (now (out .exit)) ⌝ }
+{
+    match checksum_body(area) {
+        Found::At { start, len } => put(out, 0, &[start as u64, len as u64], GIVEN),
+        Found::None => put(out, 0, &[0, 0], GIVEN),
+        Found::Refused(why) => put_refusal(out, 0, why),
+    }
+}
+
+// The file at an index of a checksum body that is lent alone: the place of the bytes is one in the body.
+pub fn file_in(body: &[u8], index: u32, out: &mut [u64]) -> u32
+    ensures { λ r. ⌜ Gives (now (out .entry)) (fileInGiven (now (body .entry)) index) r (now (out .exit)) ⌝ }
+{
+    put_info(out, files::file_in(body, index))
 }

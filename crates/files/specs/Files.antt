@@ -1,13 +1,16 @@
 -- The files of an area: the entries of its last checksum subsection. Source: document 01, "Area and subsections" (files come from the last
 -- checksum subsection of the whole area, after the line list's tests but 10), "Checksums, inlinees" (a file index is a byte offset into the body:
--- beyond it 1, at its end 18) and "What must change shape" (kind, start and length, with one call that hands back the bytes); docs/DECISIONS.md:
--- without a checksum subsection the body is empty.
+-- beyond it 1, at its end 18), "What must change shape" (kind, start and length, with one call that hands back the bytes) and number 11;
+-- docs/DECISIONS.md: without a checksum subsection the body is empty.
 -- Definitions only; a reader must believe them.
 use Prim.Native.Nat.{ℕ, _+_, _-_}
-use mathlib.Core.List.{List, []}
+use mathlib.Core.List.{List}
+use mathlib.Core.Bool.{cond}
+use lib.ListN.{length}
+use lib.Dec.{ltb}
 use Rattle.walk.specs.Listing.{Listing, Answer, gives, none, refuses, Reply, gave, nothing, refused}
 use Rattle.walk.specs.Pick.{mapReply}
-use Rattle.refusal.specs.Told.{Told, told}
+use Rattle.refusal.specs.Told.{Told, told, longest}
 use Rattle.refusal.specs.declared.Refusal.the-variants as why
 use Rattle.area.specs.Kind.{Sort}
 use Rattle.find.specs.Find.{same, Span, lastSub, bytesAt, heldSpan}
@@ -17,7 +20,7 @@ use Rattle.body.specs.Checksums.{Checksum}
 use Rattle.checksums.specs.Entry.{Entry, entryAt, entriesFrom}
 use Rattle.lines.specs.Lines.{countLines}
 
--- what is known of a file: its name, and its checksum's kind and where its bytes stand in the area
+-- what is known of a file: its name, and its checksum's kind and where its bytes stand in what is lent, the area or a checksum body alone
 pub record Info : Type 0 where
   pub name : ℕ
   pub kind : ℕ
@@ -29,10 +32,18 @@ pub record File : Type 0 where
   pub index : ℕ
   pub info : Info
 
--- an entry of the body at start; its place in the body, 6 before its bytes, is the index
-abbrev pub infoOf : ℕ → Entry → Info
-infoOf start e = record { name = e .name; kind = e .kind; start = start + e .start; len = e .len }
+-- an entry of a body
+abbrev pub entryInfo : Entry → Info
+entryInfo e = record { name = e .name; kind = e .kind; start = e .start; len = e .len }
 
+-- the same in an area, where the body stands at start
+abbrev pub movedInfo : ℕ → Info → Info
+movedInfo start f = record { name = f .name; kind = f .kind; start = start + f .start; len = f .len }
+
+abbrev pub infoOf : ℕ → Entry → Info
+infoOf start e = movedInfo start (entryInfo e)
+
+-- its place in the body, 6 before its bytes, is the index
 abbrev pub fileOf : ℕ → Entry → File
 fileOf start e = record { index = e .start - 6; info = infoOf start e }
 
@@ -54,20 +65,33 @@ fileStep rule s = tableStep entryAt fileOf (filesSub rule s) s
 abbrev pub filesIn : (ℕ → Sort) → List ℕ → Listing File Told
 filesIn rule s = tableOf (λ (b : List ℕ). entriesFrom b 0) fileOf s (filesSub rule s)
 
--- what stands at index i, in a body at start
-abbrev pub atIndex : ℕ → ℕ → Answer ℕ Entry Told → Reply Info Told
-atIndex i start (gives e x) = gave (infoOf start e)
-atIndex i start none = refused (told (why.NoFile i))
-atIndex i start (refuses t) = refused t
+-- what stands at index i of a body
+abbrev pub atIndex : ℕ → Answer ℕ Entry Told → Reply Info Told
+atIndex i (gives e x) = gave (entryInfo e)
+atIndex i none = refused (told (why.NoFile i))
+atIndex i (refuses t) = refused t
 
-abbrev pub fileIn : List ℕ → ℕ → Reply Span Told → Reply Info Told
-fileIn s i (gave a) = atIndex i (a .start) (entryAt (bytesAt s a) i)
-fileIn s i nothing = atIndex i 0 (entryAt [] i)
-fileIn s i (refused t) = refused t
+-- THE FILE at an index of a checksum body that is lent alone
+unfoldable pub fileIn : List ℕ → ℕ → Reply Info Told
+fileIn b i = cond (ltb longest (length b)) (refused (told why.TooLong)) (atIndex i (entryAt b i))
 
--- THE FILE at an index
+-- the part of the area that is its checksum body: without one it is empty
+abbrev pub orEmpty : Reply Span Told → Reply Span Told
+orEmpty (gave a) = gave a
+orEmpty nothing = gave (record { start = 0; len = 0 })
+orEmpty (refused t) = refused t
+
+unfoldable pub checksumPart : (ℕ → Sort) → List ℕ → Reply Span Told
+checksumPart rule s = orEmpty (filesSub rule s)
+
+-- THE FILE at an index of the body that is a part of an area
+abbrev pub fileInPart : List ℕ → ℕ → Reply Span Told → Reply Info Told
+fileInPart s i (gave a) = mapReply (movedInfo (a .start)) same (fileIn (bytesAt s a) i)
+fileInPart s i nothing = nothing
+fileInPart s i (refused t) = refused t
+
 unfoldable pub fileAt : (ℕ → Sort) → List ℕ → ℕ → Reply Info Told
-fileAt rule s i = fileIn s i (filesSub rule s)
+fileAt rule s i = fileInPart s i (checksumPart rule s)
 
 -- a part of the area that is asked for: what does not lie in it, and every part of an area that is too long, is the empty one at its start
 abbrev pub held : Reply Place Told → Span

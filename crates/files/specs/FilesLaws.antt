@@ -1,15 +1,18 @@
 -- Laws of the files of an area: a law for each way out of the code, the walk, the file at an index, and what the files are in the bytes.
-use Prim.Native.Nat.{ℕ, _+_, _-_, _≤_}
+use Prim.Native.Nat.{ℕ, _+_, _-_, _≤_, _<_}
 use mathlib.Core.Path.{_≡_, refl, sym, ap, _∙_, subst⁻¹}
 use mathlib.Core.List.{List}
 use native.Mathlib.Omega.{arith}
 use lib.ListN.{length, take, drop, length-take, length-drop}
+use lib.Dec.{ltb}
 use lib.Seq.{length-take-le}
 use Rattle.word.specs.PartLaws.{part-bytes}
+use Rattle.walk.specs.Cases.{tests, by-cases}
 use Rattle.walk.specs.Listing.{Listing, mapped, Answer, gives, none, refuses, Reply, gave, nothing, refused, calls, replies}
 use Rattle.walk.specs.ListingLaws.{Every}
 use Rattle.walk.specs.Pick.{mapReply}
-use Rattle.refusal.specs.Told.{Told, longest}
+use Rattle.refusal.specs.Told.{Told, told, longest}
+use Rattle.refusal.specs.declared.Refusal.the-variants as why
 use Rattle.area.specs.Kind.{Sort}
 use Rattle.find.specs.Find.{same, Span, lastSub, bytesAt}
 use Rattle.table.specs.Table.{Place, spotIn, spotOf, shifted, readAt, tableOf}
@@ -25,7 +28,8 @@ use Rattle.checksums.specs.Entry as entry
 use Rattle.checksums.specs.Told.{toldEntry}
 use Rattle.checksums.specs.EntryLaws.{EntryWithin, entry-within, entry-none, entry-lies, entries-step, entries-mean, In, entries-in, Stands, entries-stand}
 use Rattle.lines.specs.Lines.{countLines}
-use Rattle.files.specs.Files.{Info, File, infoOf, fileOf, ifPassed, filesSub, fileStep, filesIn, atIndex, fileIn, fileAt, held, partOf, fileSpelt}
+use Rattle.files.specs.Files.{Info, File, movedInfo, infoOf, fileOf, ifPassed, filesSub, fileStep, filesIn}
+use Rattle.files.specs.Files.{atIndex, fileIn, orEmpty, checksumPart, fileInPart, fileAt, held, partOf, fileSpelt}
 
 -- ---- the checksum body
 
@@ -117,42 +121,95 @@ files-walk rule s n = table-walk entryAt fileOf entriesFrom entries-step s (file
 
 -- ---- the file at an index
 
--- in the body of len bytes at start
-unfoldable pub lookAt : List ℕ → ℕ → ℕ → ℕ → Reply Info Told
-lookAt s start len i = atIndex i start (entryAt (take len (drop start s)) i)
+-- of a body that is lent alone
+module _ (b : List ℕ) (i : ℕ) where
+  pub in-long : longest < length b → refused (told why.TooLong) ≡ fileIn b i
+  unfolding fileIn
+  in-long h = simp tests
 
+  pub in-read : length b ≤ longest → (u : Answer ℕ Entry Told) → u ≡ entryAt b i → atIndex i u ≡ fileIn b i
+  unfolding fileIn
+  in-read h u e = ap (atIndex i) e ∙ sym (simp tests)
+
+  -- the bytes of its checksum lie in the body
+  abbrev InfoIn : Reply Info Told → Type 0
+  InfoIn (gave f) = f .start + f .len ≤ length b
+  InfoIn nothing = Unit {0}
+  InfoIn (refused t) = Unit {0}
+
+  pub in-lies : (f : Info) → gave f ≡ fileIn b i → f .start + f .len ≤ length b
+  unfolding fileIn
+  in-lies f e =
+      subst⁻¹ InfoIn e
+      (by-cases InfoIn (ltb longest (length b)) (λ t. tt) (λ t. by (entryAt b i) (entry-within b i)))
+    where
+      by : (u : Answer ℕ Entry Told) → EntryWithin (length b) i u → InfoIn (atIndex i u)
+      by (gives e x) l = omega arith
+      by none l = tt
+      by (refuses t) l = tt
+
+-- of the body of len bytes at start, a part of the area
 module _ (s : List ℕ) (start len i : ℕ) where
-  pub look-read : (k : ℕ) (u : Answer ℕ Entry Told) → u ≡ entryAt (take k (drop start s)) i → k ≡ len → atIndex i start u ≡ lookAt s start len i
-  unfolding lookAt
-  look-read k u e ek = ap (atIndex i start) (e ∙ ap (λ (j : ℕ). entryAt (take j (drop start s)) i) ek)
+  pub part-read : (k : ℕ) (u : Reply Info Told) → u ≡ fileIn (take k (drop start s)) i → k ≡ len
+      → mapReply (movedInfo start) same u ≡ fileInPart s i (gave (record { start = start; len = len }))
+  part-read k u e ek = ap (mapReply (movedInfo start) same) (e ∙ ap (λ (j : ℕ). fileIn (take j (drop start s)) i) ek)
 
-  pub look-in : start + len ≤ length s → (k : ℕ) (e : Entry) (x : ℕ) → gives e x ≡ entryAt (take k (drop start s)) i → k ≡ len → start + e .start ≤ length s
-  look-in h k e x l ek = omega (arith, entry-lies (take k (drop start s)) i e x l, length-take k (drop start s))
+  pub part-lies : start + len ≤ length s → (k : ℕ) (f : Info) → gave f ≡ fileIn (take k (drop start s)) i → k ≡ len → start + f .start ≤ length s
+  part-lies h k f e ek = omega (arith, in-lies (take k (drop start s)) i f e, length-take k (drop start s))
+
+-- the part that is the checksum body, by what was found
+module _ (rule : ℕ → Sort) (s : List ℕ) where
+  pub part-found : (a : Span) → gave a ≡ filesSub rule s → gave a ≡ checksumPart rule s
+  unfolding checksumPart
+  part-found a e = ap orEmpty e
+
+  pub part-none : nothing ≡ filesSub rule s → gave (record { start = 0; len = 0 }) ≡ checksumPart rule s
+  unfolding checksumPart
+  part-none e = ap orEmpty e
+
+  pub part-refused : (t : Told) → refused t ≡ filesSub rule s → refused t ≡ checksumPart rule s
+  unfolding checksumPart
+  part-refused t e = ap orEmpty e
+
+  -- it lies in the area, and is not too long
+  abbrev PartIn : Reply Span Told → Type 0
+  PartIn (gave a) = (a .start + a .len ≤ length s) × (a .len ≤ longest)
+  PartIn nothing = Unit {0}
+  PartIn (refused t) = Unit {0}
+
+  pub part-in-area : (a : Span) → gave a ≡ checksumPart rule s → (a .start + a .len ≤ length s) × (a .len ≤ longest)
+  unfolding checksumPart
+  part-in-area a e = subst⁻¹ PartIn e (by (filesSub rule s) (files-finds rule s))
+    where
+      by : (x : Reply Span Told) → Finds s x → PartIn (orEmpty x)
+      by (gave a) h = (h .0, omega arith)
+      by nothing h = (omega arith, omega arith)
+      by (refused t) h = tt
 
 module _ (rule : ℕ → Sort) (s : List ℕ) (i : ℕ) where
-  pub file-found : (a : Span) → gave a ≡ filesSub rule s → lookAt s (a .start) (a .len) i ≡ fileAt rule s i
-  unfolding fileAt lookAt
-  file-found a e = ap (fileIn s i) e
-
-  pub file-none : nothing ≡ filesSub rule s → lookAt s 0 0 i ≡ fileAt rule s i
-  unfolding fileAt lookAt
-  file-none e = ap (fileIn s i) e
-
-  pub file-refused : (t : Told) → refused t ≡ filesSub rule s → refused t ≡ fileAt rule s i
+  -- THE LAW: on the part that is the checksum body `file_in` answers what `file_at` answers, but for the place, which counts from the part's start
+  pub file-in : (a : Span) → gave a ≡ checksumPart rule s → mapReply (movedInfo (a .start)) same (fileIn (bytesAt s a) i) ≡ fileAt rule s i
   unfolding fileAt
-  file-refused t e = ap (fileIn s i) e
+  file-in a e = ap (fileInPart s i) e
+
+  pub file-refused : (t : Told) → refused t ≡ checksumPart rule s → refused t ≡ fileAt rule s i
+  unfolding fileAt
+  file-refused t e = ap (fileInPart s i) e
 
 -- the index of each file of a walk finds that file
 pub files-indexed : (rule : ℕ → Sort) (s : List ℕ) → Every (λ (f : File). fileAt rule s (f .index) ≡ gave (f .info)) (filesIn rule s)
-unfolding fileAt
-files-indexed rule s = by (filesSub rule s)
+unfolding fileAt checksumPart
+files-indexed rule s = by (filesSub rule s) (files-finds rule s)
   where
-    by : (x : Reply Span Told) → Every (λ (f : File). fileIn s (f .index) x ≡ gave (f .info)) (tableOf (λ (b : List ℕ). entriesFrom b 0) fileOf s x)
-    by (gave a) =
-        mapped-every (Stands (bytesAt s a)) (fileOf (a .start)) (λ (f : File). fileIn s (f .index) (gave a) ≡ gave (f .info))
-        (λ e h. ap (atIndex (e .start - 6) (a .start)) (sym (h .is))) (entriesFrom (bytesAt s a) 0) (entries-stand (bytesAt s a) 0)
-    by nothing = tt
-    by (refused t) = tt
+    by : (x : Reply Span Told) → Finds s x
+        → Every (λ (f : File). fileInPart s (f .index) (orEmpty x) ≡ gave (f .info)) (tableOf (λ (b : List ℕ). entriesFrom b 0) fileOf s x)
+    by (gave a) h =
+        let b = bytesAt s a in
+        let short : length b ≤ longest = omega (arith, length-take (a .len) (drop (a .start) s)) in
+        mapped-every (Stands b) (fileOf (a .start)) (λ (f : File). fileInPart s (f .index) (gave a) ≡ gave (f .info))
+        (λ e q. ap (mapReply (movedInfo (a .start)) same) (sym (in-read b (e .start - 6) short _ (q .is)))) (entriesFrom b 0) (entries-stand b 0)
+    by nothing h = tt
+    by (refused t) h = tt
 
 -- ---- the bytes of a checksum
 

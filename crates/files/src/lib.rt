@@ -6,13 +6,13 @@
 ghost use mathlib.Core.Path.{_≡_};
 ghost use Prim.Native.Nat.{_+_, _≤_};
 ghost use lib.ListN.{length};
+ghost use Rattle.walk.specs.Listing.{gave};
 ghost use Rattle.area.specs.Kind.{crateRule};
 ghost use Rattle.find.specs.Find.{HandsSpan};
 ghost use Rattle.find.specs.Told.{toldFound};
 ghost use Rattle.table.specs.Table.{spotOf};
 ghost use Rattle.table.specs.Told.{toldSpot};
-ghost use Rattle.files.specs.Files.{filesSub, fileStep, fileAt, partOf};
-ghost use Rattle.files.specs.FilesLaws.{lookAt};
+ghost use Rattle.files.specs.Files.{filesSub, fileStep, fileIn, fileInPart, fileAt, partOf};
 ghost use Rattle.files.specs.Told.{toldFile, toldInfo};
 use checksums::ChecksumKind;
 use checksums::EntryStep;
@@ -21,6 +21,7 @@ use find::Found;
 use find::last_of;
 use lines::Counted;
 use lines::count_lines;
+use refusal::LONGEST;
 use refusal::Refusal;
 use table::Spot;
 use table::TableWalk;
@@ -102,26 +103,50 @@ pub enum FileAnswer {
     Refused(Refusal),
 }
 
-// The file at an index of the body of `len` bytes at `start`.
-fn file_in(area: &[u8], start: usize, len: usize, index: u32) -> FileAnswer
-    requires { ⌜ start + len ≤ length (now area) ⌝ }
-    ensures { λ r. ⌜ toldInfo r ≡ lookAt (now (area .entry)) start len index ⌝ }
+// The file at an index of a checksum body that is lent alone: the place of its checksum counts from the body's start. Whoever has found the body once
+// (`checksum_body`) asks here for each index.
+pub fn file_in(body: &[u8], index: u32) -> FileAnswer
+    ensures { λ r. ⌜ toldInfo r ≡ fileIn (now (body .entry)) index ⌝ }
 {
-    match entry_at(&area[start..start + len], index as usize) {
+    if LONGEST < body.len() {
+        return FileAnswer::Refused(Refusal::TooLong);
+    }
+    match entry_at(body, index as usize) {
         EntryStep::Entry {
             name,
             kind,
-            start: bytes,
-            len: size,
+            start,
+            len,
             next: _,
         } => FileAnswer::File {
             name,
             kind,
-            start: start + bytes,
-            len: size,
+            start,
+            len,
         },
         EntryStep::None => FileAnswer::Refused(Refusal::NoFile(index)),
         EntryStep::Refused(why) => FileAnswer::Refused(why),
+    }
+}
+
+// The file at an index of the body of `len` bytes at `start`.
+fn file_in_part(area: &[u8], start: usize, len: usize, index: u32) -> FileAnswer
+    requires { ⌜ start + len ≤ length (now area) ⌝ }
+    ensures { λ r. ⌜ toldInfo r ≡ fileInPart (now (area .entry)) index (gave (record { start = start; len = len })) ⌝ }
+{
+    match file_in(&area[start..start + len], index) {
+        FileAnswer::File {
+            name,
+            kind,
+            start: place,
+            len: size,
+        } => FileAnswer::File {
+            name,
+            kind,
+            start: start + place,
+            len: size,
+        },
+        FileAnswer::Refused(why) => FileAnswer::Refused(why),
     }
 }
 
@@ -130,8 +155,8 @@ pub fn file_at(area: &[u8], index: u32) -> FileAnswer
     ensures { λ r. ⌜ toldInfo r ≡ fileAt crateRule (now (area .entry)) index ⌝ }
 {
     match checksum_body(area) {
-        Found::At { start, len } => file_in(area, start, len, index),
-        Found::None => file_in(area, 0, 0, index),
+        Found::At { start, len } => file_in_part(area, start, len, index),
+        Found::None => file_in_part(area, 0, 0, index),
         Found::Refused(why) => FileAnswer::Refused(why),
     }
 }
