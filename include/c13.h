@@ -294,7 +294,7 @@ uint32_t c13_add_opaque(uint8_t *buf, size_t buf_len, size_t place, uint32_t kin
  * A walk is a struct of its own. c13_.._walk_begin makes it, c13_.._walk_next stores the next record, c13_.._walk_many as many as there is room for. A
  * call that steps no walk has the name c13_ask_.. here. Each answers what its call answers: C13_GIVEN, and the answer is stored; C13_LAST of
  * c13_.._walk_many, the same; C13_NONE; C13_REFUSED, and why is stored, in the walk or, where it is not null, behind the last pointer. C13_TOO_SHORT does
- * not come.
+ * not come. A loop over c13_.._walk_many uses `count` records at each turn, whatever the status is, and goes on while that is C13_GIVEN.
  *
  *     struct c13_line_walk walk = c13_line_walk_begin(area, area_len, slots, used);
  *     struct c13_line line;

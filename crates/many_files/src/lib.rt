@@ -1,7 +1,8 @@
-// Many files of an area at once, in words of 32 bits (crate: `LineProgram::files`, a whole `FileIterator` in coarse calls): as many as the lent words have room for,
-// and the walk behind the last. The first step of a new walk finds the checksum body, which the others know.
+// Many files of an area at once, in words of 32 bits (crate: `LineProgram::files`, a whole `FileIterator` in coarse calls): as many as the lent words have
+// room for, and the walk behind the last. The first step of a new walk finds the checksum body, which the others know.
 //
-// The files before an end or a refusal are given first, and the next call, from the walk answered, tells it.
+// The files before an end or a refusal are given first. A refusal is told by the next call, from the walk answered; an end shows in that walk, and is told
+// again by the next call.
 ghost use mathlib.Core.Path.{_≡_};
 ghost use Prim.Native.Nat.{_≤_};
 ghost use lib.ListN.{length};
