@@ -12,7 +12,7 @@ use borrow.Author.Tests.{eq-eqb, ne-eqb, ltb-false}
 use Rattle.word.specs.Word.{u32At}
 use Rattle.word.specs.WordLaws.{u32-drop}
 use Rattle.walk.specs.Cases.{tests, by-cases}
-use Rattle.walk.specs.Listing.{Move, item, pass, over, fail, more, mapped, onMove, moved, all, gives, none, refuses, Reply, gave, nothing, refused, calls, replies}
+use Rattle.walk.specs.Listing.{Move, item, pass, over, fail, more, ends, fails, mapped, onMove, moved, all, gives, none, refuses, Reply, gave, nothing, refused, calls, replies}
 use Rattle.refusal.specs.Told.{Told, told}
 use Rattle.refusal.specs.declared.Refusal.the-variants as why
 use Rattle.area.specs.Kind.{Sort}
@@ -93,7 +93,7 @@ ref-empty index = refl
 
 -- ---- what a bite says of the bytes
 
-bitten : (s : List ℕ) → Bitten moduleSize s (moduleBite s)
+pub bitten : (s : List ℕ) → Bitten moduleSize s (moduleBite s)
 unfolding moduleBite
 bitten s =
     by-cases (Bitten moduleSize s) (eqb (length s) 0) (λ a. tt)
@@ -124,7 +124,7 @@ in-body b p m t e =
     let d : wordsIn (length (m .words)) (drop (p + 8) b) ≡ m .words = ap (wordsIn (length (m .words))) (sym (drop-drop 8 p b)) ∙ sym w in
     λ i. record { name = m .name; words = d i }
 
-in-area : (s : List ℕ) (start len p : ℕ) (m : Module) (t : List ℕ) → p ≤ length (take len (drop start s))
+pub in-area : (s : List ℕ) (start len p : ℕ) (m : Module) (t : List ℕ) → p ≤ length (take len (drop start s))
     → moduleBite (drop p (take len (drop start s))) ≡ item m t → moduleOf s (inArea start (moduleShown p m)) ≡ m
 in-area s start len p m t h e =
     let b = take len (drop start s) in
@@ -143,6 +143,7 @@ pub record Next (b : List ℕ) (p : ℕ) (m : ModuleAt) (x : ℕ) : Type 0 where
   pub behind : p + 8 ≤ x
   pub inside : x ≤ length b
   pub room : m .words + 4 * m .count ≤ x
+  pub end : x ≡ p + moduleSize (moduleOf b m)
 
 pub module-next : (b : List ℕ) (p : ℕ) (m : ModuleAt) (x : ℕ) → gives m x ≡ moduleAt b p → Next b p m x
 unfolding modules
@@ -157,7 +158,18 @@ module-next b p m x q =
       behind = omega (arith, r .end);
       inside = r .inside;
       room = omega (arith, r .end);
+      end = r .end ∙ ap (λ (k : Module). p + moduleSize k) (sym here);
     }
+
+-- an end and a refusal at a place of the body
+module _ (b : List ℕ) (p : ℕ) (h : p ≤ length b) where
+  pub modules-end : none ≡ moduleAt b p → ends ≡ modules (drop p b)
+  unfolding modules
+  modules-end q = row-end moduleBite moduleSize moduleShown bitten b p h q
+
+  pub modules-refused : (t : Told) → refuses t ≡ moduleAt b p → fails t ≡ modules (drop p b)
+  unfolding modules
+  modules-refused t q = row-refused moduleBite moduleSize moduleShown bitten b p h t q
 
 -- from place p on, n modules being passed
 abbrev pub Sought : List ℕ → ℕ → ℕ → Reply Ref Told → ℕ → Reply Ref Told
@@ -187,12 +199,12 @@ module _ (b : List ℕ) (index n : ℕ) (best : Reply Ref Told) (p : ℕ) where
 
   module _ (h : p ≤ length b) where
     pub sought-end : none ≡ moduleAt b p → ifRef index best ≡ Sought b index n best p
-    unfolding sought modules
-    sought-end q = ap (sought (refIn index) (ifRef index) (scopeOf index) n best) (row-end moduleBite moduleSize moduleShown bitten b p h q)
+    unfolding sought
+    sought-end q = ap (sought (refIn index) (ifRef index) (scopeOf index) n best) (modules-end b p h q)
 
     pub sought-refused : (t : Told) → refuses t ≡ moduleAt b p → refused t ≡ Sought b index n best p
-    unfolding sought modules
-    sought-refused t q = ap (sought (refIn index) (ifRef index) (scopeOf index) n best) (row-refused moduleBite moduleSize moduleShown bitten b p h t q)
+    unfolding sought
+    sought-refused t q = ap (sought (refIn index) (ifRef index) (scopeOf index) n best) (modules-refused b p h t q)
 
 -- ---- a step of the walk
 

@@ -11,6 +11,8 @@ use Rattle.imports.specs.declared.ImportStep.{ImportStep}
 use Rattle.imports.specs.declared.ImportStep.the-variants as step
 use Rattle.imports.specs.declared.Resolved.{Resolved}
 use Rattle.imports.specs.declared.Resolved.the-variants as resolved
+use Rattle.imports.specs.declared.ImportList.{ImportList}
+use Rattle.imports.specs.declared.ImportList.the-variants as list
 
 abbrev pub toldModule : ModuleStep → Answer ℕ ModuleAt Told
 toldModule (row.Module name words count x) = gives (record { name = name; words = words; count = count }) x
@@ -25,3 +27,7 @@ toldImportStep (step.Refused r) = refuses (told r)
 abbrev pub toldResolved : Resolved → Reply Ref Told
 toldResolved (resolved.Ref name w) = gave (record { name = name; word = w })
 toldResolved (resolved.Refused r) = refused (told r)
+
+abbrev pub toldList : ImportList → Reply ℕ Told
+toldList (list.Modules n) = gave n
+toldList (list.Refused r) = refused (told r)

@@ -12,7 +12,9 @@ use Rattle.imports.specs.declared.ImportStep.{ImportStep}
 use Rattle.imports.specs.declared.ImportStep.the-variants as step
 use Rattle.imports.specs.declared.Resolved.{Resolved}
 use Rattle.imports.specs.declared.Resolved.the-variants as resolved
-use Rattle.imports.specs.Told.{toldModule, toldImportStep, toldResolved}
+use Rattle.imports.specs.declared.ImportList.{ImportList}
+use Rattle.imports.specs.declared.ImportList.the-variants as list
+use Rattle.imports.specs.Told.{toldModule, toldImportStep, toldResolved, toldList}
 
 abbrev pub untoldModule : Answer ℕ ModuleAt Told → ModuleStep
 untoldModule (gives m x) = row.Module (m .name) (m .words) (m .count) x
@@ -43,3 +45,13 @@ untoldResolved (refused t) = resolved.Refused (untold t)
 pub untold-resolved : (h : Resolved) → untoldResolved (toldResolved h) ≡ h
 untold-resolved (resolved.Ref name w) = refl
 untold-resolved (resolved.Refused r) = ap resolved.Refused (untold-told r)
+
+-- a list is never answered with `nothing`
+abbrev pub untoldList : Reply ℕ Told → ImportList
+untoldList (gave n) = list.Modules n
+untoldList nothing = list.Modules 0
+untoldList (refused t) = list.Refused (untold t)
+
+pub untold-list : (h : ImportList) → untoldList (toldList h) ≡ h
+untold-list (list.Modules n) = refl
+untold-list (list.Refused r) = ap list.Refused (untold-told r)
