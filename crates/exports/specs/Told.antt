@@ -3,6 +3,7 @@
 use Prim.Native.Nat.{ℕ}
 use Rattle.walk.specs.Listing.{Answer, gives, none, refuses, Reply, gave, nothing, refused}
 use Rattle.refusal.specs.Told.{Told, told}
+use Rattle.find.specs.Find.{Span}
 use Rattle.body.specs.Exports.{Pair}
 use Rattle.table.specs.declared.TableWalk.{TableWalk}
 use Rattle.exports.specs.Exports.{Export, aType, anId}
@@ -16,6 +17,10 @@ use Rattle.exports.specs.declared.Count.{Count}
 use Rattle.exports.specs.declared.Count.the-variants as count
 use Rattle.exports.specs.declared.Lookup.{Lookup}
 use Rattle.exports.specs.declared.Lookup.the-variants as found
+use Rattle.exports.specs.declared.ExportBody.{ExportBody}
+use Rattle.exports.specs.declared.ExportBody.the-variants as body
+use Rattle.exports.specs.declared.ExportAt.{ExportAt}
+use Rattle.exports.specs.declared.ExportAt.the-variants as one
 
 abbrev pub toldExport : CrossModuleExport → Export
 toldExport (export.Type l g) = aType l g
@@ -39,3 +44,12 @@ abbrev pub toldLookup : Lookup → Reply ℕ Told
 toldLookup (found.Global g) = gave g
 toldLookup found.None = nothing
 toldLookup (found.Refused r) = refused (told r)
+
+abbrev pub toldBody : ExportBody → Reply Span Told
+toldBody (body.At a n) = gave (record { start = a; len = n })
+toldBody (body.Refused r) = refused (told r)
+
+abbrev pub toldExportAt : ExportAt → Reply Export Told
+toldExportAt (one.Export e) = gave (toldExport e)
+toldExportAt one.None = nothing
+toldExportAt (one.Refused r) = refused (told r)

@@ -4,6 +4,7 @@ use mathlib.Core.Path.{_≡_, refl, ap}
 use Rattle.walk.specs.Listing.{Answer, gives, none, refuses, Reply, gave, nothing, refused}
 use Rattle.refusal.specs.Told.{Told}
 use Rattle.refusal.specs.Untold.{untold, untold-told}
+use Rattle.find.specs.Find.{Span}
 use Rattle.body.specs.Exports.{Pair}
 use Rattle.table.specs.declared.TableWalk.{TableWalk}
 use Rattle.exports.specs.Exports.{Export, aType, anId}
@@ -17,7 +18,11 @@ use Rattle.exports.specs.declared.Count.{Count}
 use Rattle.exports.specs.declared.Count.the-variants as count
 use Rattle.exports.specs.declared.Lookup.{Lookup}
 use Rattle.exports.specs.declared.Lookup.the-variants as found
-use Rattle.exports.specs.Told.{toldExport, toldPair, toldExportStep, toldCount, toldLookup}
+use Rattle.exports.specs.declared.ExportBody.{ExportBody}
+use Rattle.exports.specs.declared.ExportBody.the-variants as body
+use Rattle.exports.specs.declared.ExportAt.{ExportAt}
+use Rattle.exports.specs.declared.ExportAt.the-variants as one
+use Rattle.exports.specs.Told.{toldExport, toldPair, toldExportStep, toldCount, toldLookup, toldBody, toldExportAt}
 
 abbrev pub untoldExport : Export → CrossModuleExport
 untoldExport (aType l g) = export.Type l g
@@ -66,3 +71,23 @@ pub untold-lookup : (h : Lookup) → untoldLookup (toldLookup h) ≡ h
 untold-lookup (found.Global g) = refl
 untold-lookup found.None = refl
 untold-lookup (found.Refused r) = ap found.Refused (untold-told r)
+
+-- a body is never answered with `nothing`
+abbrev pub untoldBody : Reply Span Told → ExportBody
+untoldBody (gave a) = body.At (a .start) (a .len)
+untoldBody nothing = body.At 0 0
+untoldBody (refused t) = body.Refused (untold t)
+
+pub untold-body : (h : ExportBody) → untoldBody (toldBody h) ≡ h
+untold-body (body.At a n) = refl
+untold-body (body.Refused r) = ap body.Refused (untold-told r)
+
+abbrev pub untoldExportAt : Reply Export Told → ExportAt
+untoldExportAt (gave e) = one.Export (untoldExport e)
+untoldExportAt nothing = one.None
+untoldExportAt (refused t) = one.Refused (untold t)
+
+pub untold-export-at : (h : ExportAt) → untoldExportAt (toldExportAt h) ≡ h
+untold-export-at (one.Export e) = ap one.Export (untold-export e)
+untold-export-at one.None = refl
+untold-export-at (one.Refused r) = ap one.Refused (untold-told r)

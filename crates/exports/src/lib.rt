@@ -3,14 +3,20 @@
 //
 // Listing takes any order; a lookup first tests that the local indices ascend.
 ghost use mathlib.Core.Path.{_≡_};
+ghost use Prim.Native.Nat.{_+_, _/_, _≤_};
+ghost use lib.ListN.{length};
+ghost use Rattle.word.specs.Word.{u32At};
 ghost use Rattle.area.specs.Kind.{crateRule};
 ghost use Rattle.body.specs.Exports.{pairs};
 ghost use Rattle.table.specs.Collect.{onGave, collected, listingCount};
 ghost use Rattle.exports.specs.Exports.{exportOf, pairAt, exportShown, exportStep, exportCount, ascends, globalOf, lookup, resolveExport};
 ghost use Rattle.exports.specs.ExportsLaws.{pairsBehind};
-ghost use Rattle.exports.specs.Told.{toldExport, toldPair, toldExportStep, toldCount, toldLookup};
+ghost use Rattle.exports.specs.InBody.{exportBody, exportAt, pairHalved, globalIn};
+ghost use Rattle.exports.specs.InBodyLaws.{tested};
+ghost use Rattle.exports.specs.Told.{toldExport, toldPair, toldExportStep, toldCount, toldLookup, toldBody, toldExportAt};
 use find::Found;
 use find::first_of;
+use refusal::LONGEST;
 use refusal::Refusal;
 use table::Spot;
 use table::TableWalk;
@@ -204,4 +210,103 @@ pub fn resolve_export(area: &[u8], local: u32) -> Lookup
         Found::None => Lookup::None,
         Found::Refused(why) => Lookup::Refused(why),
     }
+}
+
+// Where the body for lookups stands; the empty body where there are no exports.
+pub enum ExportBody {
+    At { start: usize, len: usize },
+    Refused(Refusal),
+}
+
+// The body that stands at `start`, after the tests of a lookup.
+fn tested_body(body: &[u8], start: usize) -> ExportBody
+    ensures { λ r. ⌜ toldBody r ≡ tested start (now (body .entry)) ⌝ }
+{
+    let len = body.len();
+    if len % 8 != 0 {
+        return ExportBody::Refused(Refusal::ExportLength);
+    }
+    if ascending(body) {
+        return ExportBody::At { start, len };
+    }
+    ExportBody::Refused(Refusal::UnsortedExports)
+}
+
+// The body for lookups that pass over no area again, with all their tests.
+pub fn export_body(area: &[u8]) -> ExportBody
+    ensures { λ r. ⌜ toldBody r ≡ exportBody crateRule (now (area .entry)) ⌝ }
+{
+    match first_of(area, CROSS_SCOPE_EXPORTS) {
+        Found::At { start, len } => tested_body(&area[start..start + len], start),
+        Found::None => ExportBody::At { start: 0, len: 0 },
+        Found::Refused(why) => ExportBody::Refused(why),
+    }
+}
+
+// A word that lies in the bytes. It is read out of a part of four bytes, so that the compiled code tests nothing.
+fn word_at(s: &[u8], at: usize) -> u32
+    requires { ⌜ at + 4 ≤ length (now s) ⌝ }
+    ensures { λ r. ⌜ r ≡ u32At (now (s .entry)) at ⌝ }
+{
+    u32_at(&s[at..at + 4], 0)
+}
+
+// The export at an index.
+pub enum ExportAt {
+    Export(CrossModuleExport),
+    None,
+    Refused(Refusal),
+}
+
+pub fn export_at(body: &[u8], i: usize) -> ExportAt
+    ensures { λ r. ⌜ toldExportAt r ≡ exportAt (now (body .entry)) i ⌝ }
+{
+    let len = body.len();
+    if LONGEST < len {
+        return ExportAt::Refused(Refusal::TooLong);
+    }
+    if len % 8 != 0 {
+        return ExportAt::Refused(Refusal::ExportLength);
+    }
+    if len / 8 <= i {
+        return ExportAt::None;
+    }
+    let at = 8 * i;
+    ExportAt::Export(export_of(word_at(body, at), word_at(body, at + 4)))
+}
+
+// Each look at the middle leaves a shorter span.
+fn halved(body: &[u8], local: u32) -> Lookup
+    ensures { λ r. ⌜ toldLookup r ≡ pairHalved (now (body .entry)) local 0 (length (now (body .entry)) / 8) ⌝ }
+{
+    let mut from: usize = 0;
+    let mut to = body.len() / 8;
+    while from < to {
+        let mid = from + (to - from) / 2;
+        let at = 8 * mid;
+        let found = word_at(body, at);
+        if found == local {
+            return Lookup::Global(word_at(body, at + 4));
+        }
+        if found < local {
+            from = mid + 1;
+        } else {
+            to = mid;
+        }
+    }
+    Lookup::None
+}
+
+// The global index of a local one in a body that is lent alone. Whether its local indices ascend is not tested again.
+pub fn export_in(body: &[u8], local: u32) -> Lookup
+    ensures { λ r. ⌜ toldLookup r ≡ globalIn (now (body .entry)) local ⌝ }
+{
+    let len = body.len();
+    if LONGEST < len {
+        return Lookup::Refused(Refusal::TooLong);
+    }
+    if len % 8 != 0 {
+        return Lookup::Refused(Refusal::ExportLength);
+    }
+    halved(body, local)
 }

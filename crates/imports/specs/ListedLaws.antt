@@ -42,7 +42,8 @@ module _ {C : Type 0} (y : C) (f : ℕ → C) where
 
 pub word-part : (s : List ℕ) (p w : ℕ) → w ≡ u32At (take (p + 4 - p) (drop p s)) 0 → w ≡ u32At s p
 word-part s p w e =
-    e ∙ ap (λ (k : ℕ). u32At (take k (drop p s)) 0) (add-sub-cancel-left p 4) ∙ u32-take (drop p s) 4 0 (omega arith) ∙ u32-drop s p 0 ∙ ap (u32At s) (add-zero p)
+    e ∙ ap (λ (k : ℕ). u32At (take k (drop p s)) 0) (add-sub-cancel-left p 4) ∙ u32-take (drop p s) 4 0 (omega arith) ∙ u32-drop s p 0
+    ∙ ap (u32At s) (add-zero p)
 
 -- ---- each way out of `ref_at`
 
@@ -74,7 +75,8 @@ module _ (s : List ℕ) (index p : ℕ) where
           → gave (record { name = name; word = w }) ≡ refAt s index p
       at-word id name w e k en ew =
           let z : p + 8 - 8 ≡ p = omega arith in
-          ap (λ (n : ℕ). gave (record { name = n; word = w })) (en ∙ ap (u32At s) z) ∙ ref-word s index (u32At s p) (p + 8) count id w e k ew ∙ ap (refOn s index) whole
+          ap (λ (n : ℕ). gave (record { name = n; word = w })) (en ∙ ap (u32At s) z)
+          ∙ ref-word s index (u32At s p) (p + 8) count id w e k ew ∙ ap (refOn s index) whole
 
 -- ---- each way out of `resolve_listed`
 
@@ -146,7 +148,8 @@ unfolding collected placesOn
 places-count q (more m l) n e = by (places-count (q + moduleSize m) l) (collected l) refl e
   where
     by : ((k : ℕ) → gave k ≡ listingCount l → length (placesOn (q + moduleSize m) l) ≡ k) → (x : Reply (List Module) Told) → x ≡ collected l
-        → gave n ≡ onGave (λ (ms : List Module). gave (length ms)) (onGave (λ (ms : List Module). gave (m ∷ ms)) x) → suc (length (placesOn (q + moduleSize m) l)) ≡ n
+        → gave n ≡ onGave (λ (ms : List Module). gave (length ms)) (onGave (λ (ms : List Module). gave (m ∷ ms)) x)
+        → suc (length (placesOn (q + moduleSize m) l)) ≡ n
     by ih (gave ms) f e =
         let k : n ≡ suc (length ms) = cc in
         omega (arith, ih (length ms) (ap (onGave (λ (ns : List Module). gave (length ns))) f))
@@ -172,7 +175,9 @@ module _ (b : List ℕ) where
   module _ (n p : ℕ) where
     pub count-next : (m : ModuleAt) (x : ℕ) → gives m x ≡ moduleAt b p → CountFrom b (n + 1) x ≡ CountFrom b n p
     unfolding collected
-    count-next m x q = by (collected (modules (drop x b))) ∙ ap (λ (l : Listing Module Told). onGave (λ (ms : List Module). gave (n + length ms)) (collected l)) (module-next b p m x q .is)
+    count-next m x q =
+        by (collected (modules (drop x b)))
+        ∙ ap (λ (l : Listing Module Told). onGave (λ (ms : List Module). gave (n + length ms)) (collected l)) (module-next b p m x q .is)
       where
         by : (y : Reply (List Module) Told)
             → onGave (λ (ms : List Module). gave (n + 1 + length ms)) y

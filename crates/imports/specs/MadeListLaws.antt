@@ -86,7 +86,8 @@ module _ (s : List ℕ) (index start len : ℕ) (lies : start + len ≤ length s
   same-all t over q w f p h e = refl
   same-all t (fail x) q w f p h e = refl
 
-  same-body : mapped (refAt s index) same (mapped (_+_ start) same (rowsPlaced moduleSize modulePlace 0 (modules body))) ≡ mapped (refIn index) same (modules body)
+  same-body : mapped (refAt s index) same (mapped (_+_ start) same (rowsPlaced moduleSize modulePlace 0 (modules body)))
+      ≡ mapped (refIn index) same (modules body)
   unfolding modules
   same-body =
       all-ind moduleBite length (falls moduleBite moduleSize bitten) Same (λ t f. same-all t (moduleBite t) refl (bitten t) f) body 0 (omega arith) refl

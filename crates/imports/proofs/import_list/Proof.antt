@@ -19,7 +19,18 @@ returns c =
     let l = c .before .before in
     let m = l .before .before .before .before in
     let a = m .before .before .before .before .before .args in
-    list-found _ (a .places .now) _ _ _ (ap toldFound (sym (m .start .given .1)) ∙ m .before .before .first-of .ensures) (add-sub-cancel-left _ _) _ _ (l .list-in .ensures)
+    let e = ap toldFound (sym (m .start .given .1)) ∙ m .before .before .first-of .ensures in
+    list-found _ (a .places .now) _ _ _ e (add-sub-cancel-left _ _) _ _ (l .list-in .ensures)
+
+returns-2 : tie.Need-returns-2
+returns-2 c =
+    let f = c .before .before in
+    list-none _ (f .before .before .before .args .places .now) _ (ap toldFound (sym (c .enum-told .given .1)) ∙ f .first-of .ensures)
+
+returns-3 : tie.Need-returns-3
+returns-3 c =
+    let f = c .before .before .before in
+    list-unfound _ (f .before .before .before .args .places .now) _ _ (ap toldFound (sym (c .before .why .given .1)) ∙ f .first-of .ensures)
 
 pub import-list-spec : {M : Type 1} → statement M
 import-list-spec =
@@ -36,5 +47,5 @@ import-list-spec =
     (λ c. search needs)
     (λ c. search needs)
     returns
-    (λ c. let a = c .before .before .before .before .before .args in list-none _ (a .places .now) _ (ap toldFound (sym (c .enum-told .given .1)) ∙ c .before .before .first-of .ensures))
-    (λ c. let a = c .before .before .before .before .before .before .args in list-unfound _ (a .places .now) _ _ (ap toldFound (sym (c .before .why .given .1)) ∙ c .before .before .before .first-of .ensures)))
+    returns-2
+    returns-3)

@@ -25,7 +25,8 @@ returns-2 c =
     let f = c .before .before in
     let m = f .before .before .before .before in
     let a = m .before .before .before .before .before .args in
-    list-room (a .start) _ (a .places .now) _ (ap toldList (sym (m .n .given .1)) ∙ m .before .before .count-modules .ensures) (omega arith) _ (f .put-places .ensures)
+    list-room (a .start) _ (a .places .now) _ (ap toldList (sym (m .n .given .1)) ∙ m .before .before .count-modules .ensures) (omega arith) _
+    (f .put-places .ensures)
 
 returns-3 : tie.Need-returns-3
 returns-3 c =

@@ -16,7 +16,8 @@ returns-3 c = at-none _ _ _ (omega arith) _ (c .before .before .word-at .ensures
 returns-4 : tie.Need-returns-4
 returns-4 c =
     let t = c .before .before in
-    at-word _ _ _ (omega arith) _ (t .before .before .word-at .ensures) (omega arith) _ _ _ refl (t .if3 .left) (c .before .word-at2 .ensures) (c .word-at3 .ensures)
+    at-word _ _ _ (omega arith) _ (t .before .before .word-at .ensures) (omega arith) _ _ _ refl (t .if3 .left)
+    (c .before .word-at2 .ensures) (c .word-at3 .ensures)
 
 pub ref-at-spec : {M : Type 1} → statement M
 ref-at-spec =
