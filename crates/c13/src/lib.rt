@@ -14,6 +14,7 @@ ghost use Rattle.answer_words.specs.Given.{Gives};
 ghost use Rattle.export_parts.specs.Calls.{subGiven, namesGiven, nameGiven, symbolsGiven, linesPartGiven, tablesPartGiven};
 ghost use Rattle.export_files.specs.Calls.{fileGiven, filesGiven, filesLeft, infoGiven, checksumsGiven, fileInGiven};
 ghost use Rattle.export_tables.specs.Calls.{wordGiven, inlineeGiven, moduleGiven, refGiven, exportGiven, countGiven, globalGiven};
+ghost use Rattle.export_tables.specs.Calls.{listGiven, placesLeft, listedGiven, bodyGiven, exportAtGiven, globalInGiven};
 ghost use Rattle.export_lines.specs.Calls.{linesGiven, recordsLeft};
 ghost use Rattle.export_lines.specs.Calls.{orderGiven, slotsLeft, lineGiven, symbolGiven};
 ghost use Rattle.export_write.specs.Calls.{wroteGiven, bufferLeft, plainGiven};
@@ -98,6 +99,28 @@ pub extern "C" fn c13_resolve_import(area: &[u8], index: u32, out: &mut [u64]) -
 }
 
 #[no_mangle]
+pub extern "C" fn c13_import_list(area: &[u8], places: &mut [u32], out: &mut [u64]) -> u32
+    ensures { λ r. ⌜ Gives (now (out .entry))
+        (listGiven crateRule (now (area .entry)) (length (now (places .entry))) (now (out .entry)))
+        r (now (out .exit)) ⌝ }
+    ensures { λ _. ⌜ now (places .exit) ≡ placesLeft crateRule (now (area .entry)) (now (places .entry)) (now (out .entry)) ⌝ }
+{
+    export_tables::import_list(area, places, out)
+}
+
+#[no_mangle]
+pub extern "C" fn c13_resolve_listed(
+    area: &[u8],
+    places: &[u32],
+    index: u32,
+    out: &mut [u64],
+) -> u32
+    ensures { λ r. ⌜ Gives (now (out .entry)) (listedGiven (now (area .entry)) (now (places .entry)) index) r (now (out .exit)) ⌝ }
+{
+    export_tables::resolve_listed(area, places, index, out)
+}
+
+#[no_mangle]
 pub extern "C" fn c13_next_export(area: &[u8], out: &mut [u64]) -> u32
     ensures { λ r. ⌜ Gives (now (out .entry)) (exportGiven crateRule (now (area .entry)) (now (out .entry))) r (now (out .exit)) ⌝ }
 {
@@ -116,6 +139,27 @@ pub extern "C" fn c13_resolve_export(area: &[u8], local: u32, out: &mut [u64]) -
     ensures { λ r. ⌜ Gives (now (out .entry)) (globalGiven crateRule (now (area .entry)) local) r (now (out .exit)) ⌝ }
 {
     export_tables::resolve_export(area, local, out)
+}
+
+#[no_mangle]
+pub extern "C" fn c13_export_body(area: &[u8], out: &mut [u64]) -> u32
+    ensures { λ r. ⌜ Gives (now (out .entry)) (bodyGiven crateRule (now (area .entry))) r (now (out .exit)) ⌝ }
+{
+    export_tables::export_body(area, out)
+}
+
+#[no_mangle]
+pub extern "C" fn c13_export_at(body: &[u8], i: usize, out: &mut [u64]) -> u32
+    ensures { λ r. ⌜ Gives (now (out .entry)) (exportAtGiven (now (body .entry)) i) r (now (out .exit)) ⌝ }
+{
+    export_tables::export_at(body, i, out)
+}
+
+#[no_mangle]
+pub extern "C" fn c13_export_in(body: &[u8], local: u32, out: &mut [u64]) -> u32
+    ensures { λ r. ⌜ Gives (now (out .entry)) (globalInGiven (now (body .entry)) local) r (now (out .exit)) ⌝ }
+{
+    export_tables::export_in(body, local, out)
 }
 
 #[no_mangle]

@@ -1,4 +1,5 @@
--- What each call on a table gives, by the rule of kinds. s is the area, and o the lent words, whose first are a walk's state. Source: docs/DECISIONS.md, 32.
+-- What each call on a table gives, by the rule of kinds. s is the area, v the slots of a list of places, b a body that is lent alone, and o the lent words, whose
+-- first are a walk's state. The list changes its slots only with room for a refusal in o. Source: docs/DECISIONS.md, 32.
 -- Definitions only; a reader must believe them.
 use Prim.Native.Nat.{ℕ}
 use mathlib.Core.List.{List}
@@ -6,10 +7,12 @@ use Rattle.area.specs.Kind.{Sort}
 use Rattle.table.specs.Words.{wordIn}
 use Rattle.inlinees.specs.Inlinees.{inlineeStep}
 use Rattle.imports.specs.Imports.{importStep, resolveImport}
+use Rattle.imports.specs.Listed.{importList, placesAfter, resolveListed}
 use Rattle.exports.specs.Exports.{exportStep, exportCount, resolveExport}
-use Rattle.answer_words.specs.Given.{Given, one, stepGiven, replyGiven}
+use Rattle.exports.specs.InBody.{exportBody, exportAt, globalIn}
+use Rattle.answer_words.specs.Given.{Given, refusalSize, one, stepGiven, replyGiven, ifRoom, shortGiven}
 use Rattle.answer_words.specs.TableWords.{tableStateSize, walkIn, tableWords}
-use Rattle.export_tables.specs.Words.{inlineeWords, moduleWords, refWords, exportWords}
+use Rattle.export_tables.specs.Words.{inlineeWords, moduleWords, refWords, exportWords, bodyWords}
 
 -- word i of the count words at a place
 abbrev pub wordGiven : List ℕ → ℕ → ℕ → ℕ → Given
@@ -32,3 +35,22 @@ countGiven rule s = replyGiven one (exportCount rule s)
 
 abbrev pub globalGiven : (ℕ → Sort) → List ℕ → ℕ → Given
 globalGiven rule s local = replyGiven one (resolveExport rule s local)
+
+-- the list of the modules' places, with n slots, and the slots v after it
+abbrev pub listGiven : (ℕ → Sort) → List ℕ → ℕ → List ℕ → Given
+listGiven rule s n o = ifRoom refusalSize o (replyGiven one (importList rule s n)) shortGiven
+
+abbrev pub placesLeft : (ℕ → Sort) → List ℕ → List ℕ → List ℕ → List ℕ
+placesLeft rule s v o = ifRoom refusalSize o (placesAfter rule s v) v
+
+abbrev pub listedGiven : List ℕ → List ℕ → ℕ → Given
+listedGiven s v index = replyGiven refWords (resolveListed s v index)
+
+abbrev pub bodyGiven : (ℕ → Sort) → List ℕ → Given
+bodyGiven rule s = replyGiven bodyWords (exportBody rule s)
+
+abbrev pub exportAtGiven : List ℕ → ℕ → Given
+exportAtGiven b i = replyGiven exportWords (exportAt b i)
+
+abbrev pub globalInGiven : List ℕ → ℕ → Given
+globalInGiven b local = replyGiven one (globalIn b local)

@@ -5,6 +5,7 @@ use mathlib.Core.List.{List, [], _∷_}
 use Rattle.inlinees.specs.Inlinees.{SourceLine}
 use Rattle.imports.specs.Imports.{ModuleAt, Ref}
 use Rattle.exports.specs.Exports.{Export, aType, anId}
+use Rattle.find.specs.Find.{Span}
 
 -- the inlinee, its file and line, the place of its extra files, their number
 abbrev pub inlineeWords : SourceLine → List ℕ
@@ -22,3 +23,7 @@ refWords r = r .name ∷ r .word ∷ []
 abbrev pub exportWords : Export → List ℕ
 exportWords (aType l g) = 0 ∷ l ∷ g ∷ []
 exportWords (anId l g) = 1 ∷ l ∷ g ∷ []
+
+-- a body: where it starts in the area, and its length
+abbrev pub bodyWords : Span → List ℕ
+bodyWords a = a .start ∷ a .len ∷ []

@@ -2,22 +2,30 @@
 // crate `c13` gives each its C name.
 ghost use mathlib.Core.Path.{_≡_};
 ghost use mathlib.Core.List.{[], _∷_};
-ghost use Rattle.exports.specs.Told.{toldExport};
+ghost use lib.ListN.{length};
+ghost use Rattle.imports.specs.Told.{toldResolved};
+ghost use Rattle.exports.specs.Told.{toldExport, toldLookup};
 ghost use Rattle.area.specs.Kind.{crateRule};
-ghost use Rattle.answer_words.specs.Given.{Gives};
-ghost use Rattle.export_tables.specs.Words.{exportWords};
+ghost use Rattle.answer_words.specs.Given.{Gives, one, replyGiven};
+ghost use Rattle.export_tables.specs.Words.{refWords, exportWords};
 ghost use Rattle.export_tables.specs.Calls.{wordGiven, inlineeGiven, moduleGiven, refGiven, exportGiven, countGiven, globalGiven};
+ghost use Rattle.export_tables.specs.Calls.{listGiven, placesLeft, listedGiven, bodyGiven, exportAtGiven, globalInGiven};
 use answer_words::GIVEN;
 use answer_words::NONE;
+use answer_words::REFUSAL_WORDS;
 use answer_words::TABLE_STATE_WORDS;
+use answer_words::TOO_SHORT;
 use answer_words::put;
 use answer_words::put_refusal;
 use answer_words::walk_in;
 use answer_words::walk_words;
 use exports::Count;
 use exports::CrossModuleExport;
+use exports::ExportAt;
+use exports::ExportBody;
 use exports::ExportStep;
 use exports::Lookup;
+use imports::ImportList;
 use imports::ImportStep;
 use imports::Resolved;
 use inlinees::InlineeStep;
@@ -95,14 +103,44 @@ pub fn next_import(area: &[u8], out: &mut [u64]) -> u32
     }
 }
 
+// A reference: the name of its module, and its word there.
+fn put_ref(out: &mut [u64], found: Resolved) -> u32
+    ensures { λ r. ⌜ Gives (now (out .entry)) (replyGiven refWords (toldResolved found)) r (now (out .exit)) ⌝ }
+{
+    match found {
+        Resolved::Ref { name, word } => put(out, 0, &[name as u64, word as u64], GIVEN),
+        Resolved::Refused(why) => put_refusal(out, 0, why),
+    }
+}
+
 // A reference resolved. Words: the name of its module, and its word there.
 pub fn resolve_import(area: &[u8], index: u32, out: &mut [u64]) -> u32
     ensures { λ r. ⌜ Gives (now (out .entry)) (refGiven crateRule (now (area .entry)) index) r (now (out .exit)) ⌝ }
 {
-    match imports::resolve_import(area, index) {
-        Resolved::Ref { name, word } => put(out, 0, &[name as u64, word as u64], GIVEN),
-        Resolved::Refused(why) => put_refusal(out, 0, why),
+    put_ref(out, imports::resolve_import(area, index))
+}
+
+// A list of the modules' places, into lent slots. Word: how many slots it takes.
+pub fn import_list(area: &[u8], places: &mut [u32], out: &mut [u64]) -> u32
+    ensures { λ r. ⌜ Gives (now (out .entry))
+        (listGiven crateRule (now (area .entry)) (length (now (places .entry))) (now (out .entry)))
+        r (now (out .exit)) ⌝ }
+    ensures { λ _. ⌜ now (places .exit) ≡ placesLeft crateRule (now (area .entry)) (now (places .entry)) (now (out .entry)) ⌝ }
+{
+    if out.len() < REFUSAL_WORDS {
+        return TOO_SHORT;
     }
+    match imports::import_list(area, places) {
+        ImportList::Modules(n) => put(out, 0, &[n as u64], GIVEN),
+        ImportList::Refused(why) => put_refusal(out, 0, why),
+    }
+}
+
+// A reference resolved by a list of places. Words: the name of its module, and its word there.
+pub fn resolve_listed(area: &[u8], places: &[u32], index: u32, out: &mut [u64]) -> u32
+    ensures { λ r. ⌜ Gives (now (out .entry)) (listedGiven (now (area .entry)) (now (places .entry)) index) r (now (out .exit)) ⌝ }
+{
+    put_ref(out, imports::resolve_listed(area, places, index))
 }
 
 // Three words of a record.
@@ -143,13 +181,50 @@ pub fn export_count(area: &[u8], out: &mut [u64]) -> u32
     }
 }
 
-// The global index of a local one.
-pub fn resolve_export(area: &[u8], local: u32, out: &mut [u64]) -> u32
-    ensures { λ r. ⌜ Gives (now (out .entry)) (globalGiven crateRule (now (area .entry)) local) r (now (out .exit)) ⌝ }
+fn put_lookup(out: &mut [u64], found: Lookup) -> u32
+    ensures { λ r. ⌜ Gives (now (out .entry)) (replyGiven one (toldLookup found)) r (now (out .exit)) ⌝ }
 {
-    match exports::resolve_export(area, local) {
+    match found {
         Lookup::Global(global) => put(out, 0, &[global as u64], GIVEN),
         Lookup::None => NONE,
         Lookup::Refused(why) => put_refusal(out, 0, why),
     }
+}
+
+// The global index of a local one.
+pub fn resolve_export(area: &[u8], local: u32, out: &mut [u64]) -> u32
+    ensures { λ r. ⌜ Gives (now (out .entry)) (globalGiven crateRule (now (area .entry)) local) r (now (out .exit)) ⌝ }
+{
+    put_lookup(out, exports::resolve_export(area, local))
+}
+
+// The body for lookups. Words: where it starts in the area, and its length.
+pub fn export_body(area: &[u8], out: &mut [u64]) -> u32
+    ensures { λ r. ⌜ Gives (now (out .entry)) (bodyGiven crateRule (now (area .entry))) r (now (out .exit)) ⌝ }
+{
+    match exports::export_body(area) {
+        ExportBody::At { start, len } => put(out, 0, &[start as u64, len as u64], GIVEN),
+        ExportBody::Refused(why) => put_refusal(out, 0, why),
+    }
+}
+
+// The export at an index of a body. Words: 0 for a type or 1 for an id, the local and the global index.
+pub fn export_at(body: &[u8], i: usize, out: &mut [u64]) -> u32
+    ensures { λ r. ⌜ Gives (now (out .entry)) (exportAtGiven (now (body .entry)) i) r (now (out .exit)) ⌝ }
+{
+    match exports::export_at(body, i) {
+        ExportAt::Export(export) => {
+            let x = export_words(export);
+            put(out, 0, &[x.0, x.1, x.2], GIVEN)
+        }
+        ExportAt::None => NONE,
+        ExportAt::Refused(why) => put_refusal(out, 0, why),
+    }
+}
+
+// The global index of a local one in a body.
+pub fn export_in(body: &[u8], local: u32, out: &mut [u64]) -> u32
+    ensures { λ r. ⌜ Gives (now (out .entry)) (globalInGiven (now (body .entry)) local) r (now (out .exit)) ⌝ }
+{
+    put_lookup(out, exports::export_in(body, local))
 }

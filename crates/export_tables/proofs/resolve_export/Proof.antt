@@ -1,42 +1,15 @@
 -- `export_tables::resolve_export` meets its contract: the words of what `resolve_export` tells.
 -- Assumes nothing.
 use borrow.Author.Needs.{needs}
-use mathlib.Core.Path.{sym, ap, _∙_}
-use Rattle.exports.specs.Told.{toldLookup}
 use Rattle.answer_words.specs.Given.{one, replyGiven}
-use Rattle.answer_words.specs.GivenLaws.{gives-as, gives-none}
+use Rattle.answer_words.specs.GivenLaws.{gives-as}
 use Rattle.export_tables.proofs.resolve_export.Statement.{statement}
 use Rattle.export_tables.proofs.resolve_export.Tie as tie
 
 returns : tie.Need-returns
 returns c =
-    let e = ap toldLookup (sym (c .before .before .before .before .before .before .global .given .1)) ∙ c .before .before .before .before .before .before .before .before .resolve-export .ensures in
-    gives-as (replyGiven one) e (c .before .before .put .ensures)
-
-returns-2 : tie.Need-returns-2
-returns-2 c =
-    let e = ap toldLookup (sym (c .enum-told .given .1)) ∙ c .before .before .resolve-export .ensures in
-    gives-as (replyGiven one) e (gives-none _)
-
-returns-3 : tie.Need-returns-3
-returns-3 c =
-    let e = ap toldLookup (sym (c .before .before .before .before .before .why .given .1)) ∙ c .before .before .before .before .before .before .before .resolve-export .ensures in
-    gives-as (replyGiven one) e (c .before .before .put-refusal .ensures)
+    let p = c .before .before in
+    gives-as (replyGiven one) (p .before .resolve-export .ensures) (p .put-lookup .ensures)
 
 pub resolve-export-spec : {M : Type 1} → statement M
-resolve-export-spec =
-    tie.close
-    (tie.spec
-    (λ c κs. search needs)
-    (λ c. search needs)
-    (λ c. search needs)
-    (λ c. search needs)
-    (λ c κs. search needs)
-    (λ c. search needs)
-    (λ c. search needs)
-    (λ c κs. search needs)
-    (λ c. search needs)
-    returns
-    returns-2
-    (λ c. search needs)
-    returns-3)
+resolve-export-spec = tie.close (tie.spec (λ c κs. search needs) (λ c κs. search needs) (λ c. search needs) returns)

@@ -1,0 +1,16 @@
+-- `export_tables::resolve_listed` meets its contract: the words of what `resolve_listed` tells.
+-- Assumes nothing.
+use borrow.Author.Needs.{needs}
+use Rattle.answer_words.specs.Given.{replyGiven}
+use Rattle.answer_words.specs.GivenLaws.{gives-as}
+use Rattle.export_tables.specs.Words.{refWords}
+use Rattle.export_tables.proofs.resolve_listed.Statement.{statement}
+use Rattle.export_tables.proofs.resolve_listed.Tie as tie
+
+returns : tie.Need-returns
+returns c =
+    let p = c .before .before in
+    gives-as (replyGiven refWords) (p .before .resolve-listed .ensures) (p .put-ref .ensures)
+
+pub resolve-listed-spec : {M : Type 1} → statement M
+resolve-listed-spec = tie.close (tie.spec (λ c κs. search needs) (λ c κs. search needs) (λ c. search needs) returns)
