@@ -136,10 +136,17 @@ pub fn import_list(area: &[u8], places: &mut [u32], out: &mut [u64]) -> u32
     }
 }
 
-// A reference resolved by a list of places. Words: the name of its module, and its word there.
+// The words of a reference, and as many are those of a refusal.
+const REF_WORDS: usize = 2;
+
+// A reference resolved by a list of places. Words: the name of its module, and its word there. The room for either answer is tested first, so that the
+// compiled code need not keep the length of `out`.
 pub fn resolve_listed(area: &[u8], places: &[u32], index: u32, out: &mut [u64]) -> u32
     ensures { λ r. ⌜ Gives (now (out .entry)) (listedGiven (now (area .entry)) (now (places .entry)) index) r (now (out .exit)) ⌝ }
 {
+    if out.len() < REF_WORDS {
+        return TOO_SHORT;
+    }
     put_ref(out, imports::resolve_listed(area, places, index))
 }
 

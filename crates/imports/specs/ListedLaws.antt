@@ -1,5 +1,5 @@
 -- Laws of a list of the modules: the places of a body, and a law for each way out of the code.
-use Prim.Native.Nat.{ℕ, zero, suc, _+_, _-_, _*_, _/_, _<_, _≤_}
+use Prim.Native.Nat.{ℕ, zero, suc, _+_, _-_, _*_, _/_, _%_, _<_, _≤_}
 use mathlib.Core.Path.{_≡_, refl, sym, ap, _∙_, subst, subst⁻¹}
 use mathlib.Core.List.{List, [], _∷_, _++_}
 use mathlib.Core.Logic.{⊎-elim}
@@ -61,10 +61,10 @@ module _ (s : List ℕ) (index p : ℕ) where
     ec : count ≡ u32At s (p + 4)
     ec = let e : p + 8 - 4 ≡ p + 4 = omega arith in read ∙ ap (u32At s) e
 
-    pub at-cut : length s - (p + 8) < 4 * count → refused (told why.Cut) ≡ refAt s index p
+    pub at-cut : (length s - (p + 8)) / 4 < count → refused (told why.Cut) ≡ refAt s index p
     at-cut l = ap (refOn s index) (module-cut s p (omega arith) (λ z. omega arith) (omega arith) (omega (arith, ec)))
 
-    module _ (l : 4 * count ≤ length s - (p + 8)) where
+    module _ (l : count ≤ (length s - (p + 8)) / 4) where
       whole : gives (record { name = u32At s p; words = p + 8; count = count }) (p + 8 + 4 * count) ≡ moduleAt s p
       whole = module-whole s p (omega arith) (λ z. omega arith) (omega arith) (omega (arith, ec)) (u32At s p) count refl ec
 
@@ -93,23 +93,18 @@ module _ (s v : List ℕ) (index : ℕ) where
     unfolding resolveListed
     by-index = sym (simp tests)
 
-    pub listed-not : index / 0x10_0000 < 0x800 → refused (told (why.NotACrossModuleRef index)) ≡ resolveListed s v index
+    pub listed-not : index / 0x8000_0000 % 2 ≡ 0 → refused (told (why.NotACrossModuleRef index)) ≡ resolveListed s v index
     listed-not l = ref-not index found (λ z. omega arith) ∙ by-index
 
-    module _ (scope : ℕ) (l : 0x800 ≤ index / 0x10_0000) (b : index < 0x1_0000_0000) (e : scope ≡ index / 0x10_0000 - 0x800) where
-      picked : scope ≡ scopeOf index
-      picked = omega arith
+    module _ (l : index / 0x8000_0000 % 2 ≡ 0 → ⊥) where
+      by-slot : found ≡ resolveListed s v index
+      by-slot = ref-is index found (omega arith) ∙ by-index
 
-      by-scope : (y : Reply Ref Told) → y ≡ ofNth scope v (refused (told (why.CrossModuleRefNotFound index))) (refAt s index) → y ≡ resolveListed s v index
-      by-scope y q =
-          q ∙ ap (λ (i : ℕ). ofNth i v (refused (told (why.CrossModuleRefNotFound index))) (refAt s index)) picked
-          ∙ ref-is index found (omega arith) ∙ by-index
+      pub listed-none : length v ≤ scopeOf index → refused (told (why.CrossModuleRefNotFound index)) ≡ resolveListed s v index
+      listed-none k = nth-none _ _ v (scopeOf index) k ∙ by-slot
 
-      pub listed-none : length v ≤ scope → refused (told (why.CrossModuleRefNotFound index)) ≡ resolveListed s v index
-      listed-none k = by-scope _ (nth-none _ _ v scope k)
-
-      pub listed-at : scope < length v → (y : Reply Ref Told) → y ≡ refAt s index (getD v scope 0) → y ≡ resolveListed s v index
-      listed-at k y q = by-scope y (q ∙ nth-at _ _ v scope k)
+      pub listed-at : scopeOf index < length v → (y : Reply Ref Told) → y ≡ refAt s index (getD v (scopeOf index) 0) → y ≡ resolveListed s v index
+      listed-at k y q = q ∙ nth-at _ _ v (scopeOf index) k ∙ by-slot
 
 -- ---- the places of a body
 

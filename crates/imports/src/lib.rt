@@ -294,7 +294,7 @@ fn ref_at(area: &[u8], at: u32, index: u32) -> Resolved
         return Resolved::Refused(Refusal::Cut);
     }
     let count = word_at(area, words - 4) as usize;
-    if area.len() - words < 4 * count {
+    if (area.len() - words) / 4 < count {
         return Resolved::Refused(Refusal::Cut);
     }
     let id = (index % 0x10_0000) as usize;
@@ -315,14 +315,12 @@ pub fn resolve_listed(area: &[u8], places: &[u32], index: u32) -> Resolved
     if LONGEST < area.len() {
         return Resolved::Refused(Refusal::TooLong);
     }
-    // bit 31, and below it the module's number
-    let high = (index / 0x10_0000) as usize;
-    if high < 0x800 {
+    if index / 0x8000_0000 % 2 == 0 {
         return Resolved::Refused(Refusal::NotACrossModuleRef(index));
     }
-    let scope = high - 0x800;
-    if places.len() <= scope {
+    let slot = (index / 0x10_0000 % 0x800) as usize;
+    if places.len() <= slot {
         return Resolved::Refused(Refusal::CrossModuleRefNotFound(index));
     }
-    ref_at(area, places[scope], index)
+    ref_at(area, places[slot], index)
 }

@@ -29,7 +29,6 @@ ref-at-spec =
     (λ c κs. search needs)
     (λ c. search needs)
     (λ c. search needs)
-    (λ c. search needs)
     returns-2
     (λ c. search needs)
     returns-3
