@@ -8,9 +8,9 @@
  * what is proved.
  *
  * WHAT A CALL IS LENT. Memory is lent as a pointer and a number of elements. A pointer must be valid for that number of elements and aligned to
- * its type; with the number 0 nothing is read through it, and it may be null. What may be written (`out`, `slots` of c13_order_list,
- * `records` of c13_lines and c13_files, `buf` of the writer) must be no part of anything else that is lent. That is all that is asked: any bytes,
- * any numbers and any state of a walk are taken. The library keeps nothing between calls and allocates nothing; calls on different memory may run
+ * its type; with the number 0 nothing is read through it, and it may be null. What may be written (`out`, `slots` of c13_order_list, `places` of
+ * c13_import_list, `records` of c13_lines and c13_files, `buf` of the writer) must be no part of anything else that is lent. That is all that is asked: any
+ * bytes, any numbers and any state of a walk are taken. The library keeps nothing between calls and allocates nothing; calls on different memory may run
  * at the same time.
  *
  * WHAT A CALL ANSWERS. A status, and words that it puts into `out`:
@@ -198,6 +198,18 @@ uint32_t c13_word(const uint8_t *area, size_t area_len, size_t place, size_t cou
  *   out[0] the module's name   out[1] the word */
 uint32_t c13_resolve_import(const uint8_t *area, size_t area_len, uint32_t index, uint64_t *out, size_t out_len);
 
+/* A list for lookups that read no table again: where the head of each import module stands in the area, in the order of the table. The first places take
+ * it, the others are left as they were. Refused as c13_resolve_import refuses the area and the table, then with C13_NO_ROOM where there are more
+ * modules than places; no place is written then. area_len / 8 places are always enough. The table is read twice.
+ *   out[0] how many places it takes */
+uint32_t c13_import_list(const uint8_t *area, size_t area_len, uint32_t *places, size_t places_len, uint64_t *out, size_t out_len);
+
+/* A cross-module reference resolved by a list, in some 40 instructions whatever the area's size. With the places that c13_import_list took of the same area,
+ * and no more than these, the answer is that of c13_resolve_import. With any other places C13_CUT where no whole module stands at the one that is picked.
+ *   out[0] the module's name   out[1] the word */
+uint32_t c13_resolve_listed(const uint8_t *area, size_t area_len, const uint32_t *places, size_t places_len, uint32_t index, uint64_t *out,
+                            size_t out_len);
+
 /* The next export.
  *   out[4] 0 a type, 1 an id   out[5] its local index   out[6] its global index */
 uint32_t c13_next_export(const uint8_t *area, size_t area_len, uint64_t *out, size_t out_len);
@@ -209,6 +221,21 @@ uint32_t c13_export_count(const uint8_t *area, size_t area_len, uint64_t *out, s
 /* The global index of a local one; C13_NONE where it is not exported. C13_UNSORTED_EXPORTS is tested over all pairs first.
  *   out[0] the global index */
 uint32_t c13_resolve_export(const uint8_t *area, size_t area_len, uint32_t local, uint64_t *out, size_t out_len);
+
+/* Where the body stands for lookups that pass over no area again: the exports as they stand in the area, 8 bytes each. All that c13_resolve_export tests is
+ * tested here, C13_UNSORTED_EXPORTS among it. Without exports it is the empty part at 0.
+ *   out[0] its start in the area   out[1] its length */
+uint32_t c13_export_body(const uint8_t *area, size_t area_len, uint64_t *out, size_t out_len);
+
+/* The export at index i, counted from 0, of a body that is lent alone; C13_NONE behind the last. C13_TOO_LONG above 16,777,216 bytes, then C13_EXPORT_LENGTH.
+ *   out[0] 0 a type, 1 an id   out[1] its local index   out[2] its global index */
+uint32_t c13_export_at(const uint8_t *body, size_t body_len, size_t i, uint64_t *out, size_t out_len);
+
+/* The global index of a local one in a body that is lent alone, by halving: some 10 instructions for each look, of which n exports take at most log n. Of the
+ * body that c13_export_body gave the answer is that of c13_resolve_export. The order of the local indices is not tested again: in a body where they do not
+ * ascend one may be missed. C13_TOO_LONG above 16,777,216 bytes, then C13_EXPORT_LENGTH.
+ *   out[0] the global index */
+uint32_t c13_export_in(const uint8_t *body, size_t body_len, uint32_t local, uint64_t *out, size_t out_len);
 
 /* ---- the string table stream (/names) */
 
@@ -560,6 +587,21 @@ static inline enum c13_status c13_ask_resolve_import(const uint8_t *area, size_t
     if (status == C13_GIVEN) { *name = out[0]; *word = out[1]; }
     return status;
 }
+/* A list of the modules, and a reference by it: c13_import_list, which writes the places, and c13_resolve_listed. `used` of the places are for it. */
+static inline enum c13_status c13_ask_import_list(const uint8_t *area, size_t area_len, uint32_t *places, size_t places_len, size_t *used,
+                                                  struct c13_refused *why) {
+    uint64_t out[2] = {0, 0};
+    enum c13_status status = c13_told(c13_import_list(area, area_len, places, places_len, out, 2), out, why);
+    if (status == C13_GIVEN) *used = (size_t)out[0];
+    return status;
+}
+static inline enum c13_status c13_ask_resolve_listed(const uint8_t *area, size_t area_len, const uint32_t *places, size_t places_len, uint32_t index,
+                                                     uint64_t *name, uint64_t *word, struct c13_refused *why) {
+    uint64_t out[2] = {0, 0};
+    enum c13_status status = c13_told(c13_resolve_listed(area, area_len, places, places_len, index, out, 2), out, why);
+    if (status == C13_GIVEN) { *name = out[0]; *word = out[1]; }
+    return status;
+}
 /* The number of exports, and the global index of a local one: c13_export_count, c13_resolve_export. */
 static inline enum c13_status c13_ask_export_count(const uint8_t *area, size_t area_len, uint64_t *count, struct c13_refused *why) {
     uint64_t out[2] = {0, 0};
@@ -570,6 +612,27 @@ static inline enum c13_status c13_ask_export_count(const uint8_t *area, size_t a
 static inline enum c13_status c13_ask_resolve_export(const uint8_t *area, size_t area_len, uint32_t local, uint64_t *global, struct c13_refused *why) {
     uint64_t out[2] = {0, 0};
     enum c13_status status = c13_told(c13_resolve_export(area, area_len, local, out, 2), out, why);
+    if (status == C13_GIVEN) *global = out[0];
+    return status;
+}
+
+/* The body of the exports, and of it the export at an index and the global index of a local one: c13_export_body, c13_export_at, c13_export_in. The part is
+ * one of the area. */
+static inline enum c13_status c13_ask_export_body(const uint8_t *area, size_t area_len, struct c13_part *body, struct c13_refused *why) {
+    uint64_t out[2] = {0, 0};
+    enum c13_status status = c13_told(c13_export_body(area, area_len, out, 2), out, why);
+    if (status == C13_GIVEN) { body->start = out[0]; body->length = out[1]; }
+    return status;
+}
+static inline enum c13_status c13_ask_export_at(const uint8_t *body, size_t body_len, uint64_t i, struct c13_export *exported, struct c13_refused *why) {
+    uint64_t out[3] = {0, 0, 0};
+    enum c13_status status = c13_told(c13_export_at(body, body_len, (size_t)i, out, 3), out, why);
+    if (status == C13_GIVEN) { exported->is_id = out[0]; exported->local = out[1]; exported->global = out[2]; }
+    return status;
+}
+static inline enum c13_status c13_ask_export_in(const uint8_t *body, size_t body_len, uint32_t local, uint64_t *global, struct c13_refused *why) {
+    uint64_t out[2] = {0, 0};
+    enum c13_status status = c13_told(c13_export_in(body, body_len, local, out, 2), out, why);
     if (status == C13_GIVEN) *global = out[0];
     return status;
 }

@@ -72,9 +72,14 @@ calls! {
     c13_next_import([area: u8]);
     c13_word([area: u8] (place: usize) (count: usize) (i: usize));
     c13_resolve_import([area: u8] (index: u32));
+    c13_import_list([area: u8] [mut places: u32]);
+    c13_resolve_listed([area: u8] [places: u32] (index: u32));
     c13_next_export([area: u8]);
     c13_export_count([area: u8]);
     c13_resolve_export([area: u8] (local: u32));
+    c13_export_body([area: u8]);
+    c13_export_at([body: u8] (i: usize));
+    c13_export_in([body: u8] (local: u32));
     c13_string_table([stream: u8]);
     c13_name([stream: u8] (offset: u32));
     c13_module_symbols([stream: u8] (symbols: u32) (c11: u32) (c13: u32));

@@ -1,7 +1,7 @@
 //! Inlinees, imports and exports.
 
 use crate::calls::{self, TABLE_STATE};
-use crate::words::{answer, one, size, word, word32, Walk};
+use crate::words::{answer, one, part, size, word, word32, Walk};
 use crate::{FileIndex, Refusal, StringRef};
 use std::iter::FusedIterator;
 
@@ -109,15 +109,26 @@ pub struct ModuleRef(pub StringRef);
 #[derive(Clone, Copy, Debug, Eq, Hash, PartialEq)]
 pub struct CrossModuleRef(pub ModuleRef, pub u32);
 
-/// The types and ids that an area takes from other modules. Made by [`Area::imports`](crate::Area::imports).
-#[derive(Clone, Copy, Debug)]
+/// The types and ids that an area takes from other modules. Made by [`Area::imports`](crate::Area::imports), which reads the table once; a lookup then takes
+/// the same time whatever the area's size.
+#[derive(Clone, Debug)]
 pub struct CrossModuleImports<'a> {
     area: &'a [u8],
+    /// Where each module stands in the area; or why the table is refused, which each lookup tells.
+    places: Result<Vec<u32>, Refusal>,
 }
 
 impl<'a> CrossModuleImports<'a> {
     pub(crate) fn new(area: &'a [u8]) -> Self {
-        CrossModuleImports { area }
+        // A module has at least 8 bytes, and an area that is read at most 16,777,216, so these places suffice.
+        let mut places = vec![0; area.len().min(0x100_0000) / 8];
+        let used: Result<[u64; 2], Refusal> = one(|out| calls::c13_import_list(area, &mut places, out));
+        let places = used.map(|out| {
+            places.truncate(size(&out, 0));
+            places.shrink_to_fit();
+            places
+        });
+        CrossModuleImports { area, places }
     }
 
     /// The modules that are imported from, each with what is taken from it.
@@ -131,9 +142,10 @@ impl<'a> CrossModuleImports<'a> {
     /// # Errors
     ///
     /// [`Refusal::NotACrossModuleRef`] where bit 31 is clear; [`Refusal::CrossModuleRefNotFound`] where there is no such module or index. The whole table
-    /// is read first, and its refusals come before these.
+    /// was read first, and its refusals come before these.
     pub fn resolve_import(&self, index: u32) -> Result<CrossModuleRef, Refusal> {
-        let out: [u64; 2] = one(|out| calls::c13_resolve_import(self.area, index, out))?;
+        let places = self.places.as_ref().map_err(|why| *why)?;
+        let out: [u64; 2] = one(|out| calls::c13_resolve_listed(self.area, places, index, out))?;
         Ok(CrossModuleRef(ModuleRef(StringRef(word32(&out, 0))), word32(&out, 1)))
     }
 }
@@ -179,17 +191,29 @@ pub enum CrossModuleExport {
     Id(u32, u32),
 }
 
-/// The types and ids that an area gives to other modules. Made by [`Area::exports`](crate::Area::exports).
+/// The types and ids that an area gives to other modules. Made by [`Area::exports`](crate::Area::exports), which finds and tests them once; a lookup then
+/// halves them.
 #[derive(Clone, Copy, Debug)]
 pub struct CrossModuleExports<'a> {
     area: &'a [u8],
     len: usize,
+    /// The pairs as they stand in the area; or why they cannot be searched, which each lookup tells.
+    body: Result<&'a [u8], Refusal>,
 }
 
 impl<'a> CrossModuleExports<'a> {
     pub(crate) fn new(area: &'a [u8]) -> Result<Self, Refusal> {
-        let out: [u64; 2] = one(|out| calls::c13_export_count(area, out))?;
-        Ok(CrossModuleExports { area, len: size(&out, 0) })
+        let found: Result<[u64; 2], Refusal> = one(|out| calls::c13_export_body(area, out));
+        match found {
+            // eight bytes a pair
+            Ok(out) => Ok(CrossModuleExports { area, len: size(&out, 1) / 8, body: Ok(part(area, &out, 0)) }),
+            // A listing takes any order.
+            Err(Refusal::UnsortedExports) => {
+                let out: [u64; 2] = one(|out| calls::c13_export_count(area, out))?;
+                Ok(CrossModuleExports { area, len: size(&out, 0), body: Err(Refusal::UnsortedExports) })
+            }
+            Err(why) => Err(why),
+        }
     }
 
     /// How many exports there are.
@@ -214,7 +238,7 @@ impl<'a> CrossModuleExports<'a> {
     /// [`Refusal::UnsortedExports`] where the local indices do not strictly ascend: a search in them would answer by chance.
     pub fn resolve_import(&self, local: u32) -> Result<Option<u32>, Refusal> {
         let mut out = [0; 2];
-        let status = calls::c13_resolve_export(self.area, local, &mut out);
+        let status = calls::c13_export_in(self.body?, local, &mut out);
         Ok(answer(status, &out, 0)?.map(|w| word32(w, 0)))
     }
 }

@@ -160,12 +160,25 @@ fn tables_are_read() {
     assert_eq!(imports.resolve_import(0x8000_0001), Ok(CrossModuleRef(ModuleRef(StringRef(5)), 0x1004)));
     assert_eq!(imports.resolve_import(0x8020_0000), Err(Refusal::CrossModuleRefNotFound(0x8020_0000)));
     assert_eq!(imports.resolve_import(1), Err(Refusal::NotACrossModuleRef(1)));
+    // the whole table first, at each lookup
+    let cut = subsection(0xf7, &[5, 2, 0x1003]);
+    let imports = Area::new(&cut).imports();
+    assert_eq!((imports.resolve_import(0x8000_0000), imports.clone().resolve_import(1)), (Err(Refusal::Cut), Err(Refusal::Cut)));
+    assert_eq!(Area::new(&[]).imports().resolve_import(0x8000_0000), Err(Refusal::CrossModuleRefNotFound(0x8000_0000)));
 
     let exports = subsection(0xf8, &[1, 0x1001, 2, 0x1002, 0x8000_0003, 0x1003]);
     let exports = Area::new(&exports).exports().expect("exports");
     assert_eq!(exports.len(), 3);
     assert_eq!(exports.exports().last(), Some(Ok(CrossModuleExport::Id(0x8000_0003, 0x1003))));
     assert_eq!((exports.resolve_import(2), exports.resolve_import(3)), (Ok(Some(0x1002)), Ok(None)));
+    // any order is listed, and not searched
+    let turned = subsection(0xf8, &[2, 0x1002, 1, 0x1001]);
+    let exports = Area::new(&turned).exports().expect("exports");
+    assert_eq!((exports.len(), exports.exports().count()), (2, 2));
+    assert_eq!(exports.resolve_import(1), Err(Refusal::UnsortedExports));
+    let exports = Area::new(&[]).exports().expect("exports");
+    assert_eq!((exports.len(), exports.is_empty(), exports.resolve_import(1)), (0, true, Ok(None)));
+    assert_eq!(Area::new(&subsection(0xf8, &[1, 2, 3])).exports().map(|e| e.len()), Err(Refusal::ExportLength));
 
     let inlinees = subsection(0xf6, &[1, 0x1000, 24, 7, 2, 48, 72]);
     let inlinee = Area::new(&inlinees).inlinees().next().expect("one").expect("inlinee");

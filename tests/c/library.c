@@ -30,8 +30,8 @@ static const uint8_t *lent(const void *bytes, size_t n) { return n ? (const uint
 
 /* ---- the functions on an area or a stream, as one type */
 
-static uint32_t slots[16];
-static size_t slots_used;
+static uint32_t slots[16], places[16];
+static size_t slots_used, places_used;
 static uint32_t number;             /* the number that a function takes beside the bytes */
 static uint32_t sizes[] = {4, 0, 8}; /* the sizes of a module */
 
@@ -50,6 +50,10 @@ static uint32_t file_at(const uint8_t *a, size_t n, uint64_t *o, size_t m) { ret
 static uint32_t file_in(const uint8_t *a, size_t n, uint64_t *o, size_t m) { return c13_file_in(a, n, number, o, m); }
 static uint32_t resolve_import(const uint8_t *a, size_t n, uint64_t *o, size_t m) { return c13_resolve_import(a, n, number, o, m); }
 static uint32_t resolve_export(const uint8_t *a, size_t n, uint64_t *o, size_t m) { return c13_resolve_export(a, n, number, o, m); }
+static uint32_t import_list(const uint8_t *a, size_t n, uint64_t *o, size_t m) { return c13_import_list(a, n, slots_end - 16, 16, o, m); }
+static uint32_t resolve_listed(const uint8_t *a, size_t n, uint64_t *o, size_t m) { return c13_resolve_listed(a, n, places, places_used, number, o, m); }
+static uint32_t export_at(const uint8_t *a, size_t n, uint64_t *o, size_t m) { return c13_export_at(a, n, number, o, m); }
+static uint32_t export_in(const uint8_t *a, size_t n, uint64_t *o, size_t m) { return c13_export_in(a, n, number, o, m); }
 static uint32_t word_at(const uint8_t *a, size_t n, uint64_t *o, size_t m) { return c13_word(a, n, 8, 2, number, o, m); }
 static uint32_t name(const uint8_t *a, size_t n, uint64_t *o, size_t m) { return c13_name(a, n, number, o, m); }
 static uint32_t module_symbols(const uint8_t *a, size_t n, uint64_t *o, size_t m) { return c13_module_symbols(a, n, sizes[0], sizes[1], sizes[2], o, m); }
@@ -57,7 +61,7 @@ static uint32_t lines_part(const uint8_t *a, size_t n, uint64_t *o, size_t m) { 
 static uint32_t tables_part(const uint8_t *a, size_t n, uint64_t *o, size_t m) { return c13_tables_part(a, n, sizes[0], sizes[1], sizes[2], o, m); }
 
 /* The name, the words of its state, the words of an answer with it, and what the function reads. */
-enum reads { AN_AREA, NAMES, A_MODULE, CHECKSUMS, SORTS };
+enum reads { AN_AREA, NAMES, A_MODULE, CHECKSUMS, EXPORTS, SORTS };
 static const struct function {
     const char *name;
     call *f;
@@ -87,6 +91,11 @@ static const struct function {
     {"c13_files", files, C13_TABLE_STATE, C13_TABLE_STATE + 2, AN_AREA},
     {"c13_checksums", c13_checksums, 0, 2, AN_AREA},
     {"c13_file_in", file_in, 0, 4, CHECKSUMS},
+    {"c13_import_list", import_list, 0, 1, AN_AREA},
+    {"c13_resolve_listed", resolve_listed, 0, 2, AN_AREA},
+    {"c13_export_body", c13_export_body, 0, 2, AN_AREA},
+    {"c13_export_at", export_at, 0, 3, EXPORTS},
+    {"c13_export_in", export_in, 0, 1, EXPORTS},
 };
 enum { FUNCTIONS = sizeof functions / sizeof *functions };
 
@@ -197,6 +206,7 @@ static uint8_t every_bytes[sizeof every];
 static void use_list(const uint8_t *area, size_t n) {
     uint64_t out[2];
     slots_used = c13_order_list(area, n, slots, 16, out, 2) == C13_GIVEN ? out[0] : 0;
+    places_used = c13_import_list(area, n, places, 16, out, 2) == C13_GIVEN ? out[0] : 0;
 }
 
 static void examples(const uint8_t *area, size_t n, const uint8_t *names, size_t k) {
@@ -234,6 +244,14 @@ static void examples(const uint8_t *area, size_t n, const uint8_t *names, size_t
     ask("c13_export_count", area, n);
     for (number = 6; number < 8; number++) ask("c13_resolve_export", area, n);
     number = 0x80000008, ask("c13_resolve_export", area, n);
+    ask("c13_import_list", area, n);
+    for (size_t i = 0; i < places_used; i++) printf("  place %u\n", places[i]);
+    for (size_t i = 0; i < 4; i++) number = references[i], ask("c13_resolve_listed", area, n);
+    ask("c13_export_body", area, n);
+    const uint8_t *exports = area + n - 16;
+    for (number = 0; number < 3; number++) ask("c13_export_at", exports, 16);
+    for (number = 6; number < 8; number++) ask("c13_export_in", exports, 16);
+    ask("c13_export_in", exports, 12);
 
     printf("-- a module\n");
     static const uint8_t stream[16] = {4};
@@ -274,7 +292,7 @@ static void writing(void) {
 
 static void nothing_lent(void) {
     printf("-- nothing lent\n");
-    slots_used = 0;
+    slots_used = places_used = 0;
     for (const struct function *f = functions; f < functions + FUNCTIONS; f++) printf("%s: %u\n", f->name, f->f(NULL, 0, NULL, 0));
     words_given = columns_given = bytes_given = 0;
     for (const struct writer *w = writers; w < writers + WRITERS; w++) printf("%s: %u\n", w->name, w->f(NULL, 0, 0, NULL, 0));
@@ -282,6 +300,10 @@ static void nothing_lent(void) {
     printf("c13_order_list, no slots: %u", c13_order_list(every_bytes, sizeof every, NULL, 0, out, 2));
     printf(" %llu\n", (unsigned long long)out[0]);
     printf("c13_next_line, no slots: %u\n", c13_next_line(every_bytes, sizeof every, NULL, 0, NULL, 0));
+    printf("c13_import_list, no places: %u", c13_import_list(every_bytes, sizeof every, NULL, 0, out, 2));
+    printf(" %llu\n", (unsigned long long)out[0]);
+    printf("c13_resolve_listed, no places: %u", c13_resolve_listed(every_bytes, sizeof every, NULL, 0, 0x80000000, out, 2));
+    printf(" %llu\n", (unsigned long long)out[0]);
 }
 
 static uint64_t sum; /* over all answers, so that the stored text pins them */
@@ -319,7 +341,7 @@ static uint32_t tried(const struct function *f, const uint8_t *bytes, size_t n, 
     return status;
 }
 
-/* Whole bytes of each sort: an area, names, a module, the checksum data of the area. */
+/* Whole bytes of each sort: an area, names, a module, the checksum data of the area, the body of its exports. */
 static struct { const uint8_t *bytes; size_t n; } whole[SORTS];
 
 /* Each function with 0 to WORDS words for its answer: too few are told, and change nothing. */
@@ -330,7 +352,7 @@ static void few_words(void) {
     for (const struct function *f = functions; f < functions + FUNCTIONS; f++) {
         size_t n = whole[f->reads].n, few = 0;
         const uint8_t *bytes = lent(whole[f->reads].bytes, n);
-        number = f->f == resolve_import ? 0x80000000 : f->f == resolve_export ? 7 : 0;
+        number = f->f == resolve_import || f->f == resolve_listed ? 0x80000000 : f->f == resolve_export || f->f == export_in ? 7 : 0;
         for (size_t m = 0; m <= WORDS; m++) few += tried(f, bytes, n, zeros, m) == C13_TOO_SHORT;
         printf("%s: too short below %zu\n", f->name, few);
     }
@@ -370,9 +392,11 @@ static size_t spoilt(enum reads sort) {
 
 static void list_by_chance(const uint8_t *area, size_t n) {
     use_list(area, n);
-    if (chance() % 2) slots_used = chance() % 16;
+    if (chance() % 2) slots_used = places_used = chance() % 16;
     if (chance() % 2)
         for (size_t i = 0; i < slots_used; i++) slots[i] = (uint32_t)number_by_chance();
+    if (chance() % 2)
+        for (size_t i = 0; i < places_used; i++) places[i] = (uint32_t)number_by_chance();
 }
 
 /* Bytes cut, spoilt and by chance, with states, slots and numbers by chance. */
@@ -486,6 +510,7 @@ int main(int argc, char **argv) {
     whole[NAMES].bytes = names, whole[NAMES].n = k;
     whole[A_MODULE].bytes = module, whole[A_MODULE].n = sizeof module;
     whole[CHECKSUMS].bytes = every_bytes + 8, whole[CHECKSUMS].n = 24;
+    whole[EXPORTS].bytes = every_bytes + sizeof every - 16, whole[EXPORTS].n = 16;
     nothing_lent();
     few_words();
     by_chance();

@@ -88,6 +88,12 @@ static void same(const char *what, uint32_t status, const void *words, enum c13_
     compared++, given += answered(status), refused += status == C13_REFUSED;
 }
 
+static void as_area(const char *what, int right) {
+    if (right) return;
+    printf("%s: another answer than of the area\n", what);
+    exit(1);
+}
+
 /* Both walks, record by record, and their last answer a second time. */
 #define SAME_WALK(what, call, state, walk_next, walk, record)                                    \
     do {                                                                                         \
@@ -212,6 +218,40 @@ static void area_questions(const uint8_t *area, size_t n) {
     same("c13_ask_export_count", status, out, c13_ask_export_count(area, n, fields, &why), fields, 8, &why);
 }
 
+/* The list of the imports and the body of the exports: asked by structs as by words; and with what was found of an area, or refused, the answers are those of
+ * the area's own calls. */
+static void found_once(const uint8_t *area, size_t n) {
+    static const uint32_t indices[] = {0, 1, 7, 8, 0x80000000, 0x80000001, 0x80000002, 0x80000008, 0x80100000, UINT32_MAX};
+    uint32_t places[32];
+    uint64_t out[C13_MOST], other[2], fields[3];
+    size_t used = 0;
+    struct c13_part part = {0, 0};
+    struct c13_export exported;
+    struct c13_refused why;
+    uint32_t listed = c13_import_list(area, n, places, 32, out, 2), found, status;
+    enum c13_status told = c13_ask_import_list(area, n, places, 32, &used, &why);
+    uint64_t taken = used;
+    same("c13_ask_import_list", listed, out, told, &taken, 8, &why);
+    found = c13_export_body(area, n, out, 2);
+    same("c13_ask_export_body", found, out, c13_ask_export_body(area, n, &part, &why), &part, sizeof part, &why);
+    for (size_t i = 0; i < sizeof indices / sizeof *indices; i++) {
+        status = c13_resolve_listed(area, n, places, used, indices[i], out, 2);
+        told = c13_ask_resolve_listed(area, n, places, used, indices[i], fields, fields + 1, &why);
+        same("c13_ask_resolve_listed", status, out, told, fields, 16, &why);
+        if (listed != C13_GIVEN) status = c13_import_list(area, n, places, 32, out, 2);
+        as_area("c13_resolve_listed", status == c13_resolve_import(area, n, indices[i], other, 2) && !memcmp(out, other, 16));
+        status = c13_export_at(area + part.start, part.length, i, out, 3);
+        same("c13_ask_export_at", status, out, c13_ask_export_at(area + part.start, part.length, i, &exported, &why), &exported, sizeof exported, &why);
+        out[0] = other[0] = 0;
+        status = c13_export_in(area + part.start, part.length, indices[i], out, 2);
+        told = c13_ask_export_in(area + part.start, part.length, indices[i], fields, &why);
+        same("c13_ask_export_in", status, out, told, fields, 8, &why);
+        if (found != C13_GIVEN) status = c13_export_body(area, n, out, 2);
+        as_area("c13_export_in", status == c13_resolve_export(area, n, indices[i], other, 2) && out[0] == other[0]);
+    }
+    as_area("c13_export_body", found != C13_GIVEN || (c13_export_count(area, n, out, 2) == C13_GIVEN && out[0] == part.length / 8));
+}
+
 static void hold_area(const uint8_t *area, size_t n) {
     uint64_t out[2] = {0};
     size_t used = 0;
@@ -246,6 +286,7 @@ static void hold_area(const uint8_t *area, size_t n) {
     symbol_lines(area, n, used, 0);
     symbol_lines(area, n, used + 1, 0x1000); /* a slot that is not of this area */
     area_questions(area, n);
+    found_once(area, n);
 }
 
 static void hold_names(const uint8_t *names, size_t n) {
@@ -300,8 +341,8 @@ static const uint32_t every[] = {
     0xf2, 48, 0x1000, 0x00010001, 0x20, 0, 2, 36, 0, 0x8000000a, 8, 0x8000000c, 0x00020001, 0x00040003,
     0xf2, 32, 0x0800, 1, 0x20, 0, 1, 20, 4, 0x14,
     0xf6, 28, 1, 0x1000, 0, 7, 2, 24, 48,
-    0xf7, 16, 5, 2, 0x1003, 0x1004,
-    0xf8, 16, 7, 0x1007, 0x80000008, 0x1008,
+    0xf7, 28, 5, 2, 0x1003, 0x1004, 9, 1, 0x1007,
+    0xf8, 24, 1, 0x1001, 7, 0x1007, 0x80000008, 0x1008,
 };
 
 static size_t read_file(const char *path, uint8_t *to) {
