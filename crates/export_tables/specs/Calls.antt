@@ -1,5 +1,5 @@
--- What each call on a table gives, by the rule of kinds. s is the area, v the slots of a list of places, b a body that is lent alone, and o the lent words, whose
--- first are a walk's state. The list changes its slots only with room for a refusal in o. Source: docs/DECISIONS.md, 32.
+-- What each call on a table gives, by the rule of kinds. s is the area, v the slots of a list of places, b a body that is lent alone, and o the lent words,
+-- whose first are a walk's state. The list changes its slots only with room for a refusal in o. Source: docs/DECISIONS.md, 32.
 -- Definitions only; a reader must believe them.
 use Prim.Native.Nat.{ℕ}
 use mathlib.Core.List.{List}

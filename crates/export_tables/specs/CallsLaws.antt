@@ -35,7 +35,8 @@ Answers (gave b) = Unit {0}
 Answers nothing = ⊥
 Answers (refused t) = Unit {0}
 
-answers-nth : {A B : Type 0} (y : Reply B Told) (f : A → Reply B Told) → Answers y → ((a : A) → Answers (f a)) → (i : ℕ) (xs : List A) → Answers (ofNth i xs y f)
+answers-nth : {A B : Type 0} (y : Reply B Told) (f : A → Reply B Told) → Answers y → ((a : A) → Answers (f a)) → (i : ℕ) (xs : List A)
+    → Answers (ofNth i xs y f)
 unfolding ofNth
 answers-nth y f h g i [] = h
 answers-nth y f h g zero (x ∷ xs) = g x

@@ -23,7 +23,8 @@ returns-2 c =
 returns-3 : tie.Need-returns-3
 returns-3 c =
     let h = c .before .before .before .before .before in
-    gives-as (replyGiven exportWords) (ap toldExportAt (sym (h .why .given .1)) ∙ h .before .before .export-at .ensures) (c .before .before .put-refusal .ensures)
+    gives-as (replyGiven exportWords) (ap toldExportAt (sym (h .why .given .1)) ∙ h .before .before .export-at .ensures)
+    (c .before .before .put-refusal .ensures)
 
 pub export-at-spec : {M : Type 1} → statement M
 export-at-spec =
