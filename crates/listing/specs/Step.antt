@@ -19,7 +19,7 @@ use Rattle.files.specs.Files.{fileStep}
 use Rattle.line_step.specs.declared.LineWalk.{LineWalk}
 use Rattle.line_step.specs.declared.LineWalk.the-variants as line
 use Rattle.line_walk.specs.Next.{nextOf}
-use Rattle.text.specs.Text.{joined, Next, at, full}
+use Rattle.text.specs.Text.{joined, Next, at, stopped}
 use Rattle.printed.specs.Printed.{Pieces, longestLine, headLine, endOfText}
 use Rattle.printed.specs.LineText.{recordLine}
 use Rattle.listing.specs.Dump.{mostBytes, subRow, fileRow, refusal}
@@ -77,7 +77,7 @@ lineShown b (refuses t) = both (refuses t) b
 unfoldable pub textStep : List ℕ → Line → Both
 textStep b u = cond (ltb (length b) longestLine) (both (refuses (told why.NoRoom)) b) (lineShown b u)
 
--- what is answered of a line, by the place behind its pieces
+-- what is answered of a line, by the place behind it
 abbrev pub lineAnswer : Next → TextWalk → Answer TextWalk ℕ Told
 lineAnswer (at n) t = gives n t
-lineAnswer full t = refuses (told why.NoRoom)
+lineAnswer (stopped e) t = refuses e

@@ -21,8 +21,8 @@ use Rattle.body.specs.Checksums.{up4}
 use Rattle.checksums.specs.Entry.{Entry, keptOf, closedAs, entryAt}
 use Rattle.files.specs.Files.{File, fileOf, filesSub, fileStep, held, partOf, fileSpelt}
 use Rattle.line_step.specs.declared.LineWalk.the-variants as line
-use Rattle.text.specs.Text.{joined, Next, at, Page, page, writtenAll}
-use Rattle.text.specs.PageLaws.{all-written}
+use Rattle.text.specs.Text.{joined, Next, at, Page, page, pieceWritten}
+use Rattle.text.specs.PageLaws.{written-fits}
 use Rattle.printed.specs.Printed.{Pieces, longestLine, headLine, fileLine}
 use Rattle.printed.specs.PrintedLaws.{Short, file-fits}
 use Rattle.listing.specs.Dump.{mostBytes, fileRow, refusal}
@@ -32,11 +32,11 @@ use Rattle.listing.specs.declared.TextWalk.the-variants.{Subs, Files, Do
 
 -- a line that fits, put at the start of a buffer that has room for every line: what the page says is what is shown
 pub line-shown : (b y : List ℕ) (p : Next) (x : Pieces) (t : TextWalk) (a : Answer TextWalk ℕ Told) → longestLine ≤ length b → length (joined x) ≤ longestLine
-    → page y p ≡ writtenAll x (page b (at 0)) → a ≡ lineAnswer p t → both a y ≡ lineShown b (gives x t)
+    → page y p ≡ pieceWritten (joined x) (page b (at 0)) → a ≡ lineAnswer p t → both a y ≡ lineShown b (gives x t)
 unfolding lineShown
 line-shown b y p x t a room fits e ea =
     let w : page y p ≡ page (put b 0 (joined x)) (at (length (joined x)))
-    = e ∙ sym (all-written x b 0 (omega arith)) ∙ ap (λ (n : ℕ). page (put b 0 (joined x)) (at n)) (omega arith) in
+    = e ∙ sym (written-fits b 0 (joined x) (omega arith)) ∙ ap (λ (n : ℕ). page (put b 0 (joined x)) (at n)) (omega arith) in
     (λ i. both (ea i) y) ∙ ap (λ (q : Page). both (lineAnswer (q .next) t) (q .bytes)) w
 
 -- ---- the ways out of `head_step`
@@ -68,7 +68,7 @@ step-room b u h = rw (le-ltb (length b) longestLine h)
 
 module _ {S B : Type 0} (state : S → TextWalk) (row : B → Pieces) (a : Answer S B Told) (x : Line) (b y : List ℕ) (r : Answer TextWalk ℕ Told) where
   pub stage-gives : (p : Next) (d : B) (t : S) → gives d t ≡ a → longestLine ≤ length b → length (joined (row d)) ≤ longestLine
-      → page y p ≡ writtenAll (row d) (page b (at 0)) → r ≡ lineAnswer p (state t) → both r y ≡ lineShown b (stage state row a x)
+      → page y p ≡ pieceWritten (joined (row d)) (page b (at 0)) → r ≡ lineAnswer p (state t) → both r y ≡ lineShown b (stage state row a x)
   unfolding stage
   stage-gives p d t e room fits w l =
       line-shown b y p (row d) (state t) r room fits w l ∙ ap (λ (u : Answer S B Told). lineShown b (stage state row u x)) e
@@ -78,7 +78,7 @@ module _ {S B : Type 0} (state : S → TextWalk) (row : B → Pieces) (a : Answe
   stage-none e w = w ∙ ap (λ (u : Answer S B Told). lineShown b (stage state row u x)) e
 
   pub stage-refuses : (p : Next) (t : Told) → refuses t ≡ a → longestLine ≤ length b → length (joined (refusal t)) ≤ longestLine
-      → page y p ≡ writtenAll (refusal t) (page b (at 0)) → r ≡ lineAnswer p Done → both r y ≡ lineShown b (stage state row a x)
+      → page y p ≡ pieceWritten (joined (refusal t)) (page b (at 0)) → r ≡ lineAnswer p Done → both r y ≡ lineShown b (stage state row a x)
   unfolding stage
   stage-refuses p t e room fits w l =
       line-shown b y p (refusal t) Done r room fits w l ∙ ap (λ (u : Answer S B Told). lineShown b (stage state row u x)) e
@@ -150,12 +150,12 @@ row-short rule s w t f h e =
 -- a file's line, its bytes l as they are handed back
 pub file-line : (rule : ℕ → Sort) (s v : List ℕ) (w : TableWalk) (b y : List ℕ) (r : Answer TextWalk ℕ Told) (p : Next) (f : File) (t : TableWalk) (l : List ℕ)
     → gives f t ≡ fileStep rule s w → Bytes s → Short (f .index) → Short (f .info .name) → longestLine ≤ length b → l ≡ fileSpelt s f .bytes
-    → page y p ≡ writtenAll (fileLine (f .index) (f .info .name) (f .info .kind) l) (page b (at 0)) → r ≡ lineAnswer p (Files t)
+    → page y p ≡ pieceWritten (joined (fileLine (f .index) (f .info .name) (f .info .kind) l)) (page b (at 0)) → r ≡ lineAnswer p (Files t)
     → both r y ≡ lineShown b (filesStep rule s v w)
 file-line rule s v w b y r p f t l e h i n room el q g =
     stage-gives Files (fileRow s) (fileStep rule s w) (linesStep rule s v line.New) b y r p f t e room
     (file-fits (f .index) (f .info .name) (f .info .kind) (fileSpelt s f .bytes) i n (row-short rule s w t f h e))
-    (q ∙ ap (λ (m : List ℕ). writtenAll (fileLine (f .index) (f .info .name) (f .info .kind) m) (page b (at 0))) el) g
+    (q ∙ ap (λ (m : List ℕ). pieceWritten (joined (fileLine (f .index) (f .info .name) (f .info .kind) m)) (page b (at 0))) el) g
 
 -- the step u of a state, which is v, in a buffer that has the room
 pub step-is : (b y : List ℕ) (r : Answer TextWalk ℕ Told) (u v : Line) → longestLine ≤ length b → both r y ≡ lineShown b u → u ≡ v → both r y ≡ textStep b v

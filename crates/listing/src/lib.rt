@@ -55,7 +55,7 @@ fn line_of(place: Place, next: TextWalk) -> TextStep
 {
     match place {
         Place::At(len) => TextStep::Line { len, next },
-        Place::Full => TextStep::Refused(Refusal::NoRoom),
+        Place::Refused(why) => TextStep::Refused(why),
     }
 }
 

@@ -1,4 +1,4 @@
--- Laws of a record's line: it is not longer than `longestLine`.
+-- Laws of a record's line: it is not longer than `shortLine`.
 use Prim.Native.Nat.{_≤_}
 use mathlib.Core.Path.{_≡_, refl}
 use native.Mathlib.Omega.{arith}
@@ -11,8 +11,7 @@ use Rattle.line_record.specs.declared.Column.the-variants as column
 use Rattle.line_record.specs.declared.LineKind.{LineKind}
 use Rattle.line_record.specs.declared.LineKind.the-variants.{Expression, Statement}
 use Rattle.line_record.specs.declared.LineRecord.{LineRecord}
-use Rattle.printed.specs.Printed.{longestLine}
-use Rattle.printed.specs.PrintedLaws.{Short, decimal-short, hex-short}
+use Rattle.printed.specs.PrintedLaws.{Short, shortLine, decimal-short, hex-short}
 use Rattle.printed.specs.LineText.{lengthText, sideText, kindText, recordLine}
 
 abbrev pub ShortLength : Length → Type 0
@@ -42,7 +41,7 @@ unfolding ascii
 kind-short Statement = omega arith
 kind-short Expression = omega arith
 
-pub record-fits : (r : LineRecord) → ShortRecord r → length (joined (recordLine r)) ≤ longestLine
+pub record-fits : (r : LineRecord) → ShortRecord r → length (joined (recordLine r)) ≤ shortLine
 unfolding ascii
 record-fits r h =
     simp length-append

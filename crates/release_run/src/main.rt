@@ -232,7 +232,7 @@ fn hex(bytes: &[u8]) {
     let mut line = [0u8; 64];
     match text::put_hex_bytes(&mut line, Place::At(0), bytes) {
         Place::At(len) => say(start_of(&line, len)),
-        Place::Full => say(b"more than 32 bytes"),
+        Place::Refused(_) => say(b"more than 32 bytes"),
     }
 }
 

@@ -1,5 +1,5 @@
 -- Laws of pages: bytes put one at a time, from the front and from the back; a piece put; and THE LAW of pieces, that piece after piece is the
--- text that they make.
+-- text that they make, where all of it fits.
 use Prim.Native.Nat.{ℕ, suc, _+_, _*_, _-_, _/_, _%_, _≤_, _<_}
 use mathlib.Core.Path.{_≡_, refl, sym, ap, _∙_, subst⁻¹}
 use mathlib.Core.List.{List, [], _∷_, _++_, append-assoc}
@@ -13,7 +13,9 @@ use borrow.Author.Tests.{leb-true, le-leb, lt-leb}
 use Rattle.word.specs.Word.{put}
 use Rattle.word.specs.WordLaws.{put-length}
 use Rattle.walk.specs.Cases.{by-cases}
-use Rattle.text.specs.Text.{glyph, numeral, hexBytes, Next, at, full, Page, page, roomAt, putAt, pieceWritten, writtenAll, joined}
+use Rattle.refusal.specs.Told.{Told, told}
+use Rattle.refusal.specs.declared.Refusal.the-variants as why
+use Rattle.text.specs.Text.{glyph, numeral, hexBytes, Next, at, stopped, Page, page, roomAt, putAt, pieceWritten, joined}
 use Rattle.text.specs.TextLaws.{numeral-one, numeral-more, length-more, hex-length}
 
 -- ---- bytes put one at a time
@@ -91,23 +93,29 @@ module _ (len n : ℕ) (x : Next) where
   unfolding roomAt
   room-at p e h = rw (e, le-leb (p + n) len h)
 
-  pub room-none : (p : ℕ) → x ≡ at p → len < p + n → full ≡ roomAt len n x
+  pub room-none : (p : ℕ) → x ≡ at p → len < p + n → stopped (told why.NoRoom) ≡ roomAt len n x
   unfolding roomAt
   room-none p e h = rw (e, lt-leb (p + n) len h)
 
-  pub room-full : x ≡ full → full ≡ roomAt len n x
+  pub room-stopped : (t : Told) → x ≡ stopped t → stopped t ≡ roomAt len n x
   unfolding roomAt
-  room-full e = rw e
+  room-stopped t e = rw e
+
+-- no room for n bytes is none for more
+pub room-less : (len n m : ℕ) (x : Next) → len < n → n ≤ m → roomAt len n x ≡ roomAt len m x
+unfolding roomAt
+room-less len n m (at p) h l = rw (lt-leb (p + n) len (omega arith), lt-leb (p + m) len (omega arith))
+room-less len n m (stopped t) h l = refl
 
 -- a place that is given has room
 abbrev Roomy : ℕ → ℕ → Next → Type 0
 Roomy len n (at p) = p + n ≤ len
-Roomy len n full = Unit {0}
+Roomy len n (stopped t) = Unit {0}
 
 roomy : (len n : ℕ) (x : Next) → Roomy len n (roomAt len n x)
 unfolding roomAt
 roomy len n (at p) = by-cases (Roomy len n) (leb (p + n) len) (λ e. leb-true (p + n) len e) (λ e. tt)
-roomy len n full = tt
+roomy len n (stopped t) = tt
 
 pub room-in : (len n p : ℕ) (x : Next) → at p ≡ roomAt len n x → p + n ≤ len
 room-in len n p x e = subst⁻¹ (Roomy len n) e (roomy len n x)
@@ -118,9 +126,24 @@ module _ (b xs : List ℕ) (x : Next) (n : ℕ) (en : n ≡ length xs) where
   written-at p y e ey =
       (λ i. page (ey i) (at (p + en i))) ∙ ap (putAt xs b) (e ∙ ap (λ (k : ℕ). roomAt (length b) k x) en)
 
-  pub written-full : full ≡ roomAt (length b) n x → page b full ≡ pieceWritten xs (page b x)
+  pub written-none : (t : Told) → stopped t ≡ roomAt (length b) n x → page b (stopped t) ≡ pieceWritten xs (page b x)
   unfolding pieceWritten
-  written-full e = ap (putAt xs b) (e ∙ ap (λ (k : ℕ). roomAt (length b) k x) en)
+  written-none t e = ap (putAt xs b) (e ∙ ap (λ (k : ℕ). roomAt (length b) k x) en)
+
+-- a piece that is refused leaves the buffer as found; and where it was to go to a place of the buffer, the number is 10
+pub put-careful : (xs : List ℕ) (q : Page) (t : Told) → pieceWritten xs q .next ≡ stopped t → pieceWritten xs q .bytes ≡ q .bytes
+unfolding pieceWritten
+put-careful xs q t = by (roomAt (length (q .bytes)) (length xs) (q .next))
+  where
+    by : (x : Next) → putAt xs (q .bytes) x .next ≡ stopped t → putAt xs (q .bytes) x .bytes ≡ q .bytes
+    by (at p) e = let z : _≡_ {A = ℕ} 0 1 = cc in absurd (omega arith)
+    by (stopped r) e = refl
+
+pub put-ten : (xs b : List ℕ) (p : ℕ) (t : Told) → pieceWritten xs (page b (at p)) .next ≡ stopped t → t ≡ told why.NoRoom
+unfolding pieceWritten roomAt
+put-ten xs b p t =
+    by-cases (λ (x : Next). putAt xs b x .next ≡ stopped t → t ≡ told why.NoRoom) (leb (p + length xs) (length b))
+    (λ h e. let z : _≡_ {A = ℕ} 0 1 = cc in absurd (omega arith)) (λ h e. cc)
 
 -- ---- THE LAW: put at p of xs, and then at p + length xs of ys, is put of xs ++ ys
 
@@ -145,6 +168,11 @@ put-append b p xs ys h =
 pub written-fits : (b : List ℕ) (p : ℕ) (xs : List ℕ) → p + length xs ≤ length b → page (put b p xs) (at (p + length xs)) ≡ pieceWritten xs (page b (at p))
 written-fits b p xs h = written-at b xs (at p) (length xs) refl p (put b p xs) (room-at (length b) (length xs) (at p) p refl h) refl
 
+-- several pieces, each put behind the one before
+unfoldable pub writtenAll : List (List ℕ) → Page → Page
+writtenAll [] q = q
+writtenAll (xs ∷ xss) q = writtenAll xss (pieceWritten xs q)
+
 -- pieces that fit
 pub all-written : (xss : List (List ℕ)) (b : List ℕ) (p : ℕ) → p + length (joined xss) ≤ length b
     → page (put b p (joined xss)) (at (p + length (joined xss))) ≡ writtenAll xss (page b (at p))
@@ -157,6 +185,29 @@ all-written (xs ∷ xss) b p h =
     (λ i. page (sym (put-append b p xs ys (omega arith)) i) (at (e i)))
     ∙ all-written xss (put b p xs) (p + length xs) (omega (arith, put-length b p xs (omega arith)))
     ∙ ap (writtenAll xss) (written-fits b p xs (omega arith))
+
+-- pieces put at the start of a buffer that has the room: their text stands there, and the next place is behind it
+pub pieces-stand : (xss : List (List ℕ)) (b y : List ℕ) (x : Next) → length (joined xss) ≤ length b → page y x ≡ writtenAll xss (page b (at 0))
+    → (x ≡ at (length (joined xss))) × (take (length (joined xss)) y ≡ joined xss)
+pieces-stand xss b y x h e =
+    let n = length (joined xss) in
+    let w : page y x ≡ page (put b 0 (joined xss)) (at (0 + n)) = e ∙ sym (all-written xss b 0 (omega arith)) in
+    (ap (λ (q : Page). q .next) w ∙ ap at (omega arith), ap (λ (q : Page). take n (q .bytes)) w ∙ take-at (joined xss) (drop (0 + n) b) n refl)
+
+-- pieces put where their text has the room
+pub pieces-whole : (xss : List (List ℕ)) (b y : List ℕ) (x q : Next) (n p : ℕ) → n ≡ length (joined xss) → at p ≡ roomAt (length b) n x
+    → page y q ≡ writtenAll xss (page b (at p)) → page y q ≡ pieceWritten (joined xss) (page b x)
+pieces-whole xss b y x q n p en e w =
+    let h = room-in (length b) n p x e in
+    let k : p + length (joined xss) ≡ p + n = omega arith in
+    w
+    ∙ sym (all-written xss b p (omega arith))
+    ∙ ap (λ (i : ℕ). page (put b p (joined xss)) (at i)) k
+    ∙ written-at b (joined xss) x n en p (put b p (joined xss)) e refl
+
+pub joined-append : (xss yss : List (List ℕ)) → joined (xss ++ yss) ≡ joined xss ++ joined yss
+joined-append [] yss = refl
+joined-append (xs ∷ xss) yss = ap (λ (l : List ℕ). xs ++ l) (joined-append xss yss) ∙ sym (append-assoc xs (joined xss) (joined yss))
 
 -- ---- pieces put by one call after the other: p is the page before the first, q that behind the last
 

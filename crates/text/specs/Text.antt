@@ -1,5 +1,5 @@
 -- Numbers and bytes as text, and text put into a lent buffer. Source: document 01, "Sheet lines to try": kinds, offsets and checksum bytes in hex,
--- other numbers in decimal. Text is the list of its ASCII codes.
+-- other numbers in decimal; "Refusal numbers": 10 for a lent room that is too small, which then stays as found. Text is the list of its ASCII codes.
 -- Definitions only; a reader must believe them.
 use Prim.Native.Nat.{ℕ, zero, suc, _+_, _/_, _%_}
 use Prim.Native.Char.{code}
@@ -10,6 +10,8 @@ use mathlib.Core.Bool.{cond}
 use lib.ListN.{length}
 use lib.Dec.{ltb, leb}
 use Rattle.word.specs.Word.{put}
+use Rattle.refusal.specs.Told.{Told, told}
+use Rattle.refusal.specs.declared.Refusal.the-variants as why
 
 -- the codes of a text
 unfoldable pub ascii : String → List ℕ
@@ -51,7 +53,7 @@ hexBytes (b ∷ bs) = hexByte b ++ hexBytes bs
 
 pub data Next : Type 0 where
   at : ℕ → Next
-  full : Next
+  stopped : Told → Next
 
 pub record Page : Type 0 where
   pub bytes : List ℕ
@@ -62,22 +64,18 @@ page b x = record { bytes = b; next = x }
 
 -- the place, if n bytes fit there
 unfoldable pub roomAt : ℕ → ℕ → Next → Next
-roomAt len n (at p) = cond (leb (p + n) len) (at p) full
-roomAt len n full = full
+roomAt len n (at p) = cond (leb (p + n) len) (at p) (stopped (told why.NoRoom))
+roomAt len n (stopped t) = stopped t
 
 abbrev pub putAt : List ℕ → List ℕ → Next → Page
 putAt xs b (at p) = page (put b p xs) (at (p + length xs))
-putAt xs b full = page b full
+putAt xs b (stopped t) = page b (stopped t)
 
--- a piece xs, put: whole where it fits, else nothing, and then the page is full
+-- a piece xs, put: whole where it fits, else nothing, and then nothing more is put
 unfoldable pub pieceWritten : List ℕ → Page → Page
 pieceWritten xs q = putAt xs (q .bytes) (roomAt (length (q .bytes)) (length xs) (q .next))
 
--- several pieces, one after the other; and the text that they make
-unfoldable pub writtenAll : List (List ℕ) → Page → Page
-writtenAll [] q = q
-writtenAll (xs ∷ xss) q = writtenAll xss (pieceWritten xs q)
-
+-- the text that pieces make, one behind the other
 abbrev pub joined : List (List ℕ) → List ℕ
 joined [] = []
 joined (xs ∷ xss) = xs ++ joined xss

@@ -1,36 +1,36 @@
 // Text put into a lent buffer: bytes as they are, numbers in decimal and hexadecimal, bytes in hexadecimal.
 //
-// A put either fits and is written whole, or writes nothing and answers `Full`; behind a `Full` nothing more is written. So a line is put
-// piece by piece, and only its last answer is looked at.
+// A put either fits and is written whole, or writes nothing and is refused with 10; behind a refusal nothing more is written, and it is answered again.
 ghost use mathlib.Core.Path.{_≡_};
 ghost use Prim.Native.Nat.{_+_, _*_, _≤_, _<_};
 ghost use lib.ListN.{length};
 ghost use Rattle.word.specs.Word.{put};
 ghost use Rattle.text.specs.Text.{glyph as glyphOf, numeral, decimal, hex, hexBytes, page, pieceWritten, roomAt};
 ghost use Rattle.text.specs.Told.{toldPlace};
+use refusal::Refusal;
 
-// Where the next piece goes: a place of the buffer; or nowhere, since a piece did not fit.
+// Where the next piece goes: a place of the buffer; or nowhere, since a piece before it did not fit.
 pub enum Place {
     At(usize),
-    Full,
+    Refused(Refusal),
 }
 
 // The place, if n bytes fit there.
-fn room(len: usize, place: Place, n: usize) -> Place
+pub fn room(len: usize, place: Place, n: usize) -> Place
     ensures { λ r. ⌜ toldPlace r ≡ roomAt len n (toldPlace place) ⌝ }
 {
     match place {
         Place::At(at) => {
             if len < n {
-                return Place::Full;
+                return Place::Refused(Refusal::NoRoom);
             }
             if len - n < at {
-                Place::Full
+                Place::Refused(Refusal::NoRoom)
             } else {
                 Place::At(at)
             }
         }
-        Place::Full => Place::Full,
+        Place::Refused(why) => Place::Refused(why),
     }
 }
 
@@ -54,7 +54,7 @@ pub fn put_bytes(buf: &mut [u8], place: Place, bytes: &[u8]) -> Place
             copy(buf, at, bytes);
             Place::At(at + n)
         }
-        Place::Full => Place::Full,
+        Place::Refused(why) => Place::Refused(why),
     }
 }
 
@@ -119,7 +119,7 @@ fn put_numeral(buf: &mut [u8], place: Place, n: u64, base: u64) -> Place
             spell(buf, at, n, base, count);
             Place::At(at + count)
         }
-        Place::Full => Place::Full,
+        Place::Refused(why) => Place::Refused(why),
     }
 }
 
@@ -160,6 +160,6 @@ pub fn put_hex_bytes(buf: &mut [u8], place: Place, bytes: &[u8]) -> Place
             spell_bytes(buf, at, bytes);
             Place::At(at + n)
         }
-        Place::Full => Place::Full,
+        Place::Refused(why) => Place::Refused(why),
     }
 }

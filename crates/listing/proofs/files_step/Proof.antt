@@ -4,7 +4,7 @@ use borrow.Author.Needs.{needs}
 use native.Mathlib.Omega.{arith}
 use mathlib.Core.Path.{sym, ap, _∙_}
 use Rattle.word.specs.Word.{Bytes}
-use Rattle.printed.specs.PrintedLaws.{refused-fits}
+use Rattle.printed.specs.PrintedLaws.{short-fits, refused-fits}
 use Rattle.files.specs.Told.{toldFile}
 use Rattle.listing.specs.StepLaws.{stage-none, stage-refuses, file-line}
 use Rattle.listing.proofs.files_step.Statement.{statement}
@@ -30,7 +30,7 @@ returns-3 : tie.Need-returns-3
 returns-3 c =
     let m = c .before .before .before .before .before in
     let e = ap toldFile (sym (m .before .why .given .1)) ∙ m .before .before .before .next-file .ensures in
-    stage-refuses _ _ _ _ _ _ _ _ _ e (omega arith) (refused-fits (m .before .why .given .0 .0)) (c .before .before .before .put-refused .ensures) (c .line-of2 .ensures)
+    stage-refuses _ _ _ _ _ _ _ _ _ e (omega arith) (short-fits (refused-fits (m .before .why .given .0 .0))) (c .before .before .before .put-refused .ensures) (c .line-of2 .ensures)
 
 pub files-step-spec : {M : Type 1} → statement M
 files-step-spec =

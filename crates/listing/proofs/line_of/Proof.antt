@@ -15,4 +15,4 @@ line-of-spec =
     (λ c. search needs)
     (λ c. search needs)
     (λ c. ap (λ (x : Place). lineAnswer (toldPlace x) (c .before .before .before .args .next)) (sym (c .before .place .given .1)))
-    (λ c. ap (λ (x : Place). lineAnswer (toldPlace x) (c .before .before .args .next)) (sym (c .enum-told .given .1))))
+    (λ c. ap (λ (x : Place). lineAnswer (toldPlace x) (c .before .before .before .args .next)) (sym (c .before .place2 .given .1))))

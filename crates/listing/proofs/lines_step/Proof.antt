@@ -3,7 +3,7 @@
 use borrow.Author.Needs.{needs}
 use native.Mathlib.Omega.{arith}
 use mathlib.Core.Path.{sym, ap, _∙_}
-use Rattle.printed.specs.PrintedLaws.{end-fits, refused-fits}
+use Rattle.printed.specs.PrintedLaws.{short-fits, end-fits, refused-fits}
 use Rattle.line_walk.specs.Told.{toldLine}
 use Rattle.listing.specs.StepLaws.{line-shown, stage-gives, stage-none, stage-refuses}
 use Rattle.listing.proofs.lines_step.Statement.{statement}
@@ -20,13 +20,13 @@ returns-2 : tie.Need-returns-2
 returns-2 c =
     let m = c .before .before .before .before .before in
     let e = ap toldLine (sym (m .enum-told .given .1)) ∙ m .before .before .next-line .ensures in
-    stage-none _ _ _ _ _ _ _ e (line-shown _ _ _ _ _ _ (omega arith) end-fits (c .before .before .before .put-end .ensures) (c .line-of2 .ensures))
+    stage-none _ _ _ _ _ _ _ e (line-shown _ _ _ _ _ _ (omega arith) (short-fits end-fits) (c .before .before .before .put-end .ensures) (c .line-of2 .ensures))
 
 returns-3 : tie.Need-returns-3
 returns-3 c =
     let m = c .before .before .before .before .before in
     let e = ap toldLine (sym (m .before .why .given .1)) ∙ m .before .before .before .next-line .ensures in
-    stage-refuses _ _ _ _ _ _ _ _ _ e (omega arith) (refused-fits (m .before .why .given .0 .0)) (c .before .before .before .put-refused .ensures) (c .line-of3 .ensures)
+    stage-refuses _ _ _ _ _ _ _ _ _ e (omega arith) (short-fits (refused-fits (m .before .why .given .0 .0))) (c .before .before .before .put-refused .ensures) (c .line-of3 .ensures)
 
 pub lines-step-spec : {M : Type 1} → statement M
 lines-step-spec =

@@ -2,13 +2,12 @@
 -- Assumes nothing.
 use borrow.Author.Needs.{needs}
 use Rattle.text.specs.Text.{ascii}
-use Rattle.text.specs.PageLaws.{just}
 use Rattle.printed.proofs.put_end.Statement.{statement}
 use Rattle.printed.proofs.put_end.Tie as tie
 
 returns : tie.Need-returns
 unfolding ascii
-returns c = just _ _ _ (c .before .before .put-bytes .ensures)
+returns c = c .before .before .put-bytes .ensures
 
 pub put-end-spec : {M : Type 1} → statement M
 put-end-spec =

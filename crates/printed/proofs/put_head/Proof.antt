@@ -1,14 +1,19 @@
--- `printed::put_head` meets its contract: its pieces one after the other.
+-- `printed::put_head` meets its contract: the line that is made is put as one piece.
 -- Assumes nothing.
 use borrow.Author.Needs.{needs}
-use Rattle.text.specs.Text.{ascii}
-use Rattle.text.specs.PageLaws.{and-one}
+use native.Mathlib.Omega.{arith}
+use Rattle.printed.specs.PrintedLaws.{head-fits, made-within, line-put}
 use Rattle.printed.proofs.put_head.Statement.{statement}
 use Rattle.printed.proofs.put_head.Tie as tie
 
+put-line-requires : tie.Need-put-line-requires
+put-line-requires c κs = let m = c .before .before .before in made-within _ _ _ (head-fits _ (omega arith)) (m .head-pieces .ensures)
+
 returns : tie.Need-returns
-unfolding ascii
-returns c = and-one _ _ _ _ _ (c .before .before .before .before .before .before .before .put-count .ensures) (c .before .before .put-bytes .ensures)
+returns c =
+    let l = c .before .before in
+    let m = l .before .before .before .before in
+    line-put _ _ _ (head-fits _ (omega arith)) (m .head-pieces .ensures) _ _ (l .put-line .ensures)
 
 pub put-head-spec : {M : Type 1} → statement M
 put-head-spec =
@@ -17,6 +22,6 @@ put-head-spec =
     (λ c. search needs)
     (λ c κs. search needs)
     (λ c. search needs)
-    (λ c κs. search needs)
+    put-line-requires
     (λ c. search needs)
     returns)

@@ -1,40 +1,27 @@
--- `printed::put_record` meets its contract: its pieces one after the other.
+-- `printed::put_record` meets its contract: the line that is made is put as one piece.
 -- Assumes nothing.
 use borrow.Author.Needs.{needs}
-use Rattle.text.specs.Text.{ascii}
-use Rattle.text.specs.PageLaws.{and-one, and-all}
-use Rattle.printed.specs.LineTextLaws.{record-fits}
+use native.Mathlib.Omega.{arith}
+use Rattle.printed.specs.PrintedLaws.{made-within, line-put}
 use Rattle.printed.proofs.put_record.Statement.{statement}
 use Rattle.printed.proofs.put_record.Tie as tie
 
+put-line-requires : tie.Need-put-line-requires
+put-line-requires c κs = let m = c .before .before .before in made-within _ _ _ (m .record-pieces .ensures .1) (m .record-pieces .ensures .0)
+
 returns : tie.Need-returns
-unfolding ascii
 returns c =
-    let p7 = c .before .before in
-    let p6 = p7 .before .before .before .before in
-    let p5 = p6 .before .before .before .before in
-    let p4 = p5 .before .before .before .before .before in
-    let p3 = p4 .before .before .before .before in
-    let p2 = p3 .before .before .before .before .before in
-    let p1 = p2 .before .before .before .before in
-    let a = p1 .put-address .ensures .1 in
-    let b = p2 .put-source .ensures .1 in (
-      and-one _ _ _ _ _ (and-one _ _ _ _ _ (and-one _ _ _ _ _ (and-one _ _ _ _ _ (and-one _ _ _ _ _ (and-all _ _ _ _ _ (p1 .put-address .ensures .0) (p2 .put-source .ensures .0)) (p3 .put-bytes .ensures)) (p4 .put-side .ensures .0)) (p5 .put-bytes2 .ensures)) (p6 .put-side2 .ensures .0)) (p7 .put-kind .ensures),
-      record-fits (p1 .before .before .before .args .r) (a .0, a .1, a .2, b .0, b .1, b .2, p4 .put-side .ensures .1, p6 .put-side2 .ensures .1),
-    )
+    let l = c .before .before in
+    let m = l .before .before .before .before in
+    (line-put _ _ _ (m .record-pieces .ensures .1) (m .record-pieces .ensures .0) _ _ (l .put-line .ensures), omega (arith, m .record-pieces .ensures .1))
 
 pub put-record-spec : {M : Type 1} → statement M
 put-record-spec =
     tie.close
     (tie.spec
-    (λ c κs. search needs)
-    (λ c κs. search needs)
     (λ c. search needs)
     (λ c κs. search needs)
-    (λ c κs. search needs)
     (λ c. search needs)
-    (λ c κs. search needs)
-    (λ c κs. search needs)
-    (λ c κs. search needs)
+    put-line-requires
     (λ c. search needs)
     returns)

@@ -1,18 +1,18 @@
--- `printed::put_refused` meets its contract: its pieces one after the other.
+-- `printed::put_refused` meets its contract: the line that is made is put as one piece.
 -- Assumes nothing.
 use borrow.Author.Needs.{needs}
-use Rattle.text.specs.Text.{ascii}
-use Rattle.text.specs.PageLaws.{and-one}
-use Rattle.printed.specs.PrintedLaws.{refused-is}
+use Rattle.printed.specs.PrintedLaws.{refused-fits, made-within, line-put}
 use Rattle.printed.proofs.put_refused.Statement.{statement}
 use Rattle.printed.proofs.put_refused.Tie as tie
 
+put-line-requires : tie.Need-put-line-requires
+put-line-requires c κs = let m = c .before .before .before in made-within _ _ _ (refused-fits (m .before .before .before .args .why)) (m .refused-pieces .ensures)
+
 returns : tie.Need-returns
-unfolding ascii
 returns c =
-    let p2 = c .before .before in
-    let p1 = p2 .before .before .before .before .before in
-    refused-is _ _ _ _ (and-one _ _ _ _ _ (p1 .put-count .ensures) (p2 .put-bytes .ensures)) (p1 .before .number .ensures)
+    let l = c .before .before in
+    let m = l .before .before .before .before in
+    line-put _ _ _ (refused-fits (m .before .before .before .args .why)) (m .refused-pieces .ensures) _ _ (l .put-line .ensures)
 
 pub put-refused-spec : {M : Type 1} → statement M
 put-refused-spec =
@@ -20,8 +20,7 @@ put-refused-spec =
     (tie.spec
     (λ c. search needs)
     (λ c κs. search needs)
-    (λ c κs. search needs)
     (λ c. search needs)
-    (λ c κs. search needs)
+    put-line-requires
     (λ c. search needs)
     returns)

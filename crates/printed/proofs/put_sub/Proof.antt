@@ -1,19 +1,19 @@
--- `printed::put_sub` meets its contract: its pieces one after the other.
+-- `printed::put_sub` meets its contract: the line that is made is put as one piece.
 -- Assumes nothing.
 use borrow.Author.Needs.{needs}
-use Rattle.text.specs.Text.{ascii}
-use Rattle.text.specs.PageLaws.{just, and-one, and-all}
+use native.Mathlib.Omega.{arith}
+use Rattle.printed.specs.PrintedLaws.{sub-fits, made-within, line-put}
 use Rattle.printed.proofs.put_sub.Statement.{statement}
 use Rattle.printed.proofs.put_sub.Tie as tie
 
+put-line-requires : tie.Need-put-line-requires
+put-line-requires c κs = let m = c .before .before .before in made-within _ _ _ (sub-fits _ _ (omega arith) (omega arith)) (m .sub-pieces .ensures)
+
 returns : tie.Need-returns
-unfolding ascii
 returns c =
-    let p4 = c .before .before in
-    let p3 = p4 .before .before .before .before .before in
-    let p2 = p3 .before .before .before .before .before in
-    let p1 = p2 .before .before .before .before in
-    and-one _ _ _ _ _ (and-all _ _ _ _ _ (and-one _ _ _ _ _ (just _ _ _ (p1 .put-bytes .ensures)) (p2 .put-hex .ensures)) (p3 .put-count .ensures)) (p4 .put-bytes2 .ensures)
+    let l = c .before .before in
+    let m = l .before .before .before .before in
+    line-put _ _ _ (sub-fits _ _ (omega arith) (omega arith)) (m .sub-pieces .ensures) _ _ (l .put-line .ensures)
 
 pub put-sub-spec : {M : Type 1} → statement M
 put-sub-spec =
@@ -21,10 +21,7 @@ put-sub-spec =
     (tie.spec
     (λ c. search needs)
     (λ c κs. search needs)
-    (λ c κs. search needs)
     (λ c. search needs)
-    (λ c κs. search needs)
-    (λ c. search needs)
-    (λ c κs. search needs)
+    put-line-requires
     (λ c. search needs)
     returns)

@@ -4,7 +4,7 @@ use borrow.Author.Needs.{needs}
 use native.Mathlib.Omega.{arith}
 use mathlib.Core.Path.{refl, sym, ap, _∙_}
 use Rattle.text.specs.Told.{toldPlace}
-use Rattle.text.specs.PageLaws.{room-in, written-at, written-full}
+use Rattle.text.specs.PageLaws.{room-in, written-at, written-none}
 use Rattle.text.proofs.put_bytes.Statement.{statement}
 use Rattle.text.proofs.put_bytes.Tie as tie
 
@@ -13,8 +13,8 @@ copy-requires c κs =
     let m = c .before in
     omega (arith, room-in _ _ _ _ (ap toldPlace (sym (m .before .at .given .1)) ∙ m .before .before .before .room .ensures))
 
-add-t12 : tie.Need-add-t12
-add-t12 c =
+add-t13 : tie.Need-add-t13
+add-t13 c =
     let m = c .before .before .before .before in
     omega (arith, room-in _ _ _ _ (ap toldPlace (sym (m .before .at .given .1)) ∙ m .before .before .before .room .ensures))
 
@@ -30,8 +30,8 @@ put-bytes-spec =
     (λ c κs. search needs)
     (λ c. search needs)
     copy-requires
-    add-t12
+    add-t13
     (λ c. search needs)
     (λ c. search needs)
     returns
-    (λ c. written-full _ _ _ _ refl (ap toldPlace (sym (c .enum-told .given .1)) ∙ c .before .before .room .ensures)))
+    (λ c. written-none _ _ _ _ refl _ (ap toldPlace (sym (c .before .why .given .1)) ∙ c .before .before .before .room .ensures)))

@@ -4,7 +4,7 @@ use borrow.Author.Needs.{needs}
 use native.Mathlib.Omega.{arith}
 use mathlib.Core.Path.{sym, ap, _∙_}
 use Rattle.text.specs.Told.{toldPlace}
-use Rattle.text.specs.PageLaws.{room-in, written-at, written-full}
+use Rattle.text.specs.PageLaws.{room-in, written-at, written-none}
 use Rattle.text.proofs.put_numeral.Statement.{statement}
 use Rattle.text.proofs.put_numeral.Tie as tie
 
@@ -18,8 +18,8 @@ spell-requires c κs =
       ),
     )
 
-add-t13 : tie.Need-add-t13
-add-t13 c =
+add-t14 : tie.Need-add-t14
+add-t14 c =
     let m = c .before .before .before .before in
     omega (arith, room-in _ _ _ _ (ap toldPlace (sym (m .before .at .given .1)) ∙ m .before .before .before .room .ensures))
 
@@ -30,7 +30,7 @@ returns c =
     written-at _ _ _ _ n _ _ (ap toldPlace (sym (m .before .at .given .1)) ∙ m .before .before .before .room .ensures) (c .before .before .spell .ensures)
 
 returns-2 : tie.Need-returns-2
-returns-2 c = written-full _ _ _ _ (c .before .before .before .digits .ensures) (ap toldPlace (sym (c .enum-told .given .1)) ∙ c .before .before .room .ensures)
+returns-2 c = written-none _ _ _ _ (c .before .before .before .before .digits .ensures) _ (ap toldPlace (sym (c .before .why .given .1)) ∙ c .before .before .before .room .ensures)
 
 pub put-numeral-spec : {M : Type 1} → statement M
 put-numeral-spec =
@@ -40,7 +40,7 @@ put-numeral-spec =
     (λ c κs. search needs)
     (λ c. search needs)
     spell-requires
-    add-t13
+    add-t14
     (λ c. search needs)
     (λ c. search needs)
     returns
