@@ -32,8 +32,8 @@
  * fault: it has one answer, too. So words that another call answered are a state as well, and may be that of a walk at its end: begin each walk with
  * zeros in an `out` of its own, or with a struct of those below.
  *
- * An area, a stream or checksum data of more than 16,777,216 bytes is refused with C13_TOO_LONG, before anything else; but c13_plain says C13_NONE of such
- * an area, and the buffer of the writer may be longer. */
+ * An area, a stream or a body that is lent alone of more than 16,777,216 bytes is refused with C13_TOO_LONG, before anything else; the buffer of the
+ * writer may be longer. */
 #ifndef C13_H
 #define C13_H
 
@@ -282,8 +282,7 @@ uint32_t c13_tables_part(const uint8_t *stream, size_t stream_len, uint32_t symb
  *
  * and before the next subsection begins, add the place last answered to `used`. */
 
-/* Whether an area is plain, which is what the writer makes: the full reading refuses nothing, and document 01's rules hold. C13_NONE: it is not, or it
- * has more than 16,777,216 bytes. Never refused.
+/* Whether an area is plain, which is what the writer makes: the full reading refuses nothing, and document 01's rules hold. C13_NONE: it is not.
  *   out[0] place of its last header   out[1] kind of its last subsection   out[2] its mark; all 0 in an empty area */
 uint32_t c13_plain(const uint8_t *area, size_t area_len, uint64_t *out, size_t out_len);
 

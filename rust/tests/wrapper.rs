@@ -195,6 +195,7 @@ fn refusals_have_number_and_text() {
     assert_eq!(StringTable::parse(&[0; 64]).map(|_| ()), Err(Refusal::NoStringTable));
     let long = vec![0; 16_777_217];
     assert_eq!(Area::new(&long).line_program().map(|_| ()), Err(Refusal::TooLong));
+    assert_eq!(Area::new(&long).is_plain(), Err(Refusal::TooLong));
 }
 
 #[test]

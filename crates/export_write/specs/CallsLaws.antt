@@ -1,15 +1,27 @@
--- Laws of the writer calls: with room and without, and that only an answer changes the buffer.
+-- Laws of the writer calls: with room and without, and that only an answer changes the buffer; and of the test whether an area is plain: the two ways out.
 use Prim.Native.Nat.{ℕ, _≤_, _<_}
 use mathlib.Core.Path.{_≡_, refl}
 use mathlib.Core.List.{List}
 use lib.ListN.{length}
 use Rattle.walk.specs.Listing.{Reply}
-use Rattle.refusal.specs.Told.{Told}
+use Rattle.walk.specs.Cases.{tests}
+use Rattle.refusal.specs.Told.{Told, told, longest}
+use Rattle.refusal.specs.declared.Refusal.the-variants as why
 use Rattle.reading.specs.Reading.{Item}
+use Rattle.plain.specs.Plain.{plainOf}
 use Rattle.writer_decides.specs.Calls.{Act, goes, stops, act, patch, wrote, kept, answered, bufferAfter}
-use Rattle.answer_words.specs.Given.{Gives, refusalSize, one, replyGiven}
+use Rattle.answer_words.specs.Given.{Given, Gives, refusalSize, refusalGiven, one, replyGiven}
 use Rattle.answer_words.specs.GivenLaws.{gives-as, room-changes, room-keeps, Still, room-careful}
-use Rattle.export_write.specs.Calls.{wroteGiven, bufferLeft}
+use Rattle.export_write.specs.Calls.{wroteGiven, bufferLeft, lastGiven, plainGiven}
+
+module _ (s : List ℕ) where
+  pub plain-long : longest < length s → refusalGiven 0 (told why.TooLong) ≡ plainGiven s
+  unfolding plainGiven
+  plain-long h = simp tests
+
+  pub plain-short : length s ≤ longest → lastGiven (plainOf s) ≡ plainGiven s
+  unfolding plainGiven
+  plain-short h = simp tests
 
 module _ (it : Item) (b : List ℕ) (w : ℕ) (o : List ℕ) where
   pub writer-keeps : length o < refusalSize → Gives o (wroteGiven it b w o) 3 o × (b ≡ bufferLeft it b w o)

@@ -15,12 +15,18 @@ use answer_words::put;
 use answer_words::put_refusal;
 use plain::PlainAnswer;
 use plain::is_plain;
+use refusal::LONGEST;
+use refusal::Refusal;
 use writer::Wrote;
 
-// Whether an area is plain. Words: the place of its last header, and the kind and the mark of its last subsection, all 0 in an empty area.
+// Whether an area is plain; one of more than 16,777,216 bytes is refused with 11. Words: the place of its last header, and the kind and the mark of its
+// last subsection, all 0 in an empty area.
 pub fn plain(area: &[u8], out: &mut [u64]) -> u32
     ensures { λ r. ⌜ Gives (now (out .entry)) (plainGiven (now (area .entry))) r (now (out .exit)) ⌝ }
 {
+    if LONGEST < area.len() {
+        return put_refusal(out, 0, Refusal::TooLong);
+    }
     match is_plain(area) {
         PlainAnswer::Yes { header, kind, mark } => {
             put(out, 0, &[header as u64, kind as u64, mark], GIVEN)
