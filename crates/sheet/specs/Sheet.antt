@@ -1,115 +1,141 @@
--- The starred lines of document 01's sheet, in one table under one statement, proved by computation. A row is a question and the answer as
--- numbers; a refusal is 0, its number and what it carries.
-use Prim.Native.Nat.{ℕ, suc}
-use mathlib.Core.Path.{_≡_, refl}
-use mathlib.Core.Bool.{Bool, false}
-use mathlib.Core.List.{List, [], _∷_, map}
-use lib.ListN.{length}
-use Rattle.word.specs.Word.{u16At, u32At}
-use Rattle.walk.specs.Listing.{Listing, more, ends, fails, run, all, Reply, gave, nothing, refused}
-use Rattle.walk.specs.Pick.{firstBy}
+-- The starred lines of document 01's sheet, in one table. A row has what a call answers, as the definition says that the call's contract is an equation
+-- with, and the answer that document 01 writes; the comment behind a row names the call. Source: document 01, "Sheet lines to try".
+-- Definitions only; a reader must believe them.
+use Prim.Native.Nat.{ℕ}
+use mathlib.Core.Path.{_≡_}
+use mathlib.Core.Bool.{true, false}
+use mathlib.Core.List.{List, [], _∷_, _++_}
+use Rattle.word.specs.Word.{le32, header}
+use Rattle.walk.specs.Listing.{gives, none, refuses, gave, nothing, refused}
 use Rattle.refusal.specs.Told.{Told}
-use Rattle.area.specs.Parts.{bite, parts}
 use Rattle.area.specs.Kind.{crateRule}
-use Rattle.area.specs.Subs.{Sub, placed, subsFrom}
-use Rattle.body.specs.Words.{wordsIn}
-use Rattle.body.specs.Lines.{Block, blockBite, blocks}
-use Rattle.body.specs.Imports.{moduleBite, modules}
-use Rattle.line_record.specs.declared.LineKind.{LineKind}
-use Rattle.line_record.specs.declared.LineKind.the-variants as kind
+use Rattle.area.specs.Subs.{stepAt, crateStep}
+use Rattle.table.specs.declared.TableWalk.the-variants as table
+use Rattle.lines.specs.Lines.{countLines}
+use Rattle.lines.specs.Blocks.{blockAt}
+use Rattle.order.specs.Order.{ordered, slotsAfter}
+use Rattle.line_record.specs.declared.Length.the-variants.{Unset}
+use Rattle.line_record.specs.declared.Column.the-variants as column
+use Rattle.line_record.specs.declared.LineKind.the-variants.{Expression}
 use Rattle.line_record.specs.declared.LineRecord.{LineRecord}
-use Rattle.line_record.specs.Flags.{lineKind, isMarker}
-use Rattle.line_record.specs.Record.{entryOf}
-use Rattle.table.specs.Collect.{collected, ofNth}
-use Rattle.imports.specs.Imports.{Ref, ifRef, resolveImport}
+use Rattle.line_record.specs.declared.LineSource.{LineSource}
+use Rattle.line_record.specs.Record.{columnIf, entryOf}
+use Rattle.line_step.specs.declared.Held.the-variants.{Nothing}
+use Rattle.line_step.specs.declared.LineWalk.{LineWalk}
+use Rattle.line_step.specs.declared.LineWalk.the-variants as line
+use Rattle.line_walk.specs.Next.{nextOf}
+use Rattle.symbol_lines.specs.Symbol.{symbolWalk}
+use Rattle.files.specs.Files.{fileStep, fileAt}
+use Rattle.inlinees.specs.Inlinees.{inlineeStep}
+use Rattle.imports.specs.Imports.{importStep, resolveImport}
+use Rattle.exports.specs.Exports.{exportStep, exportCount, resolveExport}
+use Rattle.reading_record.specs.declared.ItemWalk.the-variants as item
+use Rattle.reading_walk.specs.Step.{itemStep}
 
--- what is asked: the subsections of an area; what a line entry's flags word says; the blocks of bytes behind a line header, without columns or with
--- them; what a reference resolves to
-pub data Question : Type 0 where
-  subsections : List ℕ → Question
-  flags : ℕ → Question
-  lineBlocks : Bool → List ℕ → Question
-  resolve : List ℕ → ℕ → Question
+-- ---- a table
 
-abbrev refusal : Told → List ℕ
-refusal t = 0 ∷ t .number ∷ t .carries
+-- what is answered, and what document 01 writes
+pub data Row : Type 1 where
+  row : {A : Type 0} → A → A → Row
 
--- the kind, the place and the length of each subsection
-kinds : Listing Sub Told → List ℕ
-kinds (more b l) = b .kind ∷ b .start ∷ b .len ∷ kinds l
-kinds ends = []
-kinds (fails t) = refusal t
+-- in each row the two are equal
+infixr 20 _and_
+pub data Holds : List Row → Type 1 where
+  done : Holds []
+  _and_ : {A : Type 0} {x y : A} {rs : List Row} → x ≡ y → Holds rs → Holds (row x y ∷ rs)
 
--- a record's start line, end line, and 1 for a statement; nothing for a marker
-statement : LineKind → ℕ
-statement kind.Expression = 0
-statement kind.Statement = 1
+-- ---- words of its rows
 
-record-lines : Reply LineRecord Told → List ℕ
-record-lines (gave r) = r .«start_line» ∷ r .«end_line» ∷ statement (r .kind) ∷ []
-record-lines nothing = []
-record-lines (refused t) = refusal t
+-- a refusal by its number, which carries nothing, and one that carries k
+abbrev pub number : ℕ → Told
+number n = record { number = n; carries = [] }
 
--- one more than the number of words of each block's lines and columns
-block-words : Listing Block Told → List ℕ
-block-words (more b l) = suc (length (b .lines)) ∷ suc (length (b .columns)) ∷ block-words l
-block-words ends = []
-block-words (fails t) = refusal t
+abbrev pub numberOn : ℕ → ℕ → Told
+numberOn n k = record { number = n; carries = k ∷ [] }
 
--- the name and the word
-name-word : Reply Ref Told → List ℕ
-name-word (gave r) = r .name ∷ r .word ∷ []
-name-word nothing = []
-name-word (refused t) = refusal t
+-- the walk over no lines
+abbrev pub noLines : LineWalk
+noLines = line.Between (record { slot = 0; left = 0; scan = 0; held = Nothing })
 
-pub answer : Question → List ℕ
-answer (subsections s) = kinds (subsFrom crateRule s 0)
-answer (flags w) = record-lines (entryOf (record { section = 1; base = 0; file = 0; columns = false }) 0 w [])
-answer (lineBlocks c s) = block-words (blocks c s)
-answer (resolve s index) = name-word (resolveImport crateRule s index)
+abbrev pub seven : List ℕ
+seven = 0 ∷ 0 ∷ 0 ∷ 0 ∷ 0 ∷ 0 ∷ 0 ∷ []
 
-pub record Row : Type 0 where
-  pub asked : Question
-  pub told : List ℕ
+-- of a section, from its start on, without columns
+abbrev pub source : LineSource
+source = record { section = 1; base = 0; file = 0; columns = false }
 
-row : Question → List ℕ → Row
-row q a = record { asked = q; told = a }
+-- the record of lines 10 to 10, Expression
+abbrev pub tenToTen : LineRecord
+tenToTen =
+    record { section = 1; offset = 0; length = Unset; file = 0; «start_line» = 10; «end_line» = 10; «column_start» = column.None; «column_end» = column.None; kind = Expression }
+
+-- a line body with a header of zeros, and behind it a block of file 0 with this number of lines and this size
+abbrev pub oneBlock : ℕ → ℕ → List ℕ → List ℕ
+oneBlock count size bytes = le32 0 ++ (le32 0 ++ (le32 0 ++ (le32 0 ++ (le32 count ++ (le32 size ++ bytes)))))
+
+abbrev pub aLine : List ℕ
+aLine = header 0 0x8000_000a
 
 -- an area with imports name 5, words 0x1003, 0x1004
-imports : List ℕ
-imports =
-    0xf7 ∷ 0 ∷ 0 ∷ 0 ∷ 16 ∷ 0 ∷ 0 ∷ 0 ∷ 5 ∷ 0 ∷ 0 ∷ 0 ∷ 2 ∷ 0 ∷ 0 ∷ 0 ∷ 3 ∷ 0x10 ∷ 0 ∷ 0 ∷ 4 ∷ 0x10 ∷ 0 ∷ 0 ∷ []
+abbrev pub twoWords : List ℕ
+twoWords = header 0xf7 16 ++ (header 5 2 ++ header 0x1003 0x1004)
 
--- a block of file 0 with these numbers of lines and bytes, and a line of 8 bytes
-block-of : ℕ → ℕ → List ℕ → List ℕ
-block-of count size line = 0 ∷ 0 ∷ 0 ∷ 0 ∷ count ∷ 0 ∷ 0 ∷ 0 ∷ size ∷ 0 ∷ 0 ∷ 0 ∷ line
+-- ---- THE TABLE
 
-line : List ℕ
-line = 0 ∷ 0 ∷ 0 ∷ 0 ∷ 10 ∷ 0 ∷ 0 ∷ 0x80 ∷ []
-
-pub rows : List Row
+unfoldable pub rows : List Row
 rows =
-    -- empty area: everything empty. 7 bytes: 1
-    row (subsections []) []
-    ∷ row (resolve [] 0x8000_0000) (0 ∷ 6 ∷ 0x8000_0000 ∷ [])
-    ∷ row (subsections (0 ∷ 0 ∷ 0 ∷ 0 ∷ 0 ∷ 0 ∷ 0 ∷ [])) (0 ∷ 1 ∷ [])
-    -- kind 0xf0, length 0: 2. Length 4, no body: 1. 0x80000000, length 4, its body: no subsections
-    ∷ row (subsections (0xf0 ∷ 0 ∷ 0 ∷ 0 ∷ 0 ∷ 0 ∷ 0 ∷ 0 ∷ [])) (0 ∷ 2 ∷ 0xf0 ∷ [])
-    ∷ row (subsections (0xf0 ∷ 0 ∷ 0 ∷ 0 ∷ 4 ∷ 0 ∷ 0 ∷ 0 ∷ [])) (0 ∷ 1 ∷ [])
-    ∷ row (subsections (0 ∷ 0 ∷ 0 ∷ 0x80 ∷ 4 ∷ 0 ∷ 0 ∷ 0 ∷ 1 ∷ 2 ∷ 3 ∷ 4 ∷ [])) []
+    -- empty area: everything empty
+    row (stepAt crateRule [] 0) none  -- area::sub_at
+    ∷ row (crateStep [] 0) (record { answer = none; behind = 0 })  -- area::SubWalk::step
+    ∷ row (countLines crateRule []) (gave 0)  -- lines::count_lines
+    ∷ row (ordered crateRule [] 1) (gave 0)  -- order::order_list
+    ∷ row (slotsAfter crateRule [] (7 ∷ [])) (7 ∷ [])  -- order::order_list, its slots
+    ∷ row (nextOf crateRule [] [] line.New) none  -- line_walk::next_line
+    ∷ row (symbolWalk crateRule [] [] 1 0x1000) (gave noLines)  -- symbol_lines::lines_for_symbol
+    ∷ row (nextOf crateRule [] [] noLines) none  -- line_walk::next_line, of that walk
+    ∷ row (fileStep crateRule [] table.New) none  -- files::next_file
+    ∷ row (fileAt crateRule [] 0) (refused (numberOn 18 0))  -- files::file_at
+    ∷ row (inlineeStep crateRule [] table.New) none  -- inlinees::next_inlinee
+    ∷ row (importStep crateRule [] table.New) none  -- imports::next_import
+    ∷ row (resolveImport crateRule [] 0x8000_0000) (refused (numberOn 6 0x8000_0000))  -- imports::resolve_import
+    ∷ row (exportStep crateRule [] table.New) none  -- exports::next_export
+    ∷ row (exportCount crateRule []) (gave 0)  -- exports::export_count
+    ∷ row (resolveExport crateRule [] 7) nothing  -- exports::resolve_export
+    ∷ row (itemStep crateRule [] (item.Between 0)) none  -- reading_walk::next_item
+    -- 7 bytes: 1
+    ∷ row (stepAt crateRule seven 0) (refuses (number 1))  -- area::sub_at
+    ∷ row (crateStep seven 0) (record { answer = refuses (number 1); behind = 0 })  -- area::SubWalk::step
+    ∷ row (countLines crateRule seven) (refused (number 1))  -- lines::count_lines
+    ∷ row (ordered crateRule seven 1) (refused (number 1))  -- order::order_list
+    ∷ row (slotsAfter crateRule seven (7 ∷ [])) (7 ∷ [])  -- order::order_list, its slots
+    ∷ row (nextOf crateRule seven [] line.New) (refuses (number 1))  -- line_walk::next_line
+    ∷ row (symbolWalk crateRule seven [] 1 0x1000) (refused (number 1))  -- symbol_lines::lines_for_symbol
+    ∷ row (fileStep crateRule seven table.New) (refuses (number 1))  -- files::next_file
+    ∷ row (fileAt crateRule seven 0) (refused (number 1))  -- files::file_at
+    ∷ row (inlineeStep crateRule seven table.New) (refuses (number 1))  -- inlinees::next_inlinee
+    ∷ row (importStep crateRule seven table.New) (refuses (number 1))  -- imports::next_import
+    ∷ row (resolveImport crateRule seven 0x8000_0000) (refused (number 1))  -- imports::resolve_import
+    ∷ row (exportStep crateRule seven table.New) (refuses (number 1))  -- exports::next_export
+    ∷ row (exportCount crateRule seven) (refused (number 1))  -- exports::export_count
+    ∷ row (resolveExport crateRule seven 7) (refused (number 1))  -- exports::resolve_export
+    ∷ row (itemStep crateRule seven (item.Between 0)) (refuses (number 1))  -- reading_walk::next_item
+    -- kind 0xf0, length 0: 2; length 4, no body: 1. 0x80000000, length 4, its body: no subsections
+    ∷ row (stepAt crateRule (header 0xf0 0) 0) (refuses (numberOn 2 0xf0))  -- area::sub_at
+    ∷ row (stepAt crateRule (header 0xf0 4) 0) (refuses (number 1))  -- area::sub_at
+    ∷ row (stepAt crateRule (header 0x8000_0000 4 ++ le32 0x0403_0201) 0) none  -- area::sub_at
     -- flags 0x0c00000a: lines 10 to 10, Expression. 0x80feefee: marker
-    ∷ row (flags 0x0c00_000a) (10 ∷ 10 ∷ 0 ∷ [])
-    ∷ row (flags 0x80fe_efee) []
-    -- block size 12, no lines: accepted. 19 with one line: 7
-    ∷ row (lineBlocks false (block-of 0 12 [])) (1 ∷ 1 ∷ [])
-    ∷ row (lineBlocks false (block-of 1 19 line)) (0 ∷ 7 ∷ [])
+    ∷ row (entryOf source 0 0x0c00_000a (columnIf false 0)) (gave tenToTen)  -- line_record::entry_of
+    ∷ row (entryOf source 0 0x80fe_efee (columnIf false 0)) nothing  -- line_record::entry_of
+    -- block size 12, no lines: accepted
+    ∷ row (blockAt false (oneBlock 0 12 []) 12) (gives (record { file = 0; count = 0; start = 24 }) 24)  -- lines::block_at
+    -- 19 with one line: 7; 20: accepted, but 7 with columns; 24 then accepted
+    ∷ row (blockAt false (oneBlock 1 19 aLine) 12) (refuses (number 7))  -- lines::block_at
+    ∷ row (blockAt false (oneBlock 1 20 aLine) 12) (gives (record { file = 0; count = 1; start = 24 }) 32)  -- lines::block_at
+    ∷ row (blockAt true (oneBlock 1 20 aLine) 12) (refuses (number 7))  -- lines::block_at
+    ∷ row (blockAt true (oneBlock 1 24 (aLine ++ le32 0)) 12) (gives (record { file = 0; count = 1; start = 24 }) 36)  -- lines::block_at
     -- imports: 0x80000001 gives (5, 0x1004); 0x80000002 and 0x80100000 give 6; 1 gives 5
-    ∷ row (resolve imports 0x8000_0001) (5 ∷ 0x1004 ∷ [])
-    ∷ row (resolve imports 0x8000_0002) (0 ∷ 6 ∷ 0x8000_0002 ∷ [])
-    ∷ row (resolve imports 0x8010_0000) (0 ∷ 6 ∷ 0x8010_0000 ∷ [])
-    ∷ row (resolve imports 1) (0 ∷ 5 ∷ 1 ∷ [])
+    ∷ row (resolveImport crateRule twoWords 0x8000_0001) (gave (record { name = 5; word = 0x1004 }))  -- imports::resolve_import
+    ∷ row (resolveImport crateRule twoWords 0x8000_0002) (refused (numberOn 6 0x8000_0002))  -- imports::resolve_import
+    ∷ row (resolveImport crateRule twoWords 0x8010_0000) (refused (numberOn 6 0x8010_0000))  -- imports::resolve_import
+    ∷ row (resolveImport crateRule twoWords 1) (refused (numberOn 5 1))  -- imports::resolve_import
     ∷ []
-
-pub sheet : map (λ (r : Row). answer (r .asked)) rows ≡ map (λ (r : Row). r .told) rows
-unfolding kinds answer row rows statement record-lines block-words name-word imports block-of line subsFrom placed crateRule parts all run bite u16At u32At entryOf isMarker lineKind blocks blockBite wordsIn firstBy modules moduleBite collected ofNth ifRef
-sheet = refl

@@ -6,9 +6,13 @@ use area::SubWalk;
 use checksums::ChecksumKind;
 use checksums::EntryStep;
 use exports::Count;
+use exports::ExportStep;
 use exports::Lookup;
 use files::FileAnswer;
+use files::FileStep;
+use imports::ImportStep;
 use imports::Resolved;
+use inlinees::InlineeStep;
 use libc::STDOUT_FILENO;
 use line_record::Entry;
 use line_record::Length;
@@ -22,8 +26,11 @@ use modi::ModuleSizes;
 use modi::Part;
 use modi::SymbolsAnswer;
 use order::Ordered;
+use reading_record::ItemStep;
+use reading_record::ItemWalk;
 use refusal::Refusal;
 use strings::NameAnswer;
+use table::TableWalk;
 use writer::Wrote;
 
 fn say(text: &[u8]) {
@@ -260,6 +267,56 @@ fn forged(area: &[u8]) {
     end();
 }
 
+// What the walks over an area's tables answer first, and the full reading.
+fn first_file(area: &[u8]) {
+    match files::next_file(area, TableWalk::New) {
+        FileStep::None => say(b"none "),
+        FileStep::Refused(why) => refused(why),
+        _ => say(b"a file "),
+    }
+}
+
+fn first_inlinee(area: &[u8]) {
+    match inlinees::next_inlinee(area, TableWalk::New) {
+        InlineeStep::None => say(b"none "),
+        InlineeStep::Refused(why) => refused(why),
+        _ => say(b"an inlinee "),
+    }
+}
+
+fn first_import(area: &[u8]) {
+    match imports::next_import(area, TableWalk::New) {
+        ImportStep::None => say(b"none "),
+        ImportStep::Refused(why) => refused(why),
+        _ => say(b"a module "),
+    }
+}
+
+fn first_export(area: &[u8]) {
+    match exports::next_export(area, TableWalk::New) {
+        ExportStep::None => say(b"none "),
+        ExportStep::Refused(why) => refused(why),
+        _ => say(b"an export "),
+    }
+}
+
+fn first_item(area: &[u8]) {
+    match reading_walk::next_item(area, ItemWalk::new()) {
+        ItemStep::None => say(b"none "),
+        ItemStep::Refused(why) => refused(why),
+        _ => say(b"an item "),
+    }
+}
+
+fn firsts(area: &[u8]) {
+    first_file(area);
+    first_inlinee(area);
+    first_import(area);
+    first_export(area);
+    first_item(area);
+    end();
+}
+
 fn name(stream: &[u8], offset: u32) {
     match strings::name_at(stream, offset) {
         NameAnswer::At { start, len } => {
@@ -309,8 +366,20 @@ fn wrote(w: Wrote) -> usize {
 fn area_lines() {
     say(b"empty area: ");
     subsections(b"");
+    say(b"its order list and lines: ");
+    walked(b"");
+    say(b"its files, inlinees, imports, exports, items: ");
+    firsts(b"");
+    say(b"its number of exports: ");
+    count(b"");
+    say(b"a lookup in its exports: ");
+    lookup(b"", 7);
     say(b"7 bytes: ");
     subsections(b"\x00\x00\x00\x00\x00\x00\x00");
+    say(b"their order list: ");
+    walked(b"\x00\x00\x00\x00\x00\x00\x00");
+    say(b"their files, inlinees, imports, exports, items: ");
+    firsts(b"\x00\x00\x00\x00\x00\x00\x00");
     say(b"kind 0xf0, length 0: ");
     subsections(b"\xf0\x00\x00\x00\x00\x00\x00\x00");
     say(b"kind 0xf0, length 4, no body: ");
