@@ -3,33 +3,30 @@
 -- Definitions only; a reader must believe them.
 use Prim.Native.Nat.{ℕ}
 use mathlib.Core.List.{List, [], _∷_, _++_}
+use mathlib.Core.Option.{Option, none, some}
+use lib.ListN.{getD}
 use Rattle.text.specs.Text.{ascii, decimal, hex}
-use Rattle.line_record.specs.declared.Length.{Length}
-use Rattle.line_record.specs.declared.Length.the-variants.{Unset, Is}
-use Rattle.line_record.specs.declared.Column.{Column}
-use Rattle.line_record.specs.declared.Column.the-variants as column
-use Rattle.line_record.specs.declared.LineKind.{LineKind}
-use Rattle.line_record.specs.declared.LineKind.the-variants.{Expression, Statement}
+use Rattle.line_record.specs.Told.{toldLineKind, toldLength, toldColumn}
 use Rattle.line_record.specs.declared.LineRecord.{LineRecord}
 use Rattle.printed.specs.Printed.{Pieces}
 
-abbrev pub lengthText : Length → List ℕ
-lengthText Unset = ascii "-"
-lengthText (Is n) = decimal n
+abbrev pub lengthText : Option ℕ → List ℕ
+lengthText none = ascii "-"
+lengthText (some n) = decimal n
 
 -- a column that is unset is left out, so that a line without columns has the - alone
-abbrev pub sideText : Column → List ℕ
-sideText column.None = []
-sideText (column.At n) = decimal n
+abbrev pub sideText : Option ℕ → List ℕ
+sideText none = []
+sideText (some n) = decimal n
 
-abbrev pub kindText : LineKind → List ℕ
-kindText Statement = ascii " st\n"
-kindText Expression = ascii " ex\n"
+-- the word of a line's kind, by its number
+abbrev pub kindText : ℕ → List ℕ
+kindText kind = getD (ascii " ex\n" ∷ ascii " st\n" ∷ []) kind []
 
 -- line 1:1000 len 8
 abbrev pub addressPieces : LineRecord → Pieces
 addressPieces r =
-    ascii "line " ∷ decimal (r .section) ∷ ascii ":" ∷ hex (r .offset) ∷ ascii " len " ∷ lengthText (r .length) ∷ []
+    ascii "line " ∷ decimal (r .section) ∷ ascii ":" ∷ hex (r .offset) ∷ ascii " len " ∷ lengthText (toldLength (r .length)) ∷ []
 
 --  file 0 10-10
 abbrev pub sourcePieces : LineRecord → Pieces
@@ -41,4 +38,9 @@ abbrev pub recordLine : LineRecord → Pieces
 recordLine r =
     addressPieces r
     ++ (sourcePieces r
-    ++ (ascii " " ∷ sideText (r .«column_start») ∷ ascii "-" ∷ sideText (r .«column_end») ∷ kindText (r .kind) ∷ []))
+    ++ (ascii " "
+    ∷ sideText (toldColumn (r .«column_start»))
+    ∷ ascii "-"
+    ∷ sideText (toldColumn (r .«column_end»))
+    ∷ kindText (toldLineKind (r .kind))
+    ∷ []))

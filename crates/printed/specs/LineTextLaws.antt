@@ -4,6 +4,7 @@ use mathlib.Core.Path.{_≡_, refl}
 use native.Mathlib.Omega.{arith}
 use lib.ListN.{length, length-append}
 use Rattle.text.specs.Text.{ascii, glyph, numeralIn, numeral, joined}
+use Rattle.line_record.specs.Told.{toldLineKind, toldLength, toldColumn}
 use Rattle.line_record.specs.declared.Length.{Length}
 use Rattle.line_record.specs.declared.Length.the-variants.{Unset, Is}
 use Rattle.line_record.specs.declared.Column.{Column}
@@ -27,16 +28,16 @@ ShortRecord r =
     Short (r .section) × Short (r .offset) × ShortLength (r .length) × Short (r .file) × Short (r .«start_line») × Short (r .«end_line»)
     × ShortColumn (r .«column_start») × ShortColumn (r .«column_end»)
 
-length-short : (l : Length) → ShortLength l → length (lengthText l) ≤ 20
+length-short : (l : Length) → ShortLength l → length (lengthText (toldLength l)) ≤ 20
 unfolding ascii
 length-short Unset h = omega arith
 length-short (Is n) h = decimal-short n h
 
-side-short : (c : Column) → ShortColumn c → length (sideText c) ≤ 20
+side-short : (c : Column) → ShortColumn c → length (sideText (toldColumn c)) ≤ 20
 side-short column.None h = omega arith
 side-short (column.At n) h = decimal-short n h
 
-kind-short : (k : LineKind) → length (kindText k) ≤ 4
+kind-short : (k : LineKind) → length (kindText (toldLineKind k)) ≤ 4
 unfolding ascii
 kind-short Statement = omega arith
 kind-short Expression = omega arith

@@ -12,6 +12,7 @@ ghost use Rattle.text.specs.PageLaws.{writtenAll};
 ghost use Rattle.text.specs.Told.{toldPlace};
 ghost use Rattle.refusal.specs.Told.{told, numberOf};
 ghost use Rattle.checksums.specs.Told.{toldKind};
+ghost use Rattle.line_record.specs.Told.{toldLineKind, toldLength, toldColumn};
 ghost use Rattle.printed.specs.Printed.{headLine, subLine, checksumWord, bytesText, fileLine, endOfText, refusedLine, longestLine};
 ghost use Rattle.printed.specs.PrintedLaws.{Short, shortLine, fileHead, textSize};
 ghost use Rattle.printed.specs.LineText.{lengthText, sideText, kindText, addressPieces, sourcePieces, recordLine};
@@ -194,7 +195,7 @@ pub fn put_refused(buf: &mut [u8], place: Place, why: Refusal) -> Place
 // ---- the line of a line record: address and length, file and lines, columns and kind
 
 fn put_length(buf: &mut [u8], place: Place, length: Length) -> Place
-    ensures { λ r. ⌜ page (now (buf .exit)) (toldPlace r) ≡ pieceWritten (lengthText length) (page (now (buf .entry)) (toldPlace place)) ⌝ }
+    ensures { λ r. ⌜ page (now (buf .exit)) (toldPlace r) ≡ pieceWritten (lengthText (toldLength length)) (page (now (buf .entry)) (toldPlace place)) ⌝ }
     ensures { λ _. ⌜ ShortLength length ⌝ }
 {
     match length {
@@ -204,7 +205,7 @@ fn put_length(buf: &mut [u8], place: Place, length: Length) -> Place
 }
 
 fn put_side(buf: &mut [u8], place: Place, column: Column) -> Place
-    ensures { λ r. ⌜ page (now (buf .exit)) (toldPlace r) ≡ pieceWritten (sideText column) (page (now (buf .entry)) (toldPlace place)) ⌝ }
+    ensures { λ r. ⌜ page (now (buf .exit)) (toldPlace r) ≡ pieceWritten (sideText (toldColumn column)) (page (now (buf .entry)) (toldPlace place)) ⌝ }
     ensures { λ _. ⌜ ShortColumn column ⌝ }
 {
     match column {
@@ -214,7 +215,7 @@ fn put_side(buf: &mut [u8], place: Place, column: Column) -> Place
 }
 
 fn put_kind(buf: &mut [u8], place: Place, kind: LineKind) -> Place
-    ensures { λ r. ⌜ page (now (buf .exit)) (toldPlace r) ≡ pieceWritten (kindText kind) (page (now (buf .entry)) (toldPlace place)) ⌝ }
+    ensures { λ r. ⌜ page (now (buf .exit)) (toldPlace r) ≡ pieceWritten (kindText (toldLineKind kind)) (page (now (buf .entry)) (toldPlace place)) ⌝ }
 {
     match kind {
         LineKind::Statement => put_bytes(buf, place, b" st\n"),

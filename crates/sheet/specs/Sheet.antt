@@ -5,21 +5,21 @@ use Prim.Native.Nat.{ℕ}
 use mathlib.Core.Path.{_≡_}
 use mathlib.Core.Bool.{true, false}
 use mathlib.Core.List.{List, [], _∷_, _++_}
+use mathlib.Core.Option as option
 use Rattle.word.specs.Word.{le32, header}
-use Rattle.walk.specs.Listing.{gives, none, refuses, gave, nothing, refused}
+use Rattle.walk.specs.Listing.{gives, none, refuses, Reply, gave, nothing, refused}
+use Rattle.walk.specs.Pick.{mapReply}
 use Rattle.refusal.specs.Told.{Told}
 use Rattle.area.specs.Kind.{crateRule}
 use Rattle.area.specs.Subs.{stepAt, crateStep}
+use Rattle.find.specs.Find.{same}
 use Rattle.table.specs.declared.TableWalk.the-variants as table
 use Rattle.lines.specs.Lines.{countLines}
 use Rattle.lines.specs.Blocks.{blockAt}
 use Rattle.order.specs.Order.{ordered, slotsAfter}
-use Rattle.line_record.specs.declared.Length.the-variants.{Unset}
-use Rattle.line_record.specs.declared.Column.the-variants as column
-use Rattle.line_record.specs.declared.LineKind.the-variants.{Expression}
-use Rattle.line_record.specs.declared.LineRecord.{LineRecord}
 use Rattle.line_record.specs.declared.LineSource.{LineSource}
 use Rattle.line_record.specs.Record.{columnIf, entryOf}
+use Rattle.line_record.specs.Told.{ToldLine, toldRecord}
 use Rattle.line_step.specs.declared.Held.the-variants.{Nothing}
 use Rattle.line_step.specs.declared.LineWalk.{LineWalk}
 use Rattle.line_step.specs.declared.LineWalk.the-variants as line
@@ -64,10 +64,14 @@ seven = 0 ∷ 0 ∷ 0 ∷ 0 ∷ 0 ∷ 0 ∷ 0 ∷ []
 abbrev pub source : LineSource
 source = record { section = 1; base = 0; file = 0; columns = false }
 
+-- what an entry says, its record by its numbers
+abbrev pub entryTold : ℕ → Reply ToldLine Told
+entryTold flags = mapReply toldRecord same (entryOf source 0 flags (columnIf false 0))
+
 -- the record of lines 10 to 10, Expression
-abbrev pub tenToTen : LineRecord
+abbrev pub tenToTen : ToldLine
 tenToTen =
-    record { section = 1; offset = 0; length = Unset; file = 0; «start_line» = 10; «end_line» = 10; «column_start» = column.None; «column_end» = column.None; kind = Expression }
+    record { section = 1; offset = 0; length = option.none; file = 0; startLine = 10; endLine = 10; startColumn = option.none; endColumn = option.none; kind = 0 }
 
 -- a line body with a header of zeros, and behind it a block of file 0 with this number of lines and this size
 abbrev pub oneBlock : ℕ → ℕ → List ℕ → List ℕ
@@ -124,8 +128,8 @@ rows =
     ∷ row (stepAt crateRule (header 0xf0 4) 0) (refuses (number 1))  -- area::sub_at
     ∷ row (stepAt crateRule (header 0x8000_0000 4 ++ le32 0x0403_0201) 0) none  -- area::sub_at
     -- flags 0x0c00000a: lines 10 to 10, Expression. 0x80feefee: marker
-    ∷ row (entryOf source 0 0x0c00_000a (columnIf false 0)) (gave tenToTen)  -- line_record::entry_of
-    ∷ row (entryOf source 0 0x80fe_efee (columnIf false 0)) nothing  -- line_record::entry_of
+    ∷ row (entryTold 0x0c00_000a) (gave tenToTen)  -- line_record::entry_of
+    ∷ row (entryTold 0x80fe_efee) nothing  -- line_record::entry_of
     -- block size 12, no lines: accepted
     ∷ row (blockAt false (oneBlock 0 12 []) 12) (gives (record { file = 0; count = 0; start = 24 }) 24)  -- lines::block_at
     -- 19 with one line: 7; 20: accepted, but 7 with columns; 24 then accepted

@@ -5,6 +5,7 @@ use native.Mathlib.Omega.{arith}
 use mathlib.Core.Path.{sym, ap, subst}
 use Rattle.text.specs.Text.{ascii}
 use Rattle.text.specs.PageLaws.{same-text}
+use Rattle.line_record.specs.Told.{toldLength}
 use Rattle.line_record.specs.declared.Length.{Length}
 use Rattle.printed.specs.LineTextLaws.{ShortLength}
 use Rattle.printed.specs.LineText.{lengthText}
@@ -15,12 +16,12 @@ returns : tie.Need-returns
 unfolding ascii
 returns c =
     let e = sym (c .before .before .before .before .before .enum-told .given .1) in
-    (same-text _ _ _ _ (c .before .before .put-bytes .ensures) (ap (λ (k : Length). lengthText k) e), subst ShortLength e tt)
+    (same-text _ _ _ _ (c .before .before .put-bytes .ensures) (ap (λ (k : Length). lengthText (toldLength k)) e), subst ShortLength e tt)
 
 returns-2 : tie.Need-returns-2
 returns-2 c =
     let e = sym (c .before .before .before .before .before .length .given .1) in
-    (same-text _ _ _ _ (c .before .before .put-decimal .ensures) (ap (λ (k : Length). lengthText k) e), subst ShortLength e (omega arith))
+    (same-text _ _ _ _ (c .before .before .put-decimal .ensures) (ap (λ (k : Length). lengthText (toldLength k)) e), subst ShortLength e (omega arith))
 
 pub put-length-spec : {M : Type 1} → statement M
 put-length-spec =
