@@ -65,6 +65,23 @@ pub fn put32(records: &mut [u32], at: usize, words: &[u32])
     }
 }
 
+// Puts words of 32 bits into words of 64. Where they do not fit nothing is put.
+pub fn put_wide(out: &mut [u64], at: usize, words: &[u32])
+    ensures { λ _. ⌜ now (out .exit) ≡ store (now (out .entry)) at (now (words .entry)) ⌝ }
+{
+    if out.len() < at {
+        return;
+    }
+    if out.len() - at < words.len() {
+        return;
+    }
+    let mut i: usize = 0;
+    while i < words.len() {
+        out[at + i] = words[i] as u64;
+        i += 1;
+    }
+}
+
 // The status of an answer, by whether nothing comes behind it.
 pub fn answer_status(last: bool) -> u32
     ensures { λ r. ⌜ r ≡ answerStatus last ⌝ }

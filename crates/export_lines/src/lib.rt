@@ -1,26 +1,31 @@
-// The calls on lines, for programs in other languages: the order list, the walk one record or many at a time, and the lines of a symbol. The crate
-// `c13` gives each its C name.
+// The calls on lines, for programs in other languages: the order list, the list of bodies, the walk one record or many at a time, and the lines of a symbol.
+// The crate `c13` gives each its C name.
+//
+// The area's list of bodies is lent beside the order list, so that each body is found soon. No answer depends on it.
 ghost use mathlib.Core.Path.{_≡_};
 ghost use lib.ListN.{length};
 ghost use mathlib.Core.List.{[], _∷_, _++_};
 ghost use Prim.Native.Nat.{_≤_};
 ghost use Rattle.area.specs.Kind.{crateRule};
 ghost use Rattle.answer_words.specs.Given.{Gives, given};
-ghost use Rattle.answer_words.specs.FillGiven.{askedSize};
-ghost use Rattle.export_lines.specs.Calls.{orderGiven, slotsLeft, lineGiven, symbolGiven, linesGiven, recordsLeft};
+ghost use Rattle.answer_words.specs.FillGiven.{answerStatus, askedSize};
+ghost use Rattle.export_lines.specs.Calls.{orderGiven, slotsLeft, bodiesGiven, bodiesLeft, lineGiven, symbolGiven, holdsOne, overWalk, linesGiven, recordsLeft};
 ghost use Rattle.line_state_words.specs.LineWords.{stateSize, lineWalkWords};
 use answer_words::GIVEN;
 use answer_words::NONE;
 use answer_words::REFUSAL_WORDS;
 use answer_words::TOO_SHORT;
+use answer_words::answer_status;
 use answer_words::put;
 use answer_words::put_refusal;
+use line_state_words::RECORD_WORDS;
 use line_state_words::STATE_WORDS;
 use line_state_words::line_walk_in;
 use line_state_words::put_line;
 use line_state_words::put_line_walk;
+use line_step::Held;
 use line_step::LineWalk;
-use line_walk::LineStep;
+use lines::Counted;
 use many_lines::LinesStep;
 use many_lines::next_lines;
 use order::Ordered;
@@ -45,14 +50,31 @@ pub fn order_list(area: &[u8], slots: &mut [u32], out: &mut [u64]) -> u32
     }
 }
 
+// The list of the line bodies in the order of the area, into lent slots. Word: how many slots it takes.
+pub fn body_list(area: &[u8], bodies: &mut [u32], out: &mut [u64]) -> u32
+    ensures { λ r. ⌜ Gives (now (out .entry))
+        (bodiesGiven crateRule (now (area .entry)) (length (now (bodies .entry))) (now (out .entry)))
+        r (now (out .exit)) ⌝ }
+    ensures { λ _. ⌜ now (bodies .exit) ≡ bodiesLeft crateRule (now (area .entry)) (now (bodies .entry)) (now (out .entry)) ⌝ }
+{
+    if out.len() < REFUSAL_WORDS {
+        return TOO_SHORT;
+    }
+    match body_list::body_list(area, bodies) {
+        Counted::Lines(n) => put(out, 0, &[n as u64], GIVEN),
+        Counted::Refused(why) => put_refusal(out, 0, why),
+    }
+}
+
 // The next record of the line walk over a list in slots. State and words are those of the crate `line_state_words`.
-pub fn next_line(area: &[u8], slots: &[u32], out: &mut [u64]) -> u32
+pub fn next_line(area: &[u8], slots: &[u32], bodies: &[u32], out: &mut [u64]) -> u32
     ensures { λ r. ⌜ Gives (now (out .entry)) (lineGiven crateRule (now (area .entry)) (now (slots .entry)) (now (out .entry))) r (now (out .exit)) ⌝ }
 {
-    match line_walk::next_line(area, slots, line_walk_in(out)) {
-        LineStep::Line(record, next) => put_line(out, record, next),
-        LineStep::None => NONE,
-        LineStep::Refused(why) => put_refusal(out, STATE_WORDS, why),
+    let mut row = [0u32; RECORD_WORDS];
+    match next_lines(area, slots, bodies, line_walk_in(out), &mut row) {
+        LinesStep::Lines { count: _, next } => put_line(out, next, &row),
+        LinesStep::None => NONE,
+        LinesStep::Refused(why) => put_refusal(out, STATE_WORDS, why),
     }
 }
 
@@ -60,30 +82,65 @@ pub fn next_line(area: &[u8], slots: &[u32], out: &mut [u64]) -> u32
 pub fn lines_for_symbol(
     area: &[u8],
     slots: &[u32],
+    bodies: &[u32],
     section: u16,
     offset: u32,
     out: &mut [u64],
 ) -> u32
     ensures { λ r. ⌜ Gives (now (out .entry)) (symbolGiven crateRule (now (area .entry)) (now (slots .entry)) section offset) r (now (out .exit)) ⌝ }
 {
-    match symbol_lines::lines_for_symbol(area, slots, section, offset) {
+    match symbol_lines::lines_for_symbol(area, slots, bodies, section, offset) {
         SymbolLines::Lines(walk) => put_line_walk(out, walk),
         SymbolLines::Refused(why) => put_refusal(out, 0, why),
+    }
+}
+
+// Is a record held back?
+fn holds_one(held: Held) -> bool
+    ensures { λ r. ⌜ r ≡ holdsOne held ⌝ }
+{
+    match held {
+        Held::Nothing => false,
+        Held::One(_) => true,
+    }
+}
+
+// Does no record come behind a walk, since no subsection is left and no record held?
+fn is_over(walk: LineWalk) -> bool
+    ensures { λ r. ⌜ r ≡ overWalk walk ⌝ }
+{
+    match walk {
+        LineWalk::New => false,
+        LineWalk::Between(t) => {
+            let held = t.held;
+            if t.left == 0 {
+                return !holds_one(held);
+            }
+            false
+        }
+        LineWalk::Inside(_, _) => false,
     }
 }
 
 // The next state, and behind it how many records there are.
 fn put_lines(out: &mut [u64], count: usize, next: LineWalk) -> u32
     requires { ⌜ askedSize stateSize ≤ length (now out) ⌝ }
-    ensures { λ r. ⌜ Gives (now (out .entry)) (given 1 0 (lineWalkWords next ++ (count ∷ []))) r (now (out .exit)) ⌝ }
+    ensures { λ r. ⌜ Gives (now (out .entry)) (given (answerStatus (overWalk next)) 0 (lineWalkWords next ++ (count ∷ []))) r (now (out .exit)) ⌝ }
 {
+    let status = answer_status(is_over(next));
     put_line_walk(out, next);
-    put(out, STATE_WORDS, &[count as u64], GIVEN)
+    put(out, STATE_WORDS, &[count as u64], status)
 }
 
 // The records from the walk in `out` on, into `records`. Words: the next state, and how many records there are. Where there is none to give the answer
-// is that of `next_line`; without room for one it is number 10.
-pub fn lines(area: &[u8], slots: &[u32], records: &mut [u64], out: &mut [u64]) -> u32
+// is that of `next_line`; without room for one it is number 10. The status says whether the walk is over behind them.
+pub fn lines(
+    area: &[u8],
+    slots: &[u32],
+    bodies: &[u32],
+    records: &mut [u32],
+    out: &mut [u64],
+) -> u32
     ensures { λ r. ⌜ Gives (now (out .entry))
         (linesGiven crateRule (now (area .entry)) (now (slots .entry)) (length (now (records .entry))) (now (out .entry)))
         r (now (out .exit)) ⌝ }
@@ -92,7 +149,7 @@ pub fn lines(area: &[u8], slots: &[u32], records: &mut [u64], out: &mut [u64]) -
     if out.len() < ASKED {
         return TOO_SHORT;
     }
-    match next_lines(area, slots, line_walk_in(out), records) {
+    match next_lines(area, slots, bodies, line_walk_in(out), records) {
         LinesStep::Lines { count, next } => put_lines(out, count, next),
         LinesStep::None => NONE,
         LinesStep::Refused(why) => put_refusal(out, STATE_WORDS, why),

@@ -43,10 +43,6 @@ placeSize = 10
 abbrev pub stateSize : ℕ
 stateSize = restSize + placeSize
 
--- a step is the next state, and the record
-abbrev pub stepSize : ℕ
-stepSize = stateSize + recordSize
-
 -- ---- a record
 
 -- a length, and a column: 0 and 0 without one, else 1 and the number

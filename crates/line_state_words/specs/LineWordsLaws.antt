@@ -17,9 +17,11 @@ use Rattle.line_step.specs.declared.Place.{Place}
 use Rattle.line_step.specs.declared.LineWalk.{LineWalk}
 use Rattle.line_step.specs.declared.LineWalk.the-variants as walk
 use Rattle.word.specs.Word.{put, store}
-use Rattle.word.specs.WordLaws.{store-put}
-use Rattle.line_state_words.specs.LineWords.{recordSize, heldAt, restSize, stateSize, stepSize}
-use Rattle.line_state_words.specs.LineWords.{lengthWords, columnWords, kindWord, recordWords, heldWords, restWords, lineWalkWords, lineWords}
+use Rattle.word.specs.WordLaws.{put-length, store-put}
+use Rattle.answer_words.specs.Given.{given, Gives}
+use Rattle.answer_words.specs.PiecesLaws.{two-pieces, gives-pieces}
+use Rattle.line_state_words.specs.LineWords.{recordSize, heldAt, restSize, stateSize}
+use Rattle.line_state_words.specs.LineWords.{lengthWords, columnWords, kindWord, recordWords, heldWords, restWords, lineWalkWords}
 use Rattle.line_state_words.specs.LineWords.{recordIn, heldIn, restIn, placeIn, lineWalkIn}
 
 -- ---- read back
@@ -73,9 +75,6 @@ walk-length walk.New = refl
 walk-length (walk.Between t) = simp length-append (omega (arith, held-length (t .held)))
 walk-length (walk.Inside p t) = simp length-append (omega (arith, held-length (t .held)))
 
-pub line-length : (r : LineRecord) (w : LineWalk) → length (lineWords r w) ≡ stepSize
-line-length r w = length-append (lineWalkWords w) (recordWords r) ∙ omega (arith, walk-length w, record-length r)
-
 -- ---- put
 
 -- the words of a record from those of its parts
@@ -89,3 +88,13 @@ record-words r l s e k =
 pub record-is : (o left : List ℕ) (at : ℕ) (r : LineRecord) → left ≡ store o at (recordWords r) → at + recordSize ≤ length o
     → left ≡ put o at (recordWords r)
 record-is o left at r e h = e ∙ sym (store-put o at (recordWords r) recordSize (record-length r) h)
+
+-- p with the state put, and q with the words ws behind it
+pub behind-walk : (o p q : List ℕ) (w : LineWalk) (ws : List ℕ) → stateSize + length ws ≤ length o → p ≡ put o 0 (lineWalkWords w) → q ≡ store p stateSize ws
+    → Gives o (given 1 0 (lineWalkWords w ++ ws)) 1 q
+behind-walk o p q w ws h ep eq =
+    let l = walk-length w in
+    let fits : 0 + length (lineWalkWords w) ≤ length o = omega arith in
+    let lp : length p ≡ length o = ap length ep ∙ put-length o 0 (lineWalkWords w) fits in
+    let e = two-pieces o p q 0 stateSize (lineWalkWords w) ws ep (eq ∙ sym (store-put p stateSize ws (length ws) refl (omega arith))) (omega arith) fits in
+    gives-pieces o q (lineWalkWords w ++ ws) e (omega (arith, length-append (lineWalkWords w) ws))

@@ -1,6 +1,6 @@
 // A line record and a state of the line walk in words, for programs in other languages, and back.
 ghost use mathlib.Core.Path.{_≡_};
-ghost use mathlib.Core.List.{[], _∷_};
+ghost use mathlib.Core.List.{[], _∷_, _++_};
 ghost use Prim.Native.Nat.{_≤_};
 ghost use lib.ListN.{length, getD};
 ghost use Rattle.word.specs.Word.{put, store};
@@ -8,7 +8,7 @@ ghost use Rattle.answer_words.specs.Given.{given, Gives};
 ghost use Rattle.line_state_words.specs.LineWords.{heldAt, restSize, stateSize};
 ghost use Rattle.line_state_words.specs.LineWords.{u16Of, u32Of, lengthOf, columnOf, kindIn, recordIn, heldIn, restIn, headIn, placeIn, lineWalkIn};
 ghost use Rattle.line_state_words.specs.LineWords.{lengthWords, columnWords, kindWord, recordWords};
-ghost use Rattle.line_state_words.specs.LineWords.{heldWords, restWords, placeWords, lineWalkWords, lineWords};
+ghost use Rattle.line_state_words.specs.LineWords.{heldWords, restWords, placeWords, lineWalkWords};
 use answer_words::GIVEN;
 use answer_words::TOO_SHORT;
 use answer_words::state_word;
@@ -37,9 +37,6 @@ const PLACE_WORDS: usize = 10;
 
 // The words of a state.
 pub const STATE_WORDS: usize = REST_WORDS + PLACE_WORDS;
-
-// The words of a step: the next state, and behind it the record.
-pub const STEP_WORDS: usize = STATE_WORDS + RECORD_WORDS;
 
 // ---- read back
 
@@ -346,14 +343,17 @@ pub fn put_line_walk(out: &mut [u64], w: LineWalk) -> u32
     GIVEN
 }
 
-// A step of the line walk: the next state, and behind it the record.
-pub fn put_line(out: &mut [u64], r: LineRecord, w: LineWalk) -> u32
-    ensures { λ q. ⌜ Gives (now (out .entry)) (given 1 0 (lineWords r w)) q (now (out .exit)) ⌝ }
+// A step of the line walk: the next state, and behind it the words of the record.
+pub fn put_line(out: &mut [u64], w: LineWalk, row: &[u32]) -> u32
+    ensures { λ q. ⌜ Gives (now (out .entry)) (given 1 0 (lineWalkWords w ++ now (row .entry))) q (now (out .exit)) ⌝ }
 {
-    if out.len() < STEP_WORDS {
+    if out.len() < STATE_WORDS {
+        return TOO_SHORT;
+    }
+    if out.len() - STATE_WORDS < row.len() {
         return TOO_SHORT;
     }
     put_walk(out, w);
-    put_record(out, STATE_WORDS, r);
+    answer_words::put_wide(out, STATE_WORDS, row);
     GIVEN
 }

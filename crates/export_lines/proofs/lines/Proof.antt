@@ -2,7 +2,6 @@
 -- Assumes nothing.
 use borrow.Author.Needs.{needs}
 use mathlib.Core.Path.{sym, ap, _∙_}
-use mathlib.Core.Bool.{false}
 use native.Mathlib.Omega.{arith}
 use lib.ListN.{length}
 use Rattle.area.specs.Kind.{crateRule}
@@ -11,42 +10,43 @@ use Rattle.answer_words.specs.FillGivenLaws.{fill-short, fill-given}
 use Rattle.line_state_words.specs.LineWords.{stateSize, lineWalkIn, lineWalkWords, recordWords}
 use Rattle.many_lines.specs.Lines.{linesOf}
 use Rattle.many_lines.specs.Told.{toldLines}
+use Rattle.export_lines.specs.Calls.{overWalk}
 use Rattle.export_lines.proofs.lines.Statement.{statement}
 use Rattle.export_lines.proofs.lines.Tie as tie
 
 returns : tie.Need-returns
 returns c =
-    let at = c .before .before .before .before .before .args in
-    fill-short stateSize (λ w. false) lineWalkWords recordWords (at .out .now) (at .records .now) (linesOf crateRule (at .area .now) (at .slots .now) (length (at .records .now)) (lineWalkIn (at .out .now))) (omega arith)
+    let at = c .before .before .before .before .before .before .args in
+    fill-short stateSize overWalk lineWalkWords recordWords (at .out .now) (at .records .now) (linesOf crateRule (at .area .now) (at .slots .now) (length (at .records .now)) (lineWalkIn (at .out .now))) (omega arith)
 
 returns-2 : tie.Need-returns-2
 returns-2 c =
     let h = c .before .before .before .before .before .before .before .before .before in
-    let at = h .before .before .before .before .before .before .before .before .before .args in
+    let at = h .before .before .before .before .before .before .before .before .before .before .args in
     let w = h .before .before .line-walk-in .ensures in
     let l = h .next-lines .ensures in
     let e = ap toldLines (sym (c .before .before .before .before .before .count .given .1)) ∙ l .0 in
-    fill-given stateSize (λ w. false) lineWalkWords recordWords (at .out .now) (at .records .now) (linesOf crateRule (at .area .now) (at .slots .now) (length (at .records .now))) (omega arith) w e (l .1)
+    fill-given stateSize overWalk lineWalkWords recordWords (at .out .now) (at .records .now) (linesOf crateRule (at .area .now) (at .slots .now) (length (at .records .now))) (omega arith) w e (l .1)
     (c .before .before .put-lines .ensures)
 
 returns-3 : tie.Need-returns-3
 returns-3 c =
     let h = c .before .before .before .before in
-    let at = h .before .before .before .before .before .before .before .before .before .args in
+    let at = h .before .before .before .before .before .before .before .before .before .before .args in
     let w = h .before .before .line-walk-in .ensures in
     let l = h .next-lines .ensures in
     let e = ap toldLines (sym (c .enum-told .given .1)) ∙ l .0 in
-    fill-given stateSize (λ w. false) lineWalkWords recordWords (at .out .now) (at .records .now) (linesOf crateRule (at .area .now) (at .slots .now) (length (at .records .now))) (omega arith) w e (l .1)
+    fill-given stateSize overWalk lineWalkWords recordWords (at .out .now) (at .records .now) (linesOf crateRule (at .area .now) (at .slots .now) (length (at .records .now))) (omega arith) w e (l .1)
     (gives-none _)
 
 returns-4 : tie.Need-returns-4
 returns-4 c =
     let h = c .before .before .before .before .before .before .before .before .before in
-    let at = h .before .before .before .before .before .before .before .before .before .args in
+    let at = h .before .before .before .before .before .before .before .before .before .before .args in
     let w = h .before .before .line-walk-in .ensures in
     let l = h .next-lines .ensures in
     let e = ap toldLines (sym (c .before .before .before .before .before .why .given .1)) ∙ l .0 in
-    fill-given stateSize (λ w. false) lineWalkWords recordWords (at .out .now) (at .records .now) (linesOf crateRule (at .area .now) (at .slots .now) (length (at .records .now))) (omega arith) w e (l .1)
+    fill-given stateSize overWalk lineWalkWords recordWords (at .out .now) (at .records .now) (linesOf crateRule (at .area .now) (at .slots .now) (length (at .records .now))) (omega arith) w e (l .1)
     (c .before .before .put-refusal .ensures)
 
 pub lines-spec : {M : Type 1} → statement M
