@@ -16,7 +16,7 @@ ghost use Rattle.export_files.specs.Calls.{fileGiven, filesGiven, filesLeft, in
 ghost use Rattle.export_tables.specs.Calls.{wordGiven, inlineeGiven, moduleGiven, refGiven, exportGiven, countGiven, globalGiven};
 ghost use Rattle.export_tables.specs.Calls.{listGiven, placesLeft, listedGiven, bodyGiven, exportAtGiven, globalInGiven};
 ghost use Rattle.export_lines.specs.Calls.{linesGiven, recordsLeft};
-ghost use Rattle.export_lines.specs.Calls.{orderGiven, slotsLeft, lineGiven, symbolGiven};
+ghost use Rattle.export_lines.specs.Calls.{orderGiven, slotsLeft, bodiesGiven, bodiesLeft, lineGiven, symbolGiven};
 ghost use Rattle.export_write.specs.Calls.{wroteGiven, bufferLeft, plainGiven};
 
 #[no_mangle]
@@ -226,33 +226,50 @@ pub extern "C" fn c13_order_list(area: &[u8], slots: &mut [u32], out: &mut [u64]
 }
 
 #[no_mangle]
-pub extern "C" fn c13_next_line(area: &[u8], slots: &[u32], out: &mut [u64]) -> u32
-    ensures { λ r. ⌜ Gives (now (out .entry)) (lineGiven crateRule (now (area .entry)) (now (slots .entry)) (now (out .entry))) r (now (out .exit)) ⌝ }
+pub extern "C" fn c13_body_list(area: &[u8], bodies: &mut [u32], out: &mut [u64]) -> u32
+    ensures { λ r. ⌜ Gives (now (out .entry))
+        (bodiesGiven crateRule (now (area .entry)) (length (now (bodies .entry))) (now (out .entry)))
+        r (now (out .exit)) ⌝ }
+    ensures { λ _. ⌜ now (bodies .exit) ≡ bodiesLeft crateRule (now (area .entry)) (now (bodies .entry)) (now (out .entry)) ⌝ }
 {
-    export_lines::next_line(area, slots, out)
+    export_lines::body_list(area, bodies, out)
 }
 
 #[no_mangle]
-pub extern "C" fn c13_lines(area: &[u8], slots: &[u32], records: &mut [u64], out: &mut [u64]) -> u32
+pub extern "C" fn c13_next_line(area: &[u8], slots: &[u32], bodies: &[u32], out: &mut [u64]) -> u32
+    ensures { λ r. ⌜ Gives (now (out .entry)) (lineGiven crateRule (now (area .entry)) (now (slots .entry)) (now (out .entry))) r (now (out .exit)) ⌝ }
+{
+    export_lines::next_line(area, slots, bodies, out)
+}
+
+#[no_mangle]
+pub extern "C" fn c13_lines(
+    area: &[u8],
+    slots: &[u32],
+    bodies: &[u32],
+    records: &mut [u32],
+    out: &mut [u64],
+) -> u32
     ensures { λ r. ⌜ Gives (now (out .entry))
         (linesGiven crateRule (now (area .entry)) (now (slots .entry)) (length (now (records .entry))) (now (out .entry)))
         r (now (out .exit)) ⌝ }
     ensures { λ _. ⌜ now (records .exit) ≡ recordsLeft crateRule (now (area .entry)) (now (slots .entry)) (now (records .entry)) (now (out .entry)) ⌝ }
 {
-    export_lines::lines(area, slots, records, out)
+    export_lines::lines(area, slots, bodies, records, out)
 }
 
 #[no_mangle]
 pub extern "C" fn c13_lines_for_symbol(
     area: &[u8],
     slots: &[u32],
+    bodies: &[u32],
     section: u16,
     offset: u32,
     out: &mut [u64],
 ) -> u32
     ensures { λ r. ⌜ Gives (now (out .entry)) (symbolGiven crateRule (now (area .entry)) (now (slots .entry)) section offset) r (now (out .exit)) ⌝ }
 {
-    export_lines::lines_for_symbol(area, slots, section, offset, out)
+    export_lines::lines_for_symbol(area, slots, bodies, section, offset, out)
 }
 
 #[no_mangle]
