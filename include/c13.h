@@ -8,10 +8,10 @@
  * what is proved.
  *
  * WHAT A CALL IS LENT. Memory is lent as a pointer and a number of elements. A pointer must be valid for that number of elements and aligned to
- * its type; with the number 0 nothing is read through it, and it may be null. What may be written (`out`, `slots` of c13_order_list, `places` of
- * c13_import_list, `records` of c13_lines and c13_files, `buf` of the writer) must be no part of anything else that is lent. That is all that is asked: any
- * bytes, any numbers and any state of a walk are taken. The library keeps nothing between calls and allocates nothing; calls on different memory may run
- * at the same time.
+ * its type; with the number 0 nothing is read through it, and it may be null. What may be written (`out`, `slots` of c13_order_list, `bodies` of
+ * c13_body_list, `places` of c13_import_list, `records` of c13_lines and c13_files, `buf` of the writer) must be no part of anything else that is lent.
+ * That is all that is asked: any bytes, any numbers and any state of a walk are taken. The library keeps nothing between calls and allocates nothing; calls
+ * on different memory may run at the same time.
  *
  * WHAT A CALL ANSWERS. A status, and words that it puts into `out`:
  *
@@ -110,6 +110,16 @@ uint32_t c13_next_sub(const uint8_t *area, size_t area_len, uint64_t *out, size_
  *   out[0] how many slots it takes */
 uint32_t c13_order_list(const uint8_t *area, size_t area_len, uint32_t *slots, size_t slots_len, uint64_t *out, size_t out_len);
 
+/* The body list: the same places in the order of the area. Its refusals, and what it writes and answers, are those of the order list.
+ *   out[0] how many slots it takes */
+uint32_t c13_body_list(const uint8_t *area, size_t area_len, uint32_t *bodies, size_t bodies_len, uint64_t *out, size_t out_len);
+
+/* WHAT THE BODY LIST IS FOR. The three calls below are lent both lists. No answer depends on `bodies`: it may be anything, and of length 0. With
+ * the list that c13_body_list made of the same area a call costs at most some n log n steps for n bytes of area and slots, whatever these are. Without
+ * it, or with another list, a call over slots that go back in the area often costs up to n squared: each slot that lies before the last one is
+ * searched from the area's start. With it at most the first such slot of a call is; at the next the list is held against the area, in one pass, and then
+ * each slot is found in it by halving. */
+
 /* The words of a line record, counted from its first. An optional number is 1 and the number, or 0 and 0. */
 enum c13_line_word {
     C13_SECTION = 0,
@@ -133,22 +143,22 @@ enum c13_line_word {
  *   out[22] next block   out[23] file   out[24] lines left in the block   out[25] next line   out[26] next column
  * A record is held back until its end is known, so that its length is right. With the list that c13_order_list made of the same area no slot is wrong;
  * with any other a slot that is missing or names no line body is C13_WRONG_SLOT when the walk comes to it. */
-uint32_t c13_next_line(const uint8_t *area, size_t area_len, const uint32_t *slots, size_t slots_len, uint64_t *out, size_t out_len);
+uint32_t c13_next_line(const uint8_t *area, size_t area_len, const uint32_t *slots, size_t slots_len, const uint32_t *bodies, size_t bodies_len,
+                       uint64_t *out, size_t out_len);
 
-/* Many line records in one call: those from the walk on, as many as `records` has room for, 12 words each. State as above, 27 words.
- * Given: the state behind the last of them, and at out[27] how many there are. The records before an end or a refusal are given first; the next call
- * tells it, as c13_next_line would. With room for no record C13_NO_ROOM; with fewer than 29 words of `out` too short, and nothing changes.
- * A list that goes back in the area often is tested once in each call whose walk has 16 line subsections or more left, in some n log n steps for n line
- * subsections, so lend room for many records. */
-uint32_t c13_lines(const uint8_t *area, size_t area_len, const uint32_t *slots, size_t slots_len, uint64_t *records, size_t records_len,
-                   uint64_t *out, size_t out_len);
+/* Many line records in one call: those from the walk on, as many as `records` has room for, 12 words of 32 bits each. State as above, 27 words of 64.
+ * Given: the state behind the last of them, and at out[27] how many there are; C13_LAST where the walk is over behind them, so that a short walk is one
+ * call. The records before a refusal are given first; the next call tells it, as c13_next_line would. With room for no record C13_NO_ROOM; with
+ * fewer than 29 words of `out` too short, and nothing changes. */
+uint32_t c13_lines(const uint8_t *area, size_t area_len, const uint32_t *slots, size_t slots_len, const uint32_t *bodies, size_t bodies_len,
+                   uint32_t *records, size_t records_len, uint64_t *out, size_t out_len);
 
 /* The lines of the symbol at a section and offset: the state of a walk for c13_lines or c13_next_line. The walk is over the list's first line subsection
  * with just that section and offset; where there is none, over the last one in list order of the same section with a smaller offset, whether or
  * not it covers the offset asked; where there is none of these either, it has no records.
  *   out[0] .. out[26] the state */
-uint32_t c13_lines_for_symbol(const uint8_t *area, size_t area_len, const uint32_t *slots, size_t slots_len, uint16_t section, uint32_t offset,
-                              uint64_t *out, size_t out_len);
+uint32_t c13_lines_for_symbol(const uint8_t *area, size_t area_len, const uint32_t *slots, size_t slots_len, const uint32_t *bodies,
+                              size_t bodies_len, uint16_t section, uint32_t offset, uint64_t *out, size_t out_len);
 
 /* ---- files and their checksums: the entries of the area's last checksum subsection, after the tests of c13_order_list over the whole area */
 
@@ -322,7 +332,7 @@ uint32_t c13_add_opaque(uint8_t *buf, size_t buf_len, size_t place, uint32_t kin
  * c13_.._walk_many, the same; C13_NONE; C13_REFUSED, and why is stored, in the walk or, where it is not null, behind the last pointer. C13_TOO_SHORT does
  * not come. A loop over c13_.._walk_many uses `count` records at each turn, whatever the status is, and goes on while that is C13_GIVEN.
  *
- *     struct c13_line_walk walk = c13_line_walk_begin(area, area_len, slots, used);
+ *     struct c13_line_walk walk = c13_line_walk_begin(area, area_len, slots, used, bodies, used);
  *     struct c13_line line;
  *     while (c13_line_walk_next(&walk, &line) == C13_GIVEN) use(&line);
  *     if (walk.refused.number) fail(c13_refusal_text(walk.refused.number)); */
@@ -371,14 +381,14 @@ static inline enum c13_status c13_told(uint32_t status, const uint64_t *words, s
     return (enum c13_status)status;
 }
 
-/* Records, in words as the calls give them: of 32 bits where c13_files writes them, else of 64. `kind` is of enum c13_kind or enum c13_checksum_kind;
- * `start` and `length` name a part of the lent bytes (but the length of a line is that of its code); `file` and `index` are for c13_ask_file_at, `name`
- * is for c13_ask_name, `words` and `count` are for c13_ask_word. Where has_.. is 0 there is no such number. */
+/* Records, in words as the calls give them: of 32 bits where c13_lines and c13_files write them, else of 64. `kind` is of enum c13_kind or
+ * enum c13_checksum_kind; `start` and `length` name a part of the lent bytes (but the length of a line is that of its code); `file` and `index` are for
+ * c13_ask_file_at, `name` is for c13_ask_name, `words` and `count` are for c13_ask_word. Where has_.. is 0 there is no such number. */
 struct c13_sub {
     uint64_t kind, start, length;
 };
 struct c13_line {
-    uint64_t section, offset, has_length, length, file, start_line, end_line, has_start_column, start_column, has_end_column, end_column, is_statement;
+    uint32_t section, offset, has_length, length, file, start_line, end_line, has_start_column, start_column, has_end_column, end_column, is_statement;
 };
 struct c13_file {
     uint32_t index, name, kind, start, length;
@@ -397,7 +407,7 @@ struct c13_part {
 };
 
 /* c13_lines and c13_files write these structs: they are the words of a record, and no more. */
-typedef char c13_line_is_a_record[sizeof(struct c13_line) == C13_RECORD * sizeof(uint64_t) ? 1 : -1];
+typedef char c13_line_is_a_record[sizeof(struct c13_line) == C13_RECORD * sizeof(uint32_t) ? 1 : -1];
 typedef char c13_file_is_a_record[sizeof(struct c13_file) == C13_FILE_RECORD * sizeof(uint32_t) ? 1 : -1];
 
 /* Walks: what is lent, the words of the call, why it was refused. What is lent must stay as it is while the walk is used. */
@@ -412,6 +422,8 @@ struct c13_line_walk {
     size_t area_len;
     const uint32_t *slots;
     size_t slots_len;
+    const uint32_t *bodies;
+    size_t bodies_len;
     uint64_t out[C13_LINE_STATE + C13_RECORD];
     struct c13_refused refused;
 };
@@ -452,7 +464,7 @@ static inline enum c13_status c13_sub_walk_next(struct c13_sub_walk *walk, struc
     return status;
 }
 
-/* The order list: c13_order_list, which writes the slots. `used` of them are for the walk over the lines. */
+/* The two lists: c13_order_list and c13_body_list, which write their slots. `used` of them are for the walk over the lines; both use as many. */
 static inline enum c13_status c13_ask_order_list(const uint8_t *area, size_t area_len, uint32_t *slots, size_t slots_len, size_t *used,
                                                  struct c13_refused *why) {
     uint64_t out[2] = {0, 0};
@@ -460,17 +472,36 @@ static inline enum c13_status c13_ask_order_list(const uint8_t *area, size_t are
     if (status == C13_GIVEN) *used = (size_t)out[0];
     return status;
 }
+static inline enum c13_status c13_ask_body_list(const uint8_t *area, size_t area_len, uint32_t *bodies, size_t bodies_len, size_t *used,
+                                                struct c13_refused *why) {
+    uint64_t out[2] = {0, 0};
+    enum c13_status status = c13_told(c13_body_list(area, area_len, bodies, bodies_len, out, 2), out, why);
+    if (status == C13_GIVEN) *used = (size_t)out[0];
+    return status;
+}
 
-/* Lines: c13_next_line, and c13_lines for many, whose room is a number of lines. */
-static inline struct c13_line_walk c13_line_walk_begin(const uint8_t *area, size_t area_len, const uint32_t *slots, size_t slots_len) {
-    struct c13_line_walk walk = {area, area_len, slots, slots_len, {0}, {0, 0}};
+/* Lines: c13_next_line, and c13_lines for many, whose room is a number of lines. A walk without a body list is begun with NULL and 0 for it. */
+static inline struct c13_line_walk c13_line_walk_begin(const uint8_t *area, size_t area_len, const uint32_t *slots, size_t slots_len,
+                                                       const uint32_t *bodies, size_t bodies_len) {
+    struct c13_line_walk walk = {area, area_len, slots, slots_len, bodies, bodies_len, {0}, {0, 0}};
     return walk;
 }
 /* The lines of a symbol: c13_lines_for_symbol. C13_GIVEN: the walk is begun. A walk that was not begun gives the same refusal at each step. */
 static inline enum c13_status c13_line_walk_begin_symbol(struct c13_line_walk *walk, const uint8_t *area, size_t area_len, const uint32_t *slots,
-                                                         size_t slots_len, uint16_t section, uint32_t offset) {
-    *walk = c13_line_walk_begin(area, area_len, slots, slots_len);
-    return c13_told(c13_lines_for_symbol(area, area_len, slots, slots_len, section, offset, walk->out, C13_LINE_STATE), walk->out, &walk->refused);
+                                                         size_t slots_len, const uint32_t *bodies, size_t bodies_len, uint16_t section,
+                                                         uint32_t offset) {
+    *walk = c13_line_walk_begin(area, area_len, slots, slots_len, bodies, bodies_len);
+    return c13_told(c13_lines_for_symbol(area, area_len, slots, slots_len, bodies, bodies_len, section, offset, walk->out, C13_LINE_STATE), walk->out,
+                    &walk->refused);
+}
+/* A line's words, of 64 bits where c13_next_line gives them. */
+static inline void c13_line_of(struct c13_line *line, const uint64_t *words) {
+    line->section = (uint32_t)words[C13_SECTION]; line->offset = (uint32_t)words[C13_OFFSET];
+    line->has_length = (uint32_t)words[C13_HAS_LENGTH]; line->length = (uint32_t)words[C13_LENGTH]; line->file = (uint32_t)words[C13_FILE];
+    line->start_line = (uint32_t)words[C13_START_LINE]; line->end_line = (uint32_t)words[C13_END_LINE];
+    line->has_start_column = (uint32_t)words[C13_HAS_START_COLUMN]; line->start_column = (uint32_t)words[C13_START_COLUMN];
+    line->has_end_column = (uint32_t)words[C13_HAS_END_COLUMN]; line->end_column = (uint32_t)words[C13_END_COLUMN];
+    line->is_statement = (uint32_t)words[C13_IS_STATEMENT];
 }
 /* Whether a walk stays refused: so does each but one that lacks room, which may be given. */
 static inline int c13_line_walk_stays(const struct c13_line_walk *walk) { return walk->refused.number && walk->refused.number != C13_NO_ROOM; }
@@ -478,22 +509,21 @@ static inline enum c13_status c13_line_walk_next(struct c13_line_walk *walk, str
     const uint64_t *w = walk->out + C13_LINE_STATE;
     enum c13_status status;
     if (c13_line_walk_stays(walk)) return C13_REFUSED;
-    status = c13_told(c13_next_line(walk->area, walk->area_len, walk->slots, walk->slots_len, walk->out, C13_LINE_STATE + C13_RECORD), w, &walk->refused);
-    if (status == C13_GIVEN) {
-        line->section = w[C13_SECTION]; line->offset = w[C13_OFFSET]; line->has_length = w[C13_HAS_LENGTH]; line->length = w[C13_LENGTH];
-        line->file = w[C13_FILE]; line->start_line = w[C13_START_LINE]; line->end_line = w[C13_END_LINE];
-        line->has_start_column = w[C13_HAS_START_COLUMN]; line->start_column = w[C13_START_COLUMN];
-        line->has_end_column = w[C13_HAS_END_COLUMN]; line->end_column = w[C13_END_COLUMN]; line->is_statement = w[C13_IS_STATEMENT];
-    }
+    status = c13_told(c13_next_line(walk->area, walk->area_len, walk->slots, walk->slots_len, walk->bodies, walk->bodies_len, walk->out,
+                                    C13_LINE_STATE + C13_RECORD),
+                      w, &walk->refused);
+    if (status == C13_GIVEN) c13_line_of(line, w);
     return status;
 }
+/* A walk whose last lines came with C13_LAST is at its end, and answers C13_NONE. */
 static inline enum c13_status c13_line_walk_many(struct c13_line_walk *walk, struct c13_line *lines, size_t room, size_t *count) {
     enum c13_status status;
     *count = 0;
     if (c13_line_walk_stays(walk)) return C13_REFUSED;
-    status = c13_told(c13_lines(walk->area, walk->area_len, walk->slots, walk->slots_len, (uint64_t *)lines, room * C13_RECORD, walk->out, C13_LINE_STATE + 2),
+    status = c13_told(c13_lines(walk->area, walk->area_len, walk->slots, walk->slots_len, walk->bodies, walk->bodies_len, (uint32_t *)lines,
+                                room * C13_RECORD, walk->out, C13_LINE_STATE + 2),
                       walk->out + C13_LINE_STATE, &walk->refused);
-    if (status == C13_GIVEN) *count = (size_t)walk->out[C13_LINE_STATE];
+    if (status == C13_GIVEN || status == C13_LAST) *count = (size_t)walk->out[C13_LINE_STATE];
     return status;
 }
 

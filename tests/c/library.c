@@ -23,7 +23,8 @@ static uint8_t *page_end(void) {
 static uint8_t *bytes_end;  /* where lent bytes end */
 static uint64_t *words_end; /* where lent words end */
 static uint32_t *slots_end; /* where lent slots end */
-static uint64_t *records_end; /* where words lent for records end */
+static uint32_t *bodies_end; /* where the lent body list ends */
+static uint32_t *records_end; /* where words lent for records end */
 
 /* Copies bytes to where they end with their page. */
 static const uint8_t *lent(const void *bytes, size_t n) { return n ? (const uint8_t *)memcpy(bytes_end - n, bytes, n) : bytes_end; }
@@ -31,21 +32,26 @@ static const uint8_t *lent(const void *bytes, size_t n) { return n ? (const uint
 /* ---- the functions on an area or a stream, as one type */
 
 static uint32_t slots[16], places[16];
-static size_t slots_used, places_used;
+static size_t slots_used, bodies_used, places_used;
 static uint32_t number;             /* the number that a function takes beside the bytes */
 static uint32_t sizes[] = {4, 0, 8}; /* the sizes of a module */
 
 typedef uint32_t call(const uint8_t *, size_t, uint64_t *, size_t);
 
 static uint32_t order_list(const uint8_t *a, size_t n, uint64_t *o, size_t m) { return c13_order_list(a, n, slots_end - 16, 16, o, m); }
-static uint32_t next_line(const uint8_t *a, size_t n, uint64_t *o, size_t m) { return c13_next_line(a, n, slots, slots_used, o, m); }
+static uint32_t body_list(const uint8_t *a, size_t n, uint64_t *o, size_t m) { return c13_body_list(a, n, slots_end - 16, 16, o, m); }
+static uint32_t next_line(const uint8_t *a, size_t n, uint64_t *o, size_t m) {
+    return c13_next_line(a, n, slots, slots_used, bodies_end - bodies_used, bodies_used, o, m);
+}
 static uint32_t lines(const uint8_t *a, size_t n, uint64_t *o, size_t m) {
-    return c13_lines(a, n, slots, slots_used, records_end - 2 * C13_RECORD, 2 * C13_RECORD, o, m);
+    return c13_lines(a, n, slots, slots_used, bodies_end - bodies_used, bodies_used, records_end - 2 * C13_RECORD, 2 * C13_RECORD, o, m);
 }
 static uint32_t files(const uint8_t *a, size_t n, uint64_t *o, size_t m) {
-    return c13_files(a, n, (uint32_t *)records_end - 2 * C13_FILE_RECORD, 2 * C13_FILE_RECORD, o, m);
+    return c13_files(a, n, records_end - 2 * C13_FILE_RECORD, 2 * C13_FILE_RECORD, o, m);
 }
-static uint32_t symbol(const uint8_t *a, size_t n, uint64_t *o, size_t m) { return c13_lines_for_symbol(a, n, slots, slots_used, 1, number, o, m); }
+static uint32_t symbol(const uint8_t *a, size_t n, uint64_t *o, size_t m) {
+    return c13_lines_for_symbol(a, n, slots, slots_used, bodies_end - bodies_used, bodies_used, 1, number, o, m);
+}
 static uint32_t file_at(const uint8_t *a, size_t n, uint64_t *o, size_t m) { return c13_file_at(a, n, number, o, m); }
 static uint32_t file_in(const uint8_t *a, size_t n, uint64_t *o, size_t m) { return c13_file_in(a, n, number, o, m); }
 static uint32_t resolve_import(const uint8_t *a, size_t n, uint64_t *o, size_t m) { return c13_resolve_import(a, n, number, o, m); }
@@ -70,6 +76,7 @@ static const struct function {
 } functions[] = {
     {"c13_next_sub", c13_next_sub, C13_SUB_STATE, 4, AN_AREA},
     {"c13_order_list", order_list, 0, 1, AN_AREA},
+    {"c13_body_list", body_list, 0, 1, AN_AREA},
     {"c13_next_line", next_line, C13_LINE_STATE, C13_LINE_STATE + C13_RECORD, AN_AREA},
     {"c13_lines_for_symbol", symbol, 0, C13_LINE_STATE, AN_AREA},
     {"c13_next_file", c13_next_file, C13_TABLE_STATE, 9, AN_AREA},
@@ -203,27 +210,30 @@ static const uint32_t every[] = {
 };
 static uint8_t every_bytes[sizeof every];
 
-static void use_list(const uint8_t *area, size_t n) {
+static void use_lists(const uint8_t *area, size_t n) {
     uint64_t out[2];
-    slots_used = c13_order_list(area, n, slots, 16, out, 2) == C13_GIVEN ? out[0] : 0;
+    bodies_used = slots_used = c13_order_list(area, n, slots, 16, out, 2) == C13_GIVEN ? out[0] : 0;
+    if (slots_used && (c13_body_list(area, n, bodies_end - bodies_used, bodies_used, out, 2) != C13_GIVEN || out[0] != slots_used)) exit(3);
     places_used = c13_import_list(area, n, places, 16, out, 2) == C13_GIVEN ? out[0] : 0;
 }
 
 static void examples(const uint8_t *area, size_t n, const uint8_t *names, size_t k) {
     printf("-- the example\n");
-    use_list(area, n);
+    use_lists(area, n);
     ask("c13_next_sub", area, n);
     ask("c13_order_list", area, n);
     for (size_t i = 0; i < slots_used; i++) printf("  slot %u\n", slots[i]);
+    ask("c13_body_list", area, n);
+    for (size_t i = 0; i < bodies_used; i++) printf("  body %u\n", (bodies_end - bodies_used)[i]);
     ask("c13_next_line", area, n);
     ask("c13_lines", area, n);
-    const uint64_t *two = records_end - 2 * C13_RECORD;
-    printf("  the last two: line %llu, line %llu\n", (unsigned long long)two[C13_START_LINE], (unsigned long long)two[C13_RECORD + C13_START_LINE]);
+    const uint32_t *two = records_end - 2 * C13_RECORD;
+    printf("  the last two: line %u, line %u\n", two[C13_START_LINE], two[C13_RECORD + C13_START_LINE]);
     number = 0x71, ask("c13_lines_for_symbol", area, n);
     ask("c13_next_file", area, n);
     ask("c13_files", area, n);
     printf("  the file:");
-    for (const uint32_t *w = (uint32_t *)records_end - 2 * C13_FILE_RECORD; w < (uint32_t *)records_end - C13_FILE_RECORD; w++) printf(" %u", *w);
+    for (const uint32_t *w = records_end - 2 * C13_FILE_RECORD; w < records_end - C13_FILE_RECORD; w++) printf(" %u", *w);
     printf("\n");
     ask("c13_string_table", names, k);
     number = 2, ask("c13_name", names, k);
@@ -232,8 +242,8 @@ static void examples(const uint8_t *area, size_t n, const uint8_t *names, size_t
 
     printf("-- every table\n");
     n = words_to(every_bytes, every, sizeof every / 4), area = every_bytes;
-    use_list(area, n);
-    for (size_t f = 0; f < 13; f++)
+    use_lists(area, n);
+    for (size_t f = 0; f < 14; f++)
         if (functions[f].state) ask(functions[f].name, area, n);
     for (number = 0; number <= 25; number += number == 24 ? 1 : 24) ask("c13_file_at", area, n);
     ask("c13_checksums", area, n);
@@ -292,14 +302,16 @@ static void writing(void) {
 
 static void nothing_lent(void) {
     printf("-- nothing lent\n");
-    slots_used = places_used = 0;
+    slots_used = bodies_used = places_used = 0;
     for (const struct function *f = functions; f < functions + FUNCTIONS; f++) printf("%s: %u\n", f->name, f->f(NULL, 0, NULL, 0));
     words_given = columns_given = bytes_given = 0;
     for (const struct writer *w = writers; w < writers + WRITERS; w++) printf("%s: %u\n", w->name, w->f(NULL, 0, 0, NULL, 0));
     uint64_t out[2] = {0};
     printf("c13_order_list, no slots: %u", c13_order_list(every_bytes, sizeof every, NULL, 0, out, 2));
     printf(" %llu\n", (unsigned long long)out[0]);
-    printf("c13_next_line, no slots: %u\n", c13_next_line(every_bytes, sizeof every, NULL, 0, NULL, 0));
+    printf("c13_body_list, no slots: %u", c13_body_list(every_bytes, sizeof every, NULL, 0, out, 2));
+    printf(" %llu\n", (unsigned long long)out[0]);
+    printf("c13_next_line, no slots: %u\n", c13_next_line(every_bytes, sizeof every, NULL, 0, NULL, 0, NULL, 0));
     printf("c13_import_list, no places: %u", c13_import_list(every_bytes, sizeof every, NULL, 0, out, 2));
     printf(" %llu\n", (unsigned long long)out[0]);
     printf("c13_resolve_listed, no places: %u", c13_resolve_listed(every_bytes, sizeof every, NULL, 0, 0x80000000, out, 2));
@@ -314,11 +326,34 @@ static void fail(const struct function *f, const char *why) {
     exit(1);
 }
 
+/* Another body list in the place of the one that is lent: of the same length, each place by one too far; by one shorter; none. */
+static void another_body_list(int which) {
+    if (which == 0)
+        for (size_t i = 1; i <= bodies_used; i++) bodies_end[-i]++;
+    else
+        bodies_used = which == 1 && bodies_used ? bodies_used - 1 : 0;
+}
+
+/* The same with other body lists: the same status, words and records. */
+static void other_bodies(const struct function *f, const uint8_t *bytes, size_t n, const uint64_t *state, size_t m, uint32_t status) {
+    uint64_t *out = words_end - m, first[WORDS];
+    uint32_t *records = records_end - RECORDS, kept[RECORDS], bodies[16];
+    size_t used = bodies_used;
+    memcpy(first, out, 8 * m), memcpy(kept, records, sizeof kept), memcpy(bodies, bodies_end - 16, sizeof bodies);
+    for (int which = 0; which < 3; which++) {
+        another_body_list(which);
+        memcpy(out, state, 8 * m);
+        if (f->f(bytes, n, out, m) != status || memcmp(first, out, 8 * m) || memcmp(kept, records, sizeof kept)) fail(f, "an answer by the body list");
+    }
+    memcpy(bodies_end - 16, bodies, sizeof bodies);
+    bodies_used = used;
+}
+
 /* A call with m words lent that hold `state`: what must hold of every answer. */
 static uint32_t tried(const struct function *f, const uint8_t *bytes, size_t n, const uint64_t *state, size_t m) {
     static uint8_t before[4096];
-    uint64_t *out = words_end - m, *records = records_end - RECORDS, first[WORDS], kept[RECORDS];
-    uint32_t status, again;
+    uint64_t *out = words_end - m, first[WORDS];
+    uint32_t *records = records_end - RECORDS, kept[RECORDS], status, again;
     if (n <= sizeof before) memcpy(before, bytes, n);
     memcpy(out, state, 8 * m);
     memset(kept, 0xee, sizeof kept), memcpy(records, kept, sizeof kept);
@@ -329,6 +364,7 @@ static uint32_t tried(const struct function *f, const uint8_t *bytes, size_t n, 
     memcpy(out, state, 8 * m);
     status = f->f(bytes, n, out, m);
     if (status != again || memcmp(first, out, 8 * m) || memcmp(kept, records, sizeof kept)) fail(f, "another answer to the same");
+    if (f->f == next_line || f->f == lines || f->f == symbol) other_bodies(f, bytes, n, state, m, status);
     if (n <= sizeof before && memcmp(before, bytes, n)) fail(f, "lent bytes changed");
     size_t from = status == C13_REFUSED ? f->state : 0, to = answered(status) ? f->words : status == C13_REFUSED ? f->state + 2 : 0;
     if (status > C13_LAST || to > m) fail(f, "no such status");
@@ -348,7 +384,7 @@ static struct { const uint8_t *bytes; size_t n; } whole[SORTS];
 static void few_words(void) {
     printf("-- few words\n");
     static const uint64_t zeros[WORDS] = {0};
-    use_list(every_bytes, sizeof every);
+    use_lists(every_bytes, sizeof every);
     for (const struct function *f = functions; f < functions + FUNCTIONS; f++) {
         size_t n = whole[f->reads].n, few = 0;
         const uint8_t *bytes = lent(whole[f->reads].bytes, n);
@@ -390,13 +426,16 @@ static size_t spoilt(enum reads sort) {
     return n;
 }
 
-static void list_by_chance(const uint8_t *area, size_t n) {
-    use_list(area, n);
+static void lists_by_chance(const uint8_t *area, size_t n) {
+    use_lists(area, n);
     if (chance() % 2) slots_used = places_used = chance() % 16;
     if (chance() % 2)
         for (size_t i = 0; i < slots_used; i++) slots[i] = (uint32_t)number_by_chance();
     if (chance() % 2)
         for (size_t i = 0; i < places_used; i++) places[i] = (uint32_t)number_by_chance();
+    if (chance() % 2) return;
+    bodies_used = chance() % 16;
+    for (size_t i = 1; i <= bodies_used; i++) bodies_end[-i] = (uint32_t)number_by_chance();
 }
 
 /* Bytes cut, spoilt and by chance, with states, slots and numbers by chance. */
@@ -412,7 +451,7 @@ static void by_chance(void) {
         for (size_t i = 0; i < 3; i++) sizes[i] = (uint32_t)(chance() % 4 ? 4 * (chance() % 3) : number_by_chance());
         const struct function *f = functions + round % FUNCTIONS;
         size_t n = spoilt(f->reads), m = chance() % 8 ? (size_t)WORDS : chance() % WORDS;
-        list_by_chance(bytes_end - n, n);
+        lists_by_chance(bytes_end - n, n);
         uint32_t status = tried(f, bytes_end - n, n, state, m);
         told[f - functions][status]++;
         if (status == C13_REFUSED) refusals[(words_end - m)[f->state]]++;
@@ -425,6 +464,51 @@ static void by_chance(void) {
     }
     for (int i = 1; i < 20; i++)
         if (refusals[i]) printf("refusal %d: %llu\n", i, (unsigned long long)refusals[i]);
+    printf("sum %016llx\n", (unsigned long long)sum);
+}
+
+/* A walk, or one answer, with each body list at each step; told counts its statuses. */
+static void walked(call *named, const uint8_t *area, size_t n, uint64_t *told) {
+    uint64_t state[WORDS] = {0};
+    const struct function *f = functions;
+    uint32_t status;
+    while (f->f != named) f++;
+    do {
+        status = tried(f, area, n, state, WORDS);
+        memcpy(state, words_end - WORDS, sizeof state);
+        told[status]++;
+    } while (f->state && status == C13_GIVEN);
+}
+
+/* An area of 16 line subsections of one line each in no order, and lists that go forth and back in it; some have a wrong slot or too few. */
+static void body_lists(void) {
+    enum { SUBS = 16, SUB_WORDS = 10 };
+    static uint32_t words[SUBS * SUB_WORDS];
+    static uint8_t bytes[sizeof words];
+    static uint64_t told[3][5];
+    static const char *const names[] = {"c13_next_line", "c13_lines", "c13_lines_for_symbol"};
+    call *const calls[] = {next_line, lines, symbol};
+    uint32_t all[SUBS];
+    uint64_t out[2];
+    printf("-- body lists\n");
+    for (uint32_t i = 0; i < SUBS; i++) {
+        const uint32_t sub[SUB_WORDS] = {0xf2, 32, 0x1000 + 0x20 * (7 * i % SUBS), 1, 0x20, 0, 1, 20, 0, 10 + i};
+        memcpy(words + i * SUB_WORDS, sub, sizeof sub);
+    }
+    size_t n = words_to(bytes, words, SUBS * SUB_WORDS);
+    const uint8_t *area = lent(bytes, n);
+    if (c13_body_list(area, n, all, SUBS, out, 2) != C13_GIVEN || out[0] != SUBS) exit(3);
+    for (int round = 0; round < 1000; round++) {
+        use_lists(area, n);
+        if (round % 8 == 2) slots_used = chance() % SUBS;
+        for (size_t i = 0; round && i < slots_used; i++) slots[i] = all[chance() % SUBS];
+        if (round % 4 == 1) slots[chance() % SUBS] = (uint32_t)(chance() % n);
+        number = (uint32_t)(0x1000 + chance() % 0x200);
+        for (size_t f = 0; f < 3; f++) walked(calls[f], area, n, told[f]);
+    }
+    for (size_t f = 0; f < 3; f++)
+        printf("%s: given %llu, last %llu, none %llu, refused %llu\n", names[f], (unsigned long long)told[f][C13_GIVEN], (unsigned long long)told[f][C13_LAST],
+               (unsigned long long)told[f][C13_NONE], (unsigned long long)told[f][C13_REFUSED]);
     printf("sum %016llx\n", (unsigned long long)sum);
 }
 
@@ -501,7 +585,7 @@ int main(int argc, char **argv) {
     if (argc != 3) return 2;
     size_t n = read_file(argv[1], area), k = read_file(argv[2], names);
     bytes_end = page_end(), words_end = (uint64_t *)page_end(), slots_end = (uint32_t *)page_end();
-    records_end = (uint64_t *)page_end();
+    records_end = (uint32_t *)page_end(), bodies_end = (uint32_t *)page_end();
     static uint8_t module[4 + sizeof every] = {4};
     examples(area, n, names, k);
     writing();
@@ -514,6 +598,7 @@ int main(int argc, char **argv) {
     nothing_lent();
     few_words();
     by_chance();
+    body_lists();
     writing_by_chance();
     too_long();
     return 0;

@@ -14,8 +14,9 @@ typedef unsigned long long shown;
 /* ---- the example, by structs alone */
 
 static void read_area(const uint8_t *area, size_t n, const uint8_t *names, size_t k) {
-    uint32_t slots[16];
+    uint32_t slots[16], bodies[16];
     size_t used = 0, count, i;
+    enum c13_status status;
     struct c13_refused why;
     struct c13_sub sub;
     struct c13_file file;
@@ -34,12 +35,16 @@ static void read_area(const uint8_t *area, size_t n, const uint8_t *names, size_
         for (i = 0; i < file.length; i++) printf("%02x", area[file.start + i]);
         printf("\n");
     }
-    if (c13_ask_order_list(area, n, slots, 16, &used, &why) != C13_GIVEN) exit(1);
-    lines = c13_line_walk_begin(area, n, slots, used);
-    while (c13_line_walk_many(&lines, four, 4, &count) == C13_GIVEN)
+    if (c13_ask_order_list(area, n, slots, 16, &used, &why) != C13_GIVEN || c13_ask_body_list(area, n, bodies, 16, &used, &why) != C13_GIVEN) exit(1);
+    lines = c13_line_walk_begin(area, n, slots, used, bodies, used);
+    do {
+        status = c13_line_walk_many(&lines, four, 4, &count);
         for (i = 0; i < count; i++)
             printf("%llu:%llx line %llu%s", (shown)four[i].section, (shown)four[i].offset, (shown)four[i].start_line, i == count - 1 ? "\n" : ", ");
-    if (c13_line_walk_begin_symbol(&lines, area, n, slots, used, 1, 0x71) != C13_GIVEN) exit(1);
+    } while (status == C13_GIVEN);
+    printf("the last ones came with %s; behind them is %s\n", status == C13_LAST ? "the end" : "?",
+           c13_line_walk_many(&lines, four, 4, &count) == C13_NONE ? "nothing" : "?");
+    if (c13_line_walk_begin_symbol(&lines, area, n, slots, used, bodies, used, 1, 0x71) != C13_GIVEN) exit(1);
     while (c13_line_walk_next(&lines, &line) == C13_GIVEN)
         if (line.offset <= 0x88 && line.has_length && 0x88 < line.offset + line.length) {
             if (c13_ask_file_at(area, n, line.file, &file, &why) != C13_GIVEN || c13_ask_name(names, k, file.name, &name, &why) != C13_GIVEN) exit(1);
@@ -58,8 +63,8 @@ static void words_of_another(const uint8_t *area, size_t n) {
     printf("-- words of another call\n");
     if (c13_order_list(area, n, slots, 16, out, C13_MOST) != C13_GIVEN) exit(1);
     used = (size_t)out[0];
-    printf("c13_next_line with the words of c13_order_list: status %u\n", c13_next_line(area, n, slots, used, out, C13_MOST));
-    walk = c13_line_walk_begin(area, n, slots, used);
+    printf("c13_next_line with the words of c13_order_list: status %u\n", c13_next_line(area, n, slots, used, NULL, 0, out, C13_MOST));
+    walk = c13_line_walk_begin(area, n, slots, used, NULL, 0);
     if (c13_line_walk_next(&walk, &line) != C13_GIVEN) exit(1);
     printf("c13_line_walk_next: given, line %llu\n", (shown)line.start_line);
 }
@@ -107,19 +112,39 @@ static void as_area(const char *what, int right) {
         } while (ended < 2);                                                                     \
     } while (0)
 
-static uint32_t slots[16];
+/* The lists of an area. A walk is lent the right body list, the call that it is held against none or a wrong one: the answers are the same. */
+static uint32_t slots[16], bodies[16];
+static const uint32_t wrong[] = {8, 40, 96};
+
+/* A line's fields, of 32 bits, in words of 64 as c13_next_line gives them. */
+struct line_words {
+    uint64_t words[C13_RECORD];
+};
+static enum c13_status next_line(struct c13_line_walk *walk, struct line_words *to) {
+    struct c13_line line;
+    enum c13_status status = c13_line_walk_next(walk, &line);
+    if (status == C13_GIVEN) {
+        const struct line_words fields = {{line.section, line.offset, line.has_length, line.length, line.file, line.start_line, line.end_line,
+                                           line.has_start_column, line.start_column, line.has_end_column, line.end_column, line.is_statement}};
+        *to = fields;
+    }
+    return status;
+}
 
 static void lines_many(const uint8_t *area, size_t n, size_t used) {
-    uint64_t out[C13_MOST] = {0}, words[3 * C13_RECORD];
+    uint64_t out[C13_MOST] = {0};
+    uint32_t words[3 * C13_RECORD];
     struct c13_line three[3];
-    struct c13_line_walk walk = c13_line_walk_begin(area, n, slots, used);
+    struct c13_line_walk walk = c13_line_walk_begin(area, n, slots, used, bodies, used);
     size_t count, room = 0;
     uint32_t status;
     do {
-        status = c13_lines(area, n, slots, used, words, room * C13_RECORD, out, C13_MOST);
+        status = c13_lines(area, n, slots, used, wrong, 3, words, room * C13_RECORD, out, C13_MOST);
         enum c13_status told = c13_line_walk_many(&walk, three, room, &count);
-        if (count != (status == C13_GIVEN ? out[C13_LINE_STATE] : 0)) exit(1);
-        same("c13_line_walk_many", status, status == C13_GIVEN ? words : out + C13_LINE_STATE, told, three, count * sizeof *three, &walk.refused);
+        if (count != (answered(status) ? out[C13_LINE_STATE] : 0)) exit(1);
+        same("c13_line_walk_many", status, answered(status) ? (const void *)words : out + C13_LINE_STATE, told, three, count * sizeof *three, &walk.refused);
+        if (status == C13_LAST && c13_next_line(area, n, slots, used, NULL, 0, out, C13_MOST) != C13_NONE) exit(1);
+        if (status == C13_LAST && c13_line_walk_many(&walk, three, 3, &count) != C13_NONE) exit(1);
         room = room == 3 ? 1 : room + 1;
     } while (status == C13_GIVEN || room == 1); /* the first has no room, and is refused for that alone */
 }
@@ -158,17 +183,17 @@ static void files_many(const uint8_t *area, size_t n) {
 static void symbol_lines(const uint8_t *area, size_t n, size_t used, uint32_t offset) {
     uint64_t out[C13_MOST] = {0};
     struct c13_line_walk walk;
-    struct c13_line line;
-    uint32_t status = c13_lines_for_symbol(area, n, slots, used, 1, offset, out, C13_MOST);
-    enum c13_status told = c13_line_walk_begin_symbol(&walk, area, n, slots, used, 1, offset);
+    struct line_words line;
+    uint32_t status = c13_lines_for_symbol(area, n, slots, used, wrong, 3, 1, offset, out, C13_MOST);
+    enum c13_status told = c13_line_walk_begin_symbol(&walk, area, n, slots, used, bodies, used, 1, offset);
     same("c13_line_walk_begin_symbol", status, out, told, walk.out, C13_LINE_STATE * sizeof *out, &walk.refused);
     while (status == C13_GIVEN) {
-        status = c13_next_line(area, n, slots, used, out, C13_MOST);
-        told = c13_line_walk_next(&walk, &line);
+        status = c13_next_line(area, n, slots, used, NULL, 0, out, C13_MOST);
+        told = next_line(&walk, &line);
         same("lines of a symbol", status, out + C13_LINE_STATE, told, &line, sizeof line, &walk.refused);
     }
     /* a walk that was not begun is refused, and not begun at the area's start */
-    if (told == C13_REFUSED && c13_line_walk_next(&walk, &line) != C13_REFUSED) exit(1);
+    if (told == C13_REFUSED && next_line(&walk, &line) != C13_REFUSED) exit(1);
 }
 
 /* A file of the checksum data alone: as from the call, and as c13_file_at finds it in the area, but for the place of its bytes. */
@@ -257,7 +282,7 @@ static void hold_area(const uint8_t *area, size_t n) {
     size_t used = 0;
     struct c13_refused why;
     struct c13_sub sub;
-    struct c13_line line;
+    struct line_words line;
     struct file_words file;
     struct c13_inlinee inlinee;
     struct c13_import imported;
@@ -272,9 +297,13 @@ static void hold_area(const uint8_t *area, size_t n) {
     enum c13_status told = c13_ask_order_list(area, n, slots, 16, &used, &why);
     uint64_t listed = used;
     same("c13_ask_order_list", status, out, told, &listed, 8, &why);
-    lines = c13_line_walk_begin(area, n, slots, used);
+    status = c13_body_list(area, n, bodies, 16, out, 2);
+    told = c13_ask_body_list(area, n, bodies, 16, &used, &why);
+    listed = used;
+    same("c13_ask_body_list", status, out, told, &listed, 8, &why);
+    lines = c13_line_walk_begin(area, n, slots, used, bodies, used);
     SAME_WALK("c13_sub_walk_next", c13_next_sub(area, n, out, C13_MOST), C13_SUB_STATE, c13_sub_walk_next, subs, sub);
-    SAME_WALK("c13_line_walk_next", c13_next_line(area, n, slots, used, out, C13_MOST), C13_LINE_STATE, c13_line_walk_next, lines, line);
+    SAME_WALK("c13_line_walk_next", c13_next_line(area, n, slots, used, NULL, 0, out, C13_MOST), C13_LINE_STATE, next_line, lines, line);
     SAME_WALK("c13_file_walk_next", c13_next_file(area, n, out, C13_MOST), C13_TABLE_STATE, next_file, files, file);
     SAME_WALK("c13_inlinee_walk_next", c13_next_inlinee(area, n, out, C13_MOST), C13_TABLE_STATE, c13_inlinee_walk_next, inlinees, inlinee);
     SAME_WALK("c13_import_walk_next", c13_next_import(area, n, out, C13_MOST), C13_TABLE_STATE, c13_import_walk_next, imports, imported);
