@@ -21,9 +21,8 @@ pub const LINE_STATE: usize = 27;
 /// The words of a line record, and of a file of `c13_files`.
 pub const RECORD: usize = 12;
 pub const FILE_RECORD: usize = 5;
-/// A word of the records that `c13_lines` gives, and of those that `c13_files` gives.
-pub type RecordWord = u64;
-pub type FileWord = u32;
+/// A word of the records that `c13_lines` and `c13_files` give.
+pub type RecordWord = u32;
 
 /// Declares a call and wraps it. In its list of parameters a slice is written `[name: element]`, one that is written to `[mut name: element]`, and a
 /// number `(name: type)`. Sound: each pointer is valid for its length and aligned, and what is written to is no part of anything else, since slices
@@ -60,11 +59,12 @@ macro_rules! calls {
 calls! {
     c13_next_sub([area: u8]);
     c13_order_list([area: u8] [mut slots: u32]);
-    c13_next_line([area: u8] [slots: u32]);
-    c13_lines([area: u8] [slots: u32] [mut records: RecordWord]);
-    c13_lines_for_symbol([area: u8] [slots: u32] (section: u16) (offset: u32));
+    c13_body_list([area: u8] [mut bodies: u32]);
+    c13_next_line([area: u8] [slots: u32] [bodies: u32]);
+    c13_lines([area: u8] [slots: u32] [bodies: u32] [mut records: RecordWord]);
+    c13_lines_for_symbol([area: u8] [slots: u32] [bodies: u32] (section: u16) (offset: u32));
     c13_next_file([area: u8]);
-    c13_files([area: u8] [mut records: FileWord]);
+    c13_files([area: u8] [mut records: RecordWord]);
     c13_file_at([area: u8] (index: u32));
     c13_checksums([area: u8]);
     c13_file_in([data: u8] (index: u32));

@@ -1,6 +1,6 @@
 //! Lines and files.
 
-use crate::calls::{self, FileWord, RecordWord, FILE_RECORD, LINE_STATE, RECORD, TABLE_STATE};
+use crate::calls::{self, RecordWord, FILE_RECORD, LINE_STATE, RECORD, TABLE_STATE};
 use crate::words::{answer, one, optional, part, size, within, word, word32, Many, Walk};
 use crate::{Refusal, StringRef};
 use std::fmt;
@@ -58,16 +58,18 @@ pub struct LineInfo {
 }
 
 impl LineInfo {
-    fn of<W: Copy + Into<u64>>(w: &[W]) -> LineInfo {
+    #[inline]
+    fn of(w: &[RecordWord; RECORD]) -> LineInfo {
+        let [section, offset, has_length, length, file, start, end, has_start, column_start, has_end, column_end, statement] = *w;
         LineInfo {
-            offset: PdbInternalSectionOffset { section: word(w, 0) as u16, offset: word32(w, 1) },
-            length: optional(w, 2),
-            file_index: FileIndex(word32(w, 4)),
-            line_start: word32(w, 5),
-            line_end: word32(w, 6),
-            column_start: optional(w, 7),
-            column_end: optional(w, 9),
-            kind: if word(w, 11) == 0 { LineInfoKind::Expression } else { LineInfoKind::Statement },
+            offset: PdbInternalSectionOffset { section: section as u16, offset },
+            length: optional(has_length, length),
+            file_index: FileIndex(file),
+            line_start: start,
+            line_end: end,
+            column_start: optional(has_start, column_start),
+            column_end: optional(has_end, column_end),
+            kind: if statement == 0 { LineInfoKind::Expression } else { LineInfoKind::Statement },
         }
     }
 
@@ -219,11 +221,13 @@ impl Clone for ChecksumPart {
     }
 }
 
-/// The lines and files of an area: its bytes, and the list of its line subsections in the order of their code.
+/// The lines and files of an area: its bytes, and two lists of its line subsections, in the order of their code and in that of the area. No answer depends
+/// on the second list; with it no walk over the first costs more than some n log n steps for n bytes.
 #[derive(Clone, Debug)]
 pub struct LineProgram<'a> {
     area: &'a [u8],
     slots: Vec<u32>,
+    bodies: Vec<u32>,
     checksums: ChecksumPart,
 }
 
@@ -240,19 +244,22 @@ impl<'a> LineProgram<'a> {
         let out: [u64; 2] = one(|out| calls::c13_order_list(area, &mut slots, out))?;
         slots.truncate(size(&out, 0));
         slots.shrink_to_fit();
-        Ok(LineProgram { area, slots, checksums: ChecksumPart::unknown() })
+        let mut bodies = vec![0; slots.len()];
+        let _: [u64; 2] = one(|out| calls::c13_body_list(area, &mut bodies, out))?;
+        Ok(LineProgram { area, slots, bodies, checksums: ChecksumPart::unknown() })
     }
 
     /// All line records, by ascending section and offset of their subsections.
     pub fn lines(&self) -> LineIterator<'_> {
-        LineIterator::new(self.area, &self.slots, Ok(Walk::new()))
+        // As many records at first as there are subsections: that takes no longer than the lists did.
+        LineIterator { program: self, records: Ok(Many::of(Walk::new(), self.slots.len())) }
     }
 
     /// The line records of the symbol at a place: those of the line subsection that starts there, or else of the last one of the section that starts
     /// before it, whether or not that reaches so far.
     pub fn lines_for_symbol(&self, place: PdbInternalSectionOffset) -> LineIterator<'_> {
-        let walk = one(|out| calls::c13_lines_for_symbol(self.area, &self.slots, place.section, place.offset, out)).map(Walk::from);
-        LineIterator::new(self.area, &self.slots, walk)
+        let walk = one(|out| calls::c13_lines_for_symbol(self.area, &self.slots, &self.bodies, place.section, place.offset, out));
+        LineIterator { program: self, records: walk.map(|out| Many::of(Walk::from(out), 0)).map_err(Some) }
     }
 
     /// The line record whose code covers a place, of the subsection that [`lines_for_symbol`](LineProgram::lines_for_symbol) takes. None where no record
@@ -294,27 +301,22 @@ impl<'a> LineProgram<'a> {
 /// Line records, in the order of their code. Made by [`LineProgram::lines`] and [`LineProgram::lines_for_symbol`].
 #[derive(Clone, Debug)]
 pub struct LineIterator<'a> {
-    area: &'a [u8],
-    slots: &'a [u32],
+    program: &'a LineProgram<'a>,
     /// The records, or why there are none, which is told once.
-    records: Result<Many<RecordWord, { LINE_STATE + 2 }, RECORD>, Option<Refusal>>,
-}
-
-impl<'a> LineIterator<'a> {
-    fn new(area: &'a [u8], slots: &'a [u32], walk: Result<Walk<{ LINE_STATE + 2 }>, Refusal>) -> Self {
-        LineIterator { area, slots, records: walk.map(Many::of).map_err(Some) }
-    }
+    records: Result<Many<{ LINE_STATE + 2 }, RECORD>, Option<Refusal>>,
 }
 
 impl Iterator for LineIterator<'_> {
     type Item = Result<LineInfo, Refusal>;
 
+    #[inline]
     fn next(&mut self) -> Option<Self::Item> {
-        let (area, slots) = (self.area, self.slots);
+        let program = self.program;
         match &mut self.records {
             Ok(records) => {
-                let step = records.next(LINE_STATE, |records, out| calls::c13_lines(area, slots, records, out))?;
-                Some(step.map(LineInfo::of))
+                let call =
+                    |records: &mut [RecordWord], out: &mut [u64]| calls::c13_lines(program.area, &program.slots, &program.bodies, records, out);
+                Some(records.next(LINE_STATE, call)?.map(LineInfo::of))
             }
             Err(why) => why.take().map(Err),
         }
@@ -322,7 +324,7 @@ impl Iterator for LineIterator<'_> {
 
     fn size_hint(&self) -> (usize, Option<usize>) {
         match &self.records {
-            Ok(records) => records.size_hint::<8>(self.area),
+            Ok(records) => records.size_hint::<8>(self.program.area),
             Err(why) => (usize::from(why.is_some()), Some(usize::from(why.is_some()))),
         }
     }
@@ -334,12 +336,12 @@ impl FusedIterator for LineIterator<'_> {}
 #[derive(Clone, Debug)]
 pub struct FileIterator<'a> {
     area: &'a [u8],
-    records: Many<FileWord, { TABLE_STATE + 2 }, FILE_RECORD>,
+    records: Many<{ TABLE_STATE + 2 }, FILE_RECORD>,
 }
 
 impl<'a> FileIterator<'a> {
     pub(crate) fn new(area: &'a [u8]) -> Self {
-        FileIterator { area, records: Many::of(Walk::new()) }
+        FileIterator { area, records: Many::of(Walk::new(), 0) }
     }
 }
 

@@ -1,6 +1,6 @@
 //! What the calls leave in the lent words, taken out of them without a panic.
 
-use crate::calls::{GIVEN, LAST, NONE, REFUSED};
+use crate::calls::{RecordWord, GIVEN, LAST, NONE, REFUSED};
 use crate::Refusal;
 
 /// A word of an answer or of a record. One that is not there is 0.
@@ -18,9 +18,9 @@ pub(crate) fn size<W: Copy + Into<u64>>(words: &[W], i: usize) -> usize {
     word(words, i) as usize
 }
 
-/// A number, or none, in two words.
-pub(crate) fn optional<W: Copy + Into<u64>>(words: &[W], i: usize) -> Option<u32> {
-    (word(words, i) != 0).then(|| word32(words, i + 1))
+/// A number, or none, in two words of a record.
+pub(crate) fn optional(has: RecordWord, number: RecordWord) -> Option<u32> {
+    (has != 0).then_some(number)
 }
 
 /// The part of the bytes whose start and length are the words at i.
@@ -110,43 +110,66 @@ impl<const N: usize> Walk<N> {
     }
 }
 
-/// A walk whose calls give many records at once, of R words W each: the records of the last call, and how many of them were taken.
+/// A walk whose calls give many records at once, of R words each: the records of the last call, and how many of them were taken.
 #[derive(Clone, Debug)]
-pub(crate) struct Many<W, const N: usize, const R: usize> {
+pub(crate) struct Many<const N: usize, const R: usize> {
     walk: Walk<N>,
-    records: Vec<W>,
+    records: Vec<RecordWord>,
+    /// How many records the next call is asked for.
+    room: usize,
     given: usize,
     taken: usize,
 }
 
-/// How many records the first call is asked for, and how many at most. Each call is asked for twice as many as the last one, so that what a call
-/// has to test before its first record is tested seldom.
-const FIRST: usize = 16;
-const MOST: usize = 1 << 16;
+/// How many records a call is asked for at least and at most, and how many times as many as the last one: what a call tests before its first record is
+/// then tested seldom, and who takes few records lends little.
+const LEAST_ROOM: usize = 32;
+const MOST_ROOM: usize = 1 << 16;
+const GROWTH: usize = 4;
 
-impl<W: Copy + Default, const N: usize, const R: usize> Many<W, N, R> {
-    /// The records that a walk gives.
-    pub(crate) fn of(walk: Walk<N>) -> Self {
-        Many { walk, records: vec![], given: 0, taken: 0 }
+impl<const N: usize, const R: usize> Many<N, R> {
+    /// The records that a walk gives. The first call is asked for `room` of them, within the limits.
+    pub(crate) fn of(walk: Walk<N>, room: usize) -> Self {
+        Many { walk, records: vec![], room, given: 0, taken: 0 }
     }
 
     /// The next record's words; where those of the last call are taken, `call` gives more.
-    pub(crate) fn next(&mut self, state: usize, call: impl FnOnce(&mut [W], &mut [u64]) -> u32) -> Option<Result<&[W], Refusal>> {
+    #[inline]
+    pub(crate) fn next(
+        &mut self,
+        state: usize,
+        call: impl FnOnce(&mut [RecordWord], &mut [u64]) -> u32,
+    ) -> Option<Result<&[RecordWord; R], Refusal>> {
         if self.taken >= self.given {
-            if self.walk.over {
-                return None;
+            if let Err(why) = self.more(state, call)? {
+                return Some(Err(why));
             }
-            let records = &mut self.records;
-            records.resize((2 * records.len()).clamp(FIRST * R, MOST * R), W::default());
-            match self.walk.next(state, |out| call(records, out))? {
-                Ok(count) => self.given = size(count, 0),
-                Err(why) => return Some(Err(why)),
-            }
-            self.taken = 0;
         }
-        let words = self.records.chunks_exact(R).nth(self.taken).unwrap_or(&[]);
-        self.taken += 1;
-        Some(Ok(words))
+        let at = self.taken.saturating_mul(R);
+        self.taken = self.taken.saturating_add(1);
+        let words = self.records.get(at..at.saturating_add(R))?;
+        words.try_into().ok().map(Ok)
+    }
+
+    /// The records of one more call, in the place of those that are taken.
+    #[inline(never)]
+    fn more(&mut self, state: usize, call: impl FnOnce(&mut [RecordWord], &mut [u64]) -> u32) -> Option<Result<(), Refusal>> {
+        if self.walk.over {
+            return None;
+        }
+        let room = self.room.clamp(LEAST_ROOM, MOST_ROOM);
+        self.room = room.saturating_mul(GROWTH);
+        if self.records.len() != room.saturating_mul(R) {
+            self.records = vec![0; room.saturating_mul(R)];
+        }
+        let records = &mut self.records;
+        let count = match self.walk.next(state, |out| call(records, out))? {
+            Ok(count) => size(count, 0),
+            Err(why) => return Some(Err(why)),
+        };
+        self.given = count;
+        self.taken = 0;
+        Some(Ok(()))
     }
 
     /// How many records there are still, at least and at most, a refusal counted as one, where each takes LEAST bytes or more of the area.

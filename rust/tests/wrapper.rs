@@ -97,6 +97,36 @@ fn many_files_are_all_given() {
     }
 }
 
+/// An area of line subsections of `lines` lines each, whose code is in the reverse order. Where `cut`, the block of the last in order ends past it.
+fn backward(subs: u32, lines: u32, cut: bool) -> Vec<u8> {
+    let sub = |i: u32| {
+        let size = 12 + 8 * lines + if cut && i == subs - 1 { 4 } else { 0 };
+        let block = (0..lines).flat_map(|l| [l, 1 + lines * i + l]);
+        subsection(0xf2, &[0x1000 * i, 1, lines, 24, lines, size].into_iter().chain(block).collect::<Vec<_>>())
+    };
+    (0..subs).rev().flat_map(sub).collect()
+}
+
+#[test]
+fn many_lines_are_all_given() {
+    // one call gives them all, or several do; the last are also the end, or a refusal comes behind them
+    for (subs, lines) in [(1, 0), (1, 1), (1, 31), (1, 32), (1, 33), (31, 1), (32, 1), (33, 1), (40, 4), (5, 32), (3, 500), (500, 3), (3000, 33)] {
+        let area = backward(subs, lines, false);
+        let program = Area::new(&area).line_program().expect("program");
+        let (given, refused) = all(program.lines(), area.len());
+        assert_eq!((refused, given.iter().map(|l| l.line_start).collect::<Vec<_>>()), (None, (1..=subs * lines).collect()));
+        for i in [0, subs / 2, subs - 1] {
+            let (given, refused) = all(program.lines_for_symbol(place(1, 0x1000 * i)), area.len());
+            assert_eq!((refused, given.iter().map(|l| l.line_start).collect::<Vec<_>>()), (None, (lines * i + 1..=lines * i + lines).collect()));
+        }
+        let area = backward(subs, lines, true);
+        let program = Area::new(&area).line_program().expect("program");
+        let (given, refused) = all(program.lines(), area.len());
+        // the end of the record before the refusal is not known, so that it is not given
+        assert_eq!((given.len() as u32, refused), (((subs - 1) * lines).saturating_sub(1), Some(Refusal::Cut)));
+    }
+}
+
 #[test]
 fn no_checksum_is_no_md5() {
     let area = subsection(0xf4, &[5, 16, 1, 2, 3, 4, 0]);
