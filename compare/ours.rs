@@ -1,7 +1,8 @@
 //! ours < CASES: answers cases through the static library of the crate `c13`, in the oracle's form (oracle/README.md). Lines and files are asked one a
-//! call and again many a call; an answer of the second kind that is another one is written out, and so differs from the crate's.
+//! call and again many a call, lines also with other body lists than the area's; an answer that is another one then is written out, and so differs from
+//! the crate's.
 
-use c13::calls::{self, FILE_RECORD, LINE_STATE, RECORD, SUB_STATE, TABLE_STATE};
+use c13::calls::{self, RecordWord, FILE_RECORD, GIVEN, LAST, LINE_STATE, NONE, RECORD, REFUSED, SUB_STATE, TABLE_STATE};
 use std::collections::HashMap;
 use std::fmt::Write as _;
 use std::io::{BufRead, BufReader, BufWriter, Write};
@@ -13,6 +14,8 @@ struct Words([u64; 40]);
 enum Said {
     None,
     Given,
+    /// Given, and nothing comes behind it.
+    Last,
     Refused(String),
 }
 
@@ -30,9 +33,10 @@ impl Words {
     /// `state` is the number of words of a walk's state, behind which a refusal stands.
     fn said(&self, state: usize, status: u32) -> Said {
         match status {
-            0 => Said::None,
-            1 => Said::Given,
-            2 => {
+            NONE => Said::None,
+            GIVEN => Said::Given,
+            LAST => Said::Last,
+            REFUSED => {
                 let (number, carried) = (self.0[state], self.0[state + 1]);
                 Said::Refused(if [2, 3, 5, 6, 18].contains(&number) { format!("error {number} {carried:#x}") } else { format!("error {number}") })
             }
@@ -47,11 +51,11 @@ struct Many<'a> {
     size: usize,
     /// By how much more room is lent than for 1, 2 and 7 records in turn.
     times: usize,
-    call: &'a dyn Fn(&mut [u64], &mut Words) -> u32,
+    call: &'a dyn Fn(&mut [RecordWord], &mut Words) -> u32,
 }
 
 /// What stands in words that nothing is put into.
-const FREE: u64 = 0xdead_beef_dead_beef;
+const FREE: u32 = 0xdead_beef;
 
 struct Block {
     text: String,
@@ -78,12 +82,13 @@ impl Block {
                     continue;
                 }
                 Said::None => "end".to_string(),
+                Said::Last => "a last one of one".to_string(),
                 Said::Refused(why) => why,
             };
             writeln!(self.text, "{name} {last}").unwrap();
             let status = step(&mut words);
             let again = match words.said(state, status) {
-                Said::Given => "a record".to_string(),
+                Said::Given | Said::Last => "a record".to_string(),
                 Said::None => "end".to_string(),
                 Said::Refused(why) => why,
             };
@@ -99,20 +104,24 @@ impl Block {
         let mut left = stepped;
         let mut records = vec![0; 7 * many.times * many.size];
         let mut rooms = [1, 2, 7].into_iter().cycle();
+        let mut told = false;
         let said = loop {
             let room = rooms.next().unwrap_or(1) * many.times * many.size;
             let lent = &mut records[..room];
             lent.fill(FREE);
             let status = (many.call)(lent, &mut words);
             let said = words.said(state, status);
-            let n = if let Said::Given = said { many.size * words.0[state] as usize } else { 0 };
-            if n > left.len() || n > room || lent[..n] != left[..n] || lent[n..].iter().any(|w| *w != FREE) {
+            let n = if let Said::Given | Said::Last = said { many.size * words.0[state] as usize } else { 0 };
+            let same = n <= left.len() && n <= room && lent[..n].iter().zip(left).all(|(w, x)| u64::from(*w) == *x);
+            if !same || lent[n..].iter().any(|w| *w != FREE) {
                 break "other records".to_string();
             }
             left = &left[n..];
             match said {
-                Said::Given if n > 0 => {}
-                Said::Given => break "no record".into(),
+                Said::Given | Said::Last if n == 0 => break "no record".into(),
+                Said::Given | Said::Last if told => break "a record behind the last".into(),
+                Said::Given => {}
+                Said::Last => told = true,
                 Said::None => break "end".into(),
                 Said::Refused(why) => break why,
             }
@@ -129,6 +138,7 @@ impl Block {
         let status = call(&mut words);
         let said = match words.said(0, status) {
             Said::Given => show(&words.0),
+            Said::Last => "a last one of one".to_string(),
             Said::None => none.to_string(),
             Said::Refused(why) => why,
         };
@@ -212,16 +222,15 @@ fn file_text(area: &[u8], r: &[u64]) -> String {
     format!("{} {kind} {}", r[0], hex(&area[r[2] as usize..(r[2] + r[3]) as usize]))
 }
 
-/// The order list of an area, or its refusal. The slots that it does not take must stay.
-fn order(area: &[u8]) -> Result<Vec<u32>, String> {
+/// A list of an area's line subsections, or its refusal. The slots that it does not take must stay.
+fn list(area: &[u8], call: fn(&[u8], &mut [u32], &mut [u64]) -> u32) -> Result<Vec<u32>, String> {
     // A line subsection has at least 20 bytes, so these slots suffice.
-    const FREE: u32 = 0xdead_beef;
     let mut slots = vec![FREE; area.len() / 20 + 1];
     let mut words = Words::new();
-    let status = calls::c13_order_list(area, &mut slots, &mut words.0);
+    let status = call(area, &mut slots, &mut words.0);
     let said = match words.said(0, status) {
         Said::Given => Ok(words.0[0] as usize),
-        Said::None => panic!("no order list"),
+        Said::None | Said::Last => panic!("no list"),
         Said::Refused(why) => Err(why),
     };
     let taken = *said.as_ref().unwrap_or(&0);
@@ -230,6 +239,30 @@ fn order(area: &[u8]) -> Result<Vec<u32>, String> {
     }
     slots.truncate(taken);
     said.map(|_| slots)
+}
+
+/// The order list of an area, or its refusal.
+fn order(area: &[u8]) -> Result<Vec<u32>, String> {
+    list(area, calls::c13_order_list)
+}
+
+/// What is lent beside the order list, on which no answer may depend: the body list, which must be the order list sorted by place; none; and where that
+/// is not long, for then a walk without its list is slow, lists that are wrong.
+fn body_lists(area: &[u8], slots: &[u32]) -> Result<Vec<Vec<u32>>, String> {
+    let own = list(area, calls::c13_body_list)?;
+    let mut sorted = slots.to_vec();
+    sorted.sort_unstable();
+    if own != sorted {
+        return Err("ANOTHER-BODY-LIST".into());
+    }
+    let mut lists = vec![own.clone()];
+    if own.len() <= 64 {
+        lists.push(vec![]);
+        lists.push(own.iter().map(|body| body + 4).collect());
+        lists.push(own[..own.len().saturating_sub(1)].to_vec());
+        lists.push([&own[..], &[FREE]].concat());
+    }
+    Ok(lists)
 }
 
 /// A line record of 12 words: section, offset, length, file, lines, columns and kind, where a 0 in front of a number says that there is none.
@@ -255,43 +288,57 @@ fn kept_line(records: &mut Vec<u64>, r: &[u64]) -> String {
     line_text(r)
 }
 
+/// The walk from a state on, one record a call with one of the body lists, and many a call with each of them.
+fn line_walk(b: &mut Block, words: Words, name: &str, area: &[u8], slots: &[u32], lists: &[Vec<u32>]) {
+    let one = &lists[area.len() / 4 % lists.len()];
+    let mut stepped = vec![];
+    b.walk_from(words.again(), name, LINE_STATE, |w| calls::c13_next_line(area, slots, one, &mut w.0), |r| kept_line(&mut stepped, r));
+    for bodies in lists {
+        // In each call a list that goes back often is held against the area, so a long one is asked in fewer.
+        let call = |records: &mut [RecordWord], w: &mut Words| calls::c13_lines(area, slots, bodies, records, &mut w.0);
+        b.walk_many(words.again(), name, LINE_STATE, Many { size: RECORD, times: 1 + slots.len() / 16, call: &call }, &stepped);
+    }
+}
+
+/// The lines of a symbol: where the walk starts, with each of the body lists, and the walk.
+fn symbol_lines(b: &mut Block, symbol: &str, area: &[u8], slots: &[u32], lists: &[Vec<u32>]) {
+    let (section, offset) = symbol.split_once(':').expect("section:offset");
+    let (section, offset) = (section.parse().expect("section"), u32::from_str_radix(offset, 16).expect("offset in hex"));
+    let asked = |bodies: &[u32]| {
+        let mut words = Words::new();
+        let status = calls::c13_lines_for_symbol(area, slots, bodies, section, offset, &mut words.0);
+        (status, words)
+    };
+    let (status, words) = asked(&lists[0]);
+    for bodies in &lists[1..] {
+        let (another, others) = asked(bodies);
+        if (another, others.0) != (status, words.0) {
+            b.put(&format!("sym {symbol} BY-THE-BODY-LIST"));
+        }
+    }
+    match words.said(0, status) {
+        Said::Given => line_walk(b, words, &format!("sym {symbol}"), area, slots, lists),
+        Said::None | Said::Last => panic!("no walk"),
+        Said::Refused(why) => b.put(&format!("sym {symbol} {why}")),
+    }
+}
+
 /// Files and lines.
 fn lines(b: &mut Block, case: &Case, area: &[u8]) {
-    match order(area) {
-        Ok(slots) => {
-            let step = |w: &mut Words| calls::c13_next_line(area, &slots, &mut w.0);
-            // A list that goes back often is tested in each call, so a long one is asked in fewer.
-            let call = |records: &mut [u64], w: &mut Words| calls::c13_lines(area, &slots, records, &mut w.0);
-            let many = || Many { size: RECORD, times: 1 + slots.len() / 16, call: &call };
-            let mut stepped = vec![];
-            b.walk("line", LINE_STATE, step, |r| kept_line(&mut stepped, r));
-            b.walk_many(Words::new(), "line", LINE_STATE, many(), &stepped);
-            for symbol in case.list("syms") {
-                let (section, offset) = symbol.split_once(':').expect("section:offset");
-                let (section, offset) = (section.parse().expect("section"), u32::from_str_radix(offset, 16).expect("offset in hex"));
-                let mut words = Words::new();
-                let status = calls::c13_lines_for_symbol(area, &slots, section, offset, &mut words.0);
-                match words.said(0, status) {
-                    Said::Given => {
-                        let name = format!("sym {symbol}");
-                        stepped.clear();
-                        b.walk_from(words.again(), &name, LINE_STATE, step, |r| kept_line(&mut stepped, r));
-                        b.walk_many(words, &name, LINE_STATE, many(), &stepped);
-                    }
-                    Said::None => panic!("no walk"),
-                    Said::Refused(why) => b.put(&format!("sym {symbol} {why}")),
-                }
-            }
+    match order(area).and_then(|slots| Ok((body_lists(area, &slots)?, slots))) {
+        Ok((lists, slots)) => {
+            line_walk(b, Words::new(), "line", area, &slots, &lists);
+            case.list("syms").for_each(|symbol| symbol_lines(b, symbol, area, &slots, &lists));
         }
         // There is no list: the walk repeats its tests, with any slots.
-        Err(_) => {
-            let call = |records: &mut [u64], w: &mut Words| calls::c13_lines(area, &[], records, &mut w.0);
-            let mut stepped = vec![];
-            b.walk("line", LINE_STATE, |w| calls::c13_next_line(area, &[], &mut w.0), |r| kept_line(&mut stepped, r));
-            b.walk_many(Words::new(), "line", LINE_STATE, Many { size: RECORD, times: 1, call: &call }, &stepped);
+        Err(why) => {
+            if list(area, calls::c13_body_list) != Err(why) {
+                b.put("line ANOTHER-BODY-LIST");
+            }
+            line_walk(b, Words::new(), "line", area, &[], &[vec![], vec![8]]);
             for symbol in case.list("syms") {
                 let mut words = Words::new();
-                let status = calls::c13_lines_for_symbol(area, &[], 1, 0, &mut words.0);
+                let status = calls::c13_lines_for_symbol(area, &[], &[], 1, 0, &mut words.0);
                 match words.said(0, status) {
                     Said::Refused(why) => b.put(&format!("sym {symbol} {why}")),
                     _ => b.put(&format!("sym {symbol} NOT-REFUSED")),
@@ -299,7 +346,7 @@ fn lines(b: &mut Block, case: &Case, area: &[u8]) {
             }
         }
     }
-    let call = |records: &mut [u64], w: &mut Words| calls::c13_files(area, records, &mut w.0);
+    let call = |records: &mut [RecordWord], w: &mut Words| calls::c13_files(area, records, &mut w.0);
     let mut stepped = vec![];
     b.walk("file", TABLE_STATE, |w| calls::c13_next_file(area, &mut w.0), |r| {
         stepped.extend_from_slice(&r[..FILE_RECORD]);
@@ -373,7 +420,7 @@ fn module_case(b: &mut Block, case: &Case) {
         let status = call(stream, symbols, c11, c13, &mut w.0);
         match w.said(0, status) {
             Said::Given => Ok(&stream[w.0[0] as usize..(w.0[0] + w.0[1]) as usize]),
-            Said::None => panic!("no part"),
+            Said::None | Said::Last => panic!("no part"),
             Said::Refused(why) => Err(why),
         }
     };
