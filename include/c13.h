@@ -114,11 +114,11 @@ uint32_t c13_order_list(const uint8_t *area, size_t area_len, uint32_t *slots, s
  *   out[0] how many slots it takes */
 uint32_t c13_body_list(const uint8_t *area, size_t area_len, uint32_t *bodies, size_t bodies_len, uint64_t *out, size_t out_len);
 
-/* WHAT THE BODY LIST IS FOR. The three calls below are lent both lists. No answer depends on `bodies`: it may be anything, and of length 0. With
- * the list that c13_body_list made of the same area a call costs at most some n log n steps for n bytes of area and slots, whatever these are. Without
- * it, or with another list, a call over slots that go back in the area often costs up to n squared: each slot that lies before the last one is
- * searched from the area's start. With it at most the first such slot of a call is; at the next the list is held against the area, in one pass, and then
- * each slot is found in it by halving. */
+/* WHAT THE BODY LIST IS FOR. The three calls below are lent both lists. No answer depends on `bodies`: it may be anything, and of length 0. With the list that
+ * c13_body_list made of the same area a call costs at most some n log n steps, whatever area and slots are: n are the bytes of both, and a body that
+ * several slots name counts for each of them. Without it, or with another list, a call over slots that go back in the area often costs up to n squared:
+ * each slot that lies before the last one is searched from the area's start. With it at most the first such slot of a call is; at the next the list is
+ * held against the area, in one pass, and then each slot is found in it by halving. */
 
 /* The words of a line record, counted from its first. An optional number is 1 and the number, or 0 and 0. */
 enum c13_line_word {

@@ -222,7 +222,7 @@ impl Clone for ChecksumPart {
 }
 
 /// The lines and files of an area: its bytes, and two lists of its line subsections, in the order of their code and in that of the area. No answer depends
-/// on the second list; with it no walk over the first costs more than some n log n steps for n bytes.
+/// on the second list; with it a call over the first takes at most some n log n steps for n bytes.
 #[derive(Clone, Debug)]
 pub struct LineProgram<'a> {
     area: &'a [u8],
