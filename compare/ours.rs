@@ -1,6 +1,6 @@
 //! ours < CASES: answers cases through the static library of the crate `c13`, in the oracle's form (oracle/README.md). Lines and files are asked one a
-//! call and again many a call, lines also with other body lists than the area's; an answer that is another one then is written out, and so differs from
-//! the crate's.
+//! call and again many a call, lines also with other body lists than the area's, and lookups again in what was found once; an answer that is another one
+//! then is written out, and so differs from the crate's.
 
 use c13::calls::{self, RecordWord, FILE_RECORD, GIVEN, LAST, LINE_STATE, NONE, RECORD, REFUSED, SUB_STATE, TABLE_STATE};
 use std::collections::HashMap;
@@ -134,16 +134,64 @@ impl Block {
 
     /// One answer.
     fn one(&mut self, name: &str, call: impl FnOnce(&mut Words) -> u32, show: impl FnOnce(&[u64]) -> String, none: &str) {
-        let mut words = Words::new();
-        let status = call(&mut words);
-        let said = match words.said(0, status) {
-            Said::Given => show(&words.0),
-            Said::Last => "a last one of one".to_string(),
-            Said::None => none.to_string(),
-            Said::Refused(why) => why,
-        };
+        let said = one_said(call, show, none);
         writeln!(self.text, "{name} {said}").unwrap();
     }
+
+    /// One answer, and the same by another call.
+    fn one_by_two(&mut self, name: &str, calls: [&dyn Fn(&mut Words) -> u32; 2], show: impl Fn(&[u64]) -> String, none: &str) {
+        let [said, again] = calls.map(|call| one_said(call, &show, none));
+        writeln!(self.text, "{name} {said}").unwrap();
+        if said != again {
+            writeln!(self.text, "prepared {name} {again}").unwrap();
+        }
+    }
+}
+
+/// One answer as text.
+fn one_said(call: impl FnOnce(&mut Words) -> u32, show: impl FnOnce(&[u64]) -> String, none: &str) -> String {
+    let mut words = Words::new();
+    let status = call(&mut words);
+    match words.said(0, status) {
+        Said::Given => show(&words.0),
+        Said::Last => "a last one of one".to_string(),
+        Said::None => none.to_string(),
+        Said::Refused(why) => why,
+    }
+}
+
+/// A lookup in the part of an area that a call finds, which comes first and may be refused.
+fn in_part(area: &[u8], w: &mut Words, find: fn(&[u8], &mut [u64]) -> u32, look: impl Fn(&[u8], &mut [u64]) -> u32) -> (usize, u32) {
+    let status = find(area, &mut w.0);
+    if status != GIVEN {
+        return (0, status);
+    }
+    let (start, length) = (w.0[0] as usize, w.0[1] as usize);
+    (start, look(&area[start..start + length], &mut w.0))
+}
+
+/// What c13_file_at answers, by c13_checksums and c13_file_in, whose places count from the part's start.
+fn file_in(area: &[u8], index: u32, w: &mut Words) -> u32 {
+    let (start, status) = in_part(area, w, calls::c13_checksums, |data, out| calls::c13_file_in(data, index, out));
+    if status == GIVEN {
+        w.0[2] += start as u64;
+    }
+    status
+}
+
+/// What c13_resolve_import answers, by c13_import_list and c13_resolve_listed.
+fn resolve_listed(area: &[u8], index: u32, w: &mut Words) -> u32 {
+    let mut places = vec![FREE; area.len() / 8];
+    let status = calls::c13_import_list(area, &mut places, &mut w.0);
+    if status != GIVEN {
+        return status;
+    }
+    calls::c13_resolve_listed(area, &places[..w.0[0] as usize], index, &mut w.0)
+}
+
+/// What c13_resolve_export answers, by c13_export_body and c13_export_in.
+fn export_in(area: &[u8], local: u32, w: &mut Words) -> u32 {
+    in_part(area, w, calls::c13_export_body, |body, out| calls::c13_export_in(body, local, out)).1
 }
 
 struct Case<'a> {
@@ -355,7 +403,8 @@ fn lines(b: &mut Block, case: &Case, area: &[u8]) {
     b.walk_many(Words::new(), "file", TABLE_STATE, Many { size: FILE_RECORD, times: 1, call: &call }, &stepped);
     for index in case.list("files") {
         let i: u32 = index.parse().expect("index");
-        b.one(&format!("info {index}"), |w| calls::c13_file_at(area, i, &mut w.0), |r| file_text(area, r), "");
+        let calls: [&dyn Fn(&mut Words) -> u32; 2] = [&|w| calls::c13_file_at(area, i, &mut w.0), &|w| file_in(area, i, w)];
+        b.one_by_two(&format!("info {index}"), calls, |r| file_text(area, r), "");
     }
 }
 
@@ -369,7 +418,8 @@ fn tables(b: &mut Block, case: &Case, area: &[u8]) {
     });
     for index in case.list("imports") {
         let i = u32::from_str_radix(index, 16).expect("index in hex");
-        b.one(&format!("resolve {index}"), |w| calls::c13_resolve_import(area, i, &mut w.0), |r| format!("{} {:x}", r[0], r[1]), "");
+        let calls: [&dyn Fn(&mut Words) -> u32; 2] = [&|w| calls::c13_resolve_import(area, i, &mut w.0), &|w| resolve_listed(area, i, w)];
+        b.one_by_two(&format!("resolve {index}"), calls, |r| format!("{} {:x}", r[0], r[1]), "");
     }
     b.walk("export", TABLE_STATE, |w| calls::c13_next_export(area, &mut w.0), |r| {
         format!("{} {:x} {:x}", ["type", "id"][r[0] as usize], r[1], r[2])
@@ -377,7 +427,8 @@ fn tables(b: &mut Block, case: &Case, area: &[u8]) {
     b.one("exports", |w| calls::c13_export_count(area, &mut w.0), |r| r[0].to_string(), "");
     for index in case.list("exports") {
         let local = u32::from_str_radix(index, 16).expect("index in hex");
-        b.one(&format!("lookup {index}"), |w| calls::c13_resolve_export(area, local, &mut w.0), |r| format!("{:x}", r[0]), "none");
+        let calls: [&dyn Fn(&mut Words) -> u32; 2] = [&|w| calls::c13_resolve_export(area, local, &mut w.0), &|w| export_in(area, local, w)];
+        b.one_by_two(&format!("lookup {index}"), calls, |r| format!("{:x}", r[0]), "none");
     }
 }
 
