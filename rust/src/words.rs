@@ -110,15 +110,16 @@ impl<const N: usize> Walk<N> {
     }
 }
 
-/// A walk whose calls give many records at once, of R words each: the records of the last call, and how many of them were taken.
+/// A walk whose calls give many records at once, of R words each: the records of the last call, and which of their words were taken.
 #[derive(Clone, Debug)]
 pub(crate) struct Many<const N: usize, const R: usize> {
     walk: Walk<N>,
     records: Vec<RecordWord>,
     /// How many records the next call is asked for.
     room: usize,
-    given: usize,
-    taken: usize,
+    /// Where the words of the next record begin, and where those of the last one end.
+    next: usize,
+    end: usize,
 }
 
 /// How many records a call is asked for at least and at most, and how many times as many as the last one: what a call tests before its first record is
@@ -130,7 +131,7 @@ const GROWTH: usize = 4;
 impl<const N: usize, const R: usize> Many<N, R> {
     /// The records that a walk gives. The first call is asked for `room` of them, within the limits.
     pub(crate) fn of(walk: Walk<N>, room: usize) -> Self {
-        Many { walk, records: vec![], room, given: 0, taken: 0 }
+        Many { walk, records: vec![], room, next: 0, end: 0 }
     }
 
     /// The next record's words; where those of the last call are taken, `call` gives more.
@@ -140,14 +141,13 @@ impl<const N: usize, const R: usize> Many<N, R> {
         state: usize,
         call: impl FnOnce(&mut [RecordWord], &mut [u64]) -> u32,
     ) -> Option<Result<&[RecordWord; R], Refusal>> {
-        if self.taken >= self.given {
+        if self.next >= self.end {
             if let Err(why) = self.more(state, call)? {
                 return Some(Err(why));
             }
         }
-        let at = self.taken.saturating_mul(R);
-        self.taken = self.taken.saturating_add(1);
-        let words = self.records.get(at..at.saturating_add(R))?;
+        let words = self.records.get(self.next..)?.get(..R)?;
+        self.next += R;
         words.try_into().ok().map(Ok)
     }
 
@@ -167,14 +167,14 @@ impl<const N: usize, const R: usize> Many<N, R> {
             Ok(count) => size(count, 0),
             Err(why) => return Some(Err(why)),
         };
-        self.given = count;
-        self.taken = 0;
+        self.next = 0;
+        self.end = count.saturating_mul(R);
         Some(Ok(()))
     }
 
     /// How many records there are still, at least and at most, a refusal counted as one, where each takes LEAST bytes or more of the area.
     pub(crate) fn size_hint<const LEAST: usize>(&self, area: &[u8]) -> (usize, Option<usize>) {
-        let held = self.given.saturating_sub(self.taken);
+        let held = self.end.saturating_sub(self.next) / R;
         (held, Some(held.saturating_add(self.walk.at_most::<LEAST>(area))))
     }
 }
