@@ -7,7 +7,7 @@ use mathlib.Core.List.{List, [], _∷_, _++_, map, append-assoc}
 use mathlib.Core.Bool.{Bool, true, false, cond}
 use mathlib.Core.Option.{Option, none, some}
 use native.Mathlib.Omega.{arith}
-use lib.ListN.{length}
+use lib.ListN.{length, length-append}
 use lib.Dec.{leb, eqb}
 use borrow.Author.Tests.{le-leb, eq-eqb, eqb-true}
 use Rattle.walk.specs.Listing.{Reply, gave, refused, ends, before, andThen}
@@ -24,14 +24,14 @@ use Rattle.body.specs.LinesLaws.{Filled}
 use Rattle.body.specs.InlineesLaws.{Fits}
 use Rattle.reading.specs.Reading.{Item, openLines, block, openChecksums, checksum, openInlinees, inlinee, openImports, imports, openExports, exports, opaque, opens, itemsOf}
 use Rattle.plain.specs.Plain.{Last, nothing-yet, plainFrom}
-use Rattle.writer_decides.specs.Calls.{itemKind, obeys, Act, goes, stops, limit, place, ofKind, room, elseNotPlain, needs, onLast, wrote, answered}
-use Rattle.writer_decides.specs.CallLaws.{kind-some}
+use Rattle.writer_decides.specs.Calls.{itemKind, bytesFor, obeys, Act, goes, stops, limit, place, ofKind, room, elseNotPlain, needs, onLast, wrote, answered}
+use Rattle.writer_decides.specs.CallLaws.{needs-is, kind-some}
 use Rattle.round_trip.specs.Secs.{Sec, linesOf, checksumsOf, inlineesOf, importsOf, exportsOf, opaqueOf, kindSec, bodySec, callsSec, Sized, Ascend, floorAfter, GoodSec, markSec, rawsOf, callsOf, lastOf}
 use Rattle.round_trip.specs.SecLaws.{before-append, then-before, good-reads, plain-from}
-use Rattle.round_trip.specs.HoldLaws.{calls-snoc, last-snoc, Snoc, snoc-view, each-init, bigger, fresh}
+use Rattle.round_trip.specs.HoldLaws.{calls-snoc, join-length, last-snoc, Snoc, snoc-view, each-init, bigger, fresh}
 use Rattle.round_trip.specs.RoundLaws.{before-one}
 use Rattle.round_trip.specs.AgainLaws.{block-obeys, checksum-obeys, extra-obeys}
-use Rattle.round_trip.specs.Listed.{PlainAtAnyLength, itemsIn}
+use Rattle.round_trip.specs.Listed.{PlainAtAnyLength, itemsIn, kindAfter}
 use Rattle.round_trip.specs.ListedLaws.{area-of, area-lists, listed-before}
 
 -- ---- the mark behind a call, from the mark before it
@@ -52,10 +52,6 @@ markNext m (opaque k b) = 0
 abbrev markAfter : ℕ → List Item → ℕ
 markAfter m [] = m
 markAfter m (i ∷ is) = markAfter (markNext m i) is
-
-abbrev kindAfter : ℕ → List Item → ℕ
-kindAfter k [] = k
-kindAfter k (i ∷ is) = kindAfter (itemKind i) is
 
 -- a call obeys the rules behind a subsection of a kind and a mark
 pub record Fitting (k m : ℕ) (i : Item) : Type 0 where
@@ -125,7 +121,7 @@ secs-obeyed : (ss : List Sec) → Each GoodSec ss → (k m : ℕ) → Obeyed k m
 secs-obeyed [] g k m = tt
 secs-obeyed (s ∷ ss) g k m = sec-obeyed (callsOf ss) s (g .0) k m (secs-obeyed ss (g .1) (kindSec s) (markSec s))
 
-last-after : (ss : List Sec) (p : ℕ) (l : Last)
+pub last-after : (ss : List Sec) (p : ℕ) (l : Last)
     → (lastOf p l ss .kind ≡ kindAfter (l .kind) (callsOf ss)) × (lastOf p l ss .mark ≡ markAfter (l .mark) (callsOf ss))
 last-after [] p l = (refl, refl)
 last-after (s ∷ ss) p l =
@@ -157,45 +153,72 @@ secs-list (s ∷ ss) g =
     let b = secs-list ss (g .1) in
     (λ i. andThen (a i) (b i)) ∙ then-before (callsSec s) (before (callsOf ss) ends) ∙ sym (before-append (callsSec s) (callsOf ss) ends)
 
-secs-longer : (ss : List Sec) → Each GoodSec ss → (xs : List Item) (it : Item) → callsOf ss ≡ xs ++ (it ∷ []) → Longer xs it
-secs-longer ss g xs it e =
-    let w = parts-whole (rawsOf ss) in (
-      join (rawsOf ss),
-      (lastOf 0 nothing-yet ss, ap (plainFrom 0 nothing-yet) w ∙ plain-from ss 0 nothing-yet g),
-      listed-before (join (rawsOf ss)) (rawsOf ss) w ∙ secs-list ss g ∙ ap (λ (x : List Item). before x ends) e,
-    )
+pub secs-plain : (ss : List Sec) → Each GoodSec ss → PlainAtAnyLength (join (rawsOf ss))
+secs-plain ss g = (lastOf 0 nothing-yet ss, ap (plainFrom 0 nothing-yet) (parts-whole (rawsOf ss)) ∙ plain-from ss 0 nothing-yet g)
 
-pub fits-longer : (ss : List Sec) → Each GoodSec ss → (it : Item) → Fitting (lastOf 0 nothing-yet ss .kind) (lastOf 0 nothing-yet ss .mark) it
-    → Longer (callsOf ss) it
-fits-longer ss g it f = by (opens it) refl (f .kind)
+pub secs-lists : (ss : List Sec) → Each GoodSec ss → itemsIn (join (rawsOf ss)) ≡ before (callsOf ss) ends
+secs-lists ss g = listed-before (join (rawsOf ss)) (rawsOf ss) (parts-whole (rawsOf ss)) ∙ secs-list ss g
+
+secs-longer : (ss : List Sec) → Each GoodSec ss → (xs : List Item) (it : Item) → callsOf ss ≡ xs ++ (it ∷ []) → Longer xs it
+secs-longer ss g xs it e = (join (rawsOf ss), secs-plain ss g, secs-lists ss g ∙ ap (λ (x : List Item). before x ends) e)
+
+-- one call more, that fits: the subsections that it leads to, whose bytes are longer by what the call needs
+pub record OneMore (ss : List Sec) (it : Item) : Type 0 where
+  pub secs : List Sec
+  pub good : Each GoodSec secs
+  pub calls : callsOf secs ≡ callsOf ss ++ (it ∷ [])
+  pub len : length (join (rawsOf secs)) ≡ length (join (rawsOf ss)) + needs (lastOf 0 nothing-yet ss .mark) it
+
+pub fits-more : (ss : List Sec) → Each GoodSec ss → (it : Item) → Fitting (lastOf 0 nothing-yet ss .kind) (lastOf 0 nothing-yet ss .mark) it → OneMore ss it
+fits-more ss g it f = by (opens it) refl (f .kind)
   where
     m : ℕ
     m = lastOf 0 nothing-yet ss .mark
 
-    at-none : opens it ≡ false → lastOf 0 nothing-yet ss .kind ≡ itemKind it → ss ≡ [] → Longer (callsOf ss) it
+    at-none : opens it ≡ false → lastOf 0 nothing-yet ss .kind ≡ itemKind it → ss ≡ [] → OneMore ss it
     at-none e k z = absurd (kind-some it e (sym k ∙ ap (λ (x : List Sec). lastOf 0 nothing-yet x .kind) z))
 
-    at-last : opens it ≡ false → lastOf 0 nothing-yet ss .kind ≡ itemKind it → Snoc ss → Longer (callsOf ss) it
+    at-last : opens it ≡ false → lastOf 0 nothing-yet ss .kind ≡ itemKind it → Snoc ss → OneMore ss it
     at-last e k v =
         let l : lastOf 0 nothing-yet ss ≡ record { header = 0 + length (join (rawsOf (v .init))); kind = kindSec (v .last); mark = markSec (v .last) } =
         ap (lastOf 0 nothing-yet) (v .is) ∙ last-snoc (v .init) (v .last) 0 nothing-yet in
         let gv : Each GoodSec (v .init ++ (v .last ∷ [])) = rw (v .is) at g in
         let gi = each-init GoodSec (v .init) (v .last) gv in
         let ek : kindSec (v .last) ≡ itemKind it = sym (ap (λ (x : Last). x .kind) l) ∙ k in
+        let em : m ≡ markSec (v .last) = ap (λ (x : Last). x .mark) l in
         let o : obeys (markSec (v .last)) it ≡ true = ap (λ (x : Last). obeys (x .mark) it) (sym l) ∙ f .rule in
         let F = bigger it (v .last) e (gi .1) ek o in
-        secs-longer (v .init ++ (F .sec ∷ [])) (each-snoc GoodSec (v .init) (F .sec) (gi .0) (F .good)) (callsOf ss) it
-        (calls-snoc (v .init) (F .sec) ∙ ap (λ (x : List Item). callsOf (v .init) ++ x) (F .calls)
-        ∙ sym (append-assoc (callsOf (v .init)) (callsSec (v .last)) (it ∷ []))
-        ∙ ap (λ (x : List Item). x ++ (it ∷ [])) (sym (calls-snoc (v .init) (v .last)) ∙ ap callsOf (sym (v .is))))
+        let n : needs m it ≡ length (bytesFor (markSec (v .last)) it) = ap (λ (x : ℕ). needs x it) em ∙ needs-is it e (markSec (v .last)) in
+        let body : length (bodySec (F .sec)) ≡ length (bodySec (v .last)) + length (bytesFor (markSec (v .last)) it) =
+        ap length (F .body) ∙ length-append (bodySec (v .last)) (bytesFor (markSec (v .last)) it) in
+        let old : length (join (rawsOf ss)) ≡ length (join (rawsOf (v .init))) + (8 + length (bodySec (v .last))) =
+        ap (λ (x : List Sec). length (join (rawsOf x))) (v .is) ∙ join-length (v .init) (v .last) in
+        record {
+          secs = v .init ++ (F .sec ∷ []);
+          good = each-snoc GoodSec (v .init) (F .sec) (gi .0) (F .good);
+          calls = calls-snoc (v .init) (F .sec) ∙ ap (λ (x : List Item). callsOf (v .init) ++ x) (F .calls)
+              ∙ sym (append-assoc (callsOf (v .init)) (callsSec (v .last)) (it ∷ []))
+              ∙ ap (λ (x : List Item). x ++ (it ∷ [])) (sym (calls-snoc (v .init) (v .last)) ∙ ap callsOf (sym (v .is)));
+          len = join-length (v .init) (F .sec) ∙ omega (arith, n, body, old);
+        }
 
-    by : (t : Bool) → opens it ≡ t → (opens it ≡ true) ⊎ (lastOf 0 nothing-yet ss .kind ≡ itemKind it) → Longer (callsOf ss) it
+    by : (t : Bool) → opens it ≡ t → (opens it ≡ true) ⊎ (lastOf 0 nothing-yet ss .kind ≡ itemKind it) → OneMore ss it
     by true e k =
         let F = fresh it m e (f .rule) in
-        secs-longer (ss ++ (F .sec ∷ [])) (each-snoc GoodSec ss (F .sec) g (F .good)) (callsOf ss) it
-        (calls-snoc ss (F .sec) ∙ ap (λ (x : List Item). callsOf ss ++ x) (F .calls))
+        let n : needs m it ≡ 8 + length (bytesFor m it) = needs-is it e m in
+        let body : length (bodySec (F .sec)) ≡ length (bytesFor m it) = ap length (F .body) in
+        record {
+          secs = ss ++ (F .sec ∷ []);
+          good = each-snoc GoodSec ss (F .sec) g (F .good);
+          calls = calls-snoc ss (F .sec) ∙ ap (λ (x : List Item). callsOf ss ++ x) (F .calls);
+          len = join-length ss (F .sec) ∙ omega (arith, n, body);
+        }
     by false e (inl z) = let y : _≡_ {A = Bool} false true = sym e ∙ z in let n : _≡_ {A = ℕ} 0 1 = cc in absurd (omega arith)
     by false e (inr k) = ⊎-elim (at-none e k) (at-last e k) (snoc-view ss)
+
+pub fits-longer : (ss : List Sec) → Each GoodSec ss → (it : Item) → Fitting (lastOf 0 nothing-yet ss .kind) (lastOf 0 nothing-yet ss .mark) it
+    → Longer (callsOf ss) it
+fits-longer ss g it f = let M = fits-more ss g it f in secs-longer (M .secs) (M .good) (callsOf ss) it (M .calls)
 
 -- ---- what the call answers
 
@@ -213,7 +236,7 @@ module _ (it : Item) (b : List ℕ) (w : ℕ) (l : Last) (p : place b w ≡ some
   Told17 = answered it b w ≡ refused (told why.NotPlain)
 
   -- the answer, by its two tests
-  answer-is : (t u : Bool) → (cond (opens it) true (eqb (l .kind) (itemKind it)) ≡ t) → obeys (l .mark) it ≡ u
+  pub answer-is : (t u : Bool) → (cond (opens it) true (eqb (l .kind) (itemKind it)) ≡ t) → obeys (l .mark) it ≡ u
       → answered it b w ≡ wrote (cond t (elseNotPlain u (room (length b) w (l .header) (l .mark) (needs (l .mark) it))) (stops (told why.WrongPlace)))
   answer-is t u et eu = ap wrote (by (opens it) et)
     where

@@ -10,6 +10,8 @@ pub mod Listed
 pub mod ListedLaws
 pub mod ExactLaws
 pub mod Demand
+pub mod DecidedLaws
+pub mod Decided
 pub mod Apart
 pub mod ApartLaws
 pub mod JoinedLaws

@@ -4,15 +4,16 @@
 -- Definitions only; a reader must believe them.
 use Prim.Native.Nat.{ℕ}
 use mathlib.Core.Path.{_≡_}
-use mathlib.Core.List.{List}
+use mathlib.Core.List.{List, [], _∷_}
 use mathlib.Core.Option.{some}
 use Rattle.walk.specs.Listing.{mapped}
 use Rattle.walk.specs.Spread.{spread}
 use Rattle.refusal.specs.Told.{told}
 use Rattle.refusal.specs.declared.Refusal.the-variants as why
 use Rattle.area.specs.Parts.{Raw, Lack, parts}
-use Rattle.reading.specs.Reading.{Items, itemsOf}
+use Rattle.reading.specs.Reading.{Item, Items, itemsOf}
 use Rattle.plain.specs.Plain.{Last, nothing-yet, plainFrom}
+use Rattle.writer_decides.specs.Calls.{itemKind}
 
 abbrev pub PlainAtAnyLength : List ℕ → Type 0
 PlainAtAnyLength s = (l : Last) × (plainFrom 0 nothing-yet (parts s) ≡ some l)
@@ -20,3 +21,8 @@ PlainAtAnyLength s = (l : Last) × (plainFrom 0 nothing-yet (parts s) ≡ some l
 -- the items of each subsection, one behind the other
 abbrev pub itemsIn : List ℕ → Items
 itemsIn s = spread itemsOf (mapped (λ (r : Raw). r) (λ (c : Lack). told why.Cut) (parts s))
+
+-- the kind of the subsection that the last of the calls is in; k where there is none
+abbrev pub kindAfter : ℕ → List Item → ℕ
+kindAfter k [] = k
+kindAfter k (i ∷ is) = kindAfter (itemKind i) is
