@@ -22,7 +22,7 @@ use Rattle.body.specs.Exports.{Pair}
 use Rattle.body.specs.RunLaws.{Each, each-snoc}
 use Rattle.body.specs.LinesLaws.{Filled}
 use Rattle.body.specs.InlineesLaws.{Fits}
-use Rattle.reading.specs.Reading.{Item, openLines, block, openChecksums, checksum, openInlinees, inlinee, openImports, imports, openExports, exports, opaque, opens, itemsOf}
+use Rattle.reading.specs.Reading.{Item, block, checksum, inlinee, imports, exports, opens, itemsOf}
 use Rattle.plain.specs.Plain.{Last, nothing-yet, plainFrom}
 use Rattle.writer_decides.specs.Calls.{itemKind, bytesFor, obeys, Act, goes, stops, limit, place, ofKind, room, elseNotPlain, needs, onLast, wrote, answered}
 use Rattle.writer_decides.specs.CallLaws.{needs-is, kind-some}
@@ -31,27 +31,8 @@ use Rattle.round_trip.specs.SecLaws.{before-append, then-before, good-re
 use Rattle.round_trip.specs.HoldLaws.{calls-snoc, join-length, last-snoc, Snoc, snoc-view, each-init, bigger, fresh}
 use Rattle.round_trip.specs.RoundLaws.{before-one}
 use Rattle.round_trip.specs.AgainLaws.{block-obeys, checksum-obeys, extra-obeys}
-use Rattle.round_trip.specs.Listed.{PlainAtAnyLength, itemsIn, kindAfter}
+use Rattle.round_trip.specs.Listed.{PlainAtAnyLength, itemsIn, kindAfter, markNext, markAfter}
 use Rattle.round_trip.specs.ListedLaws.{area-of, area-lists, listed-before}
-
--- ---- the mark behind a call, from the mark before it
-
-abbrev markNext : ℕ → Item → ℕ
-markNext m (openLines h) = h .flags % 2
-markNext m (block b) = m
-markNext m openChecksums = 0
-markNext m (checksum c) = m
-markNext m (openInlinees g) = g
-markNext m (inlinee i) = m
-markNext m openImports = 0
-markNext m (imports d) = m
-markNext m openExports = 0
-markNext m (exports p) = p .local + 1
-markNext m (opaque k b) = 0
-
-abbrev markAfter : ℕ → List Item → ℕ
-markAfter m [] = m
-markAfter m (i ∷ is) = markAfter (markNext m i) is
 
 -- a call obeys the rules behind a subsection of a kind and a mark
 pub record Fitting (k m : ℕ) (i : Item) : Type 0 where

@@ -12,6 +12,7 @@ pub mod ExactLaws
 pub mod Demand
 pub mod DecidedLaws
 pub mod Decided
+pub mod LastLaws
 pub mod Apart
 pub mod ApartLaws
 pub mod JoinedLaws

@@ -2,7 +2,7 @@
 -- its full reading lists where it is short enough to have one (`listed-reads` of ListedLaws). Source: document 01, "Writer and plain areas": number
 -- 17 is what would break the rules other than by refusal 11.
 -- Definitions only; a reader must believe them.
-use Prim.Native.Nat.{ℕ}
+use Prim.Native.Nat.{ℕ, _+_, _%_}
 use mathlib.Core.Path.{_≡_}
 use mathlib.Core.List.{List, [], _∷_}
 use mathlib.Core.Option.{some}
@@ -11,7 +11,7 @@ use Rattle.walk.specs.Spread.{spread}
 use Rattle.refusal.specs.Told.{told}
 use Rattle.refusal.specs.declared.Refusal.the-variants as why
 use Rattle.area.specs.Parts.{Raw, Lack, parts}
-use Rattle.reading.specs.Reading.{Item, Items, itemsOf}
+use Rattle.reading.specs.Reading.{Item, openLines, block, openChecksums, checksum, openInlinees, inlinee, openImports, imports, openExports, exports, opaque, Items, itemsOf}
 use Rattle.plain.specs.Plain.{Last, nothing-yet, plainFrom}
 use Rattle.writer_decides.specs.Calls.{itemKind}
 
@@ -22,7 +22,26 @@ PlainAtAnyLength s = (l : Last) × (plainFrom 0 nothing-yet (parts s) ≡ some l
 abbrev pub itemsIn : List ℕ → Items
 itemsIn s = spread itemsOf (mapped (λ (r : Raw). r) (λ (c : Lack). told why.Cut) (parts s))
 
--- the kind of the subsection that the last of the calls is in; k where there is none
+-- ---- what calls leave behind: the kind of the subsection that the last one is in, and its mark, which is what the rules of the next record ask for: of lines
+-- the column flag, of inlinees the signature, of exports the least local index that may follow, else 0. Without a call they are k and m
+
 abbrev pub kindAfter : ℕ → List Item → ℕ
 kindAfter k [] = k
 kindAfter k (i ∷ is) = kindAfter (itemKind i) is
+
+abbrev pub markNext : ℕ → Item → ℕ
+markNext m (openLines h) = h .flags % 2
+markNext m (block b) = m
+markNext m openChecksums = 0
+markNext m (checksum c) = m
+markNext m (openInlinees g) = g
+markNext m (inlinee i) = m
+markNext m openImports = 0
+markNext m (imports d) = m
+markNext m openExports = 0
+markNext m (exports p) = p .local + 1
+markNext m (opaque k b) = 0
+
+abbrev pub markAfter : ℕ → List Item → ℕ
+markAfter m [] = m
+markAfter m (i ∷ is) = markAfter (markNext m i) is
