@@ -8,3 +8,4 @@ pub mod Subs
 pub mod SubsLaws
 pub mod Told
 pub mod Untold
+pub mod WalkLaws
