@@ -156,6 +156,9 @@ name-all rule s (b ∷ bs) vs n h e =
     ∙ ap (λ x. nameThen (mapReply (bodyOn s) same x) (named (bodyAt rule s) (length bs) (map subStart bs ++ vs))) (e .0)
     ∙ ap (more (bodyOf s b)) (name-all rule s bs vs (length bs) refl (e .1))
 
+abbrev pub bodyStart : Body → ℕ
+bodyStart b = b .start
+
 module _ (rule : ℕ → Sort) (s : List ℕ) (n : ℕ) (e : gave n ≡ countLines rule s) where
   bs : List Sub
   bs = lines (subsFrom rule s 0)
@@ -175,6 +178,11 @@ module _ (rule : ℕ → Sort) (s : List ℕ) (n : ℕ) (e : gave n ≡ countLin
   unfolding sorted bs
   bodies-are =
       map-sort (weightOf s) keyOf (bodyOf s) bs (each-map (λ b. 12 ≤ b .len) (λ b. keyOf (bodyOf s b) ≡ weightOf s b) (same-key s) bs (whole (only (is 0xf2) (subsFrom rule s 0)) n e))
+
+  -- THE THEOREM for the slots: they hold where the line bodies start, in walk order
+  pub order-starts : map bodyStart (inOrder rule s) ≡ orderOf rule s
+  unfolding sorted bs
+  order-starts = ap (map bodyStart) (sym bodies-are) ∙ sym (map-map (bodyOf s) bodyStart sorted) ∙ order-is
 
   -- THE THEOREM for the list: behind the first n slots nothing is read, and those name the area's line bodies in walk order
   pub built-list : (vs : List ℕ) → listOf rule s (orderOf rule s ++ vs) ≡ before (inOrder rule s) ends
