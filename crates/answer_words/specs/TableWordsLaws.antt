@@ -29,6 +29,12 @@ walk-length (walk.In start len at) = refl
 pub walk-is : {w v : TableWalk} → w ≡ v → walkWords w ≡ walkWords v
 walk-is e = ap walkWords e
 
+-- THE THEOREM: the words of a state are read back as that state, whatever stands behind them
+pub table-read : (w : TableWalk) (ws : List ℕ) → walkIn (walkWords w ++ ws) ≡ w
+unfolding walkIn
+table-read walk.New ws = refl
+table-read (walk.In start len at) ws = refl
+
 -- the words of a state that is over are read back, whatever is put behind them
 pub over-read : (w : TableWalk) (o ws : List ℕ) → overTable w ≡ true → walkIn (put o 0 (walkWords w ++ ws)) ≡ w
 unfolding walkIn

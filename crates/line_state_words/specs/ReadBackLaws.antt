@@ -1,0 +1,174 @@
+-- A state of the line walk in words is read back as that state, whatever stands behind its words, if its numbers fit the fields that hold them: a section
+-- and flags 16 bits, every other number of a record, a header or a file 32 bits. Those of each state that the code has do, by their types.
+use Prim.Native.Nat.{ℕ, _+_, _<_}
+use mathlib.Core.Path.{_≡_, refl, sym, ap, _∙_}
+use mathlib.Core.List.{List, [], _∷_, _++_, append-assoc}
+use native.Mathlib.Omega.{arith}
+use lib.ListN.{getD}
+use lib.Seq.{getD-append-add}
+use Rattle.line_record.specs.declared.Length.{Length}
+use Rattle.line_record.specs.declared.Length.the-variants as len
+use Rattle.line_record.specs.declared.Column.{Column}
+use Rattle.line_record.specs.declared.Column.the-variants as col
+use Rattle.line_record.specs.declared.LineKind.{LineKind}
+use Rattle.line_record.specs.declared.LineKind.the-variants as kind
+use Rattle.line_record.specs.declared.LineRecord.{LineRecord}
+use Rattle.line_step.specs.declared.Held.{Held}
+use Rattle.line_step.specs.declared.Held.the-variants as held
+use Rattle.line_step.specs.declared.Rest.{Rest}
+use Rattle.line_step.specs.declared.Place.{Place}
+use Rattle.line_step.specs.declared.LineWalk.{LineWalk}
+use Rattle.line_step.specs.declared.LineWalk.the-variants as walk
+use Rattle.line_state_words.specs.LineWords.{restSize, lengthWords, columnWords, kindWord, recordWords, u16Of, u32Of, lengthOf, columnOf, kindIn, recordIn, heldIn, restIn, placeIn, lineWalkIn, heldWords, restWords, placeWords, noPlace, lineWalkWords}
+use Rattle.line_state_words.specs.LineWordsLaws.{record-words, rest-length}
+
+-- ---- what fits
+
+abbrev pub Fits16 : ℕ → Type 0
+Fits16 n = n < 0x1_0000
+
+abbrev pub Fits32 : ℕ → Type 0
+Fits32 n = n < 0x1_0000_0000
+
+abbrev pub FitsLength : Length → Type 0
+FitsLength len.Unset = Unit {0}
+FitsLength (len.Is n) = Fits32 n
+
+abbrev pub FitsColumn : Column → Type 0
+FitsColumn col.None = Unit {0}
+FitsColumn (col.At n) = Fits32 n
+
+pub record FitsRecord (r : LineRecord) : Type 0 where
+  pub section : Fits16 (r .section)
+  pub offset : Fits32 (r .offset)
+  pub length : FitsLength (r .length)
+  pub file : Fits32 (r .file)
+  pub start-line : Fits32 (r .«start_line»)
+  pub end-line : Fits32 (r .«end_line»)
+  pub column-start : FitsColumn (r .«column_start»)
+  pub column-end : FitsColumn (r .«column_end»)
+
+abbrev pub FitsHeld : Held → Type 0
+FitsHeld held.Nothing = Unit {0}
+FitsHeld (held.One r) = FitsRecord r
+
+pub record FitsPlace (p : Place) : Type 0 where
+  pub offset : Fits32 (p .head .offset)
+  pub section : Fits16 (p .head .section)
+  pub flags : Fits16 (p .head .flags)
+  pub code : Fits32 (p .head .code)
+  pub file : Fits32 (p .file)
+
+abbrev pub FitsWalk : LineWalk → Type 0
+FitsWalk walk.New = Unit {0}
+FitsWalk (walk.Between t) = FitsHeld (t .held)
+FitsWalk (walk.Inside p t) = FitsPlace p × FitsHeld (t .held)
+
+-- ---- a record
+
+u16-same : (n : ℕ) → Fits16 n → u16Of n ≡ n
+u16-same n h = omega arith
+
+u32-same : (n : ℕ) → Fits32 n → u32Of n ≡ n
+u32-same n h = omega arith
+
+record TwoWords {A : Type 0} (words : A → List ℕ) (back : ℕ → ℕ → A) (x : A) : Type 0 where
+  first : ℕ
+  second : ℕ
+  is : words x ≡ first ∷ second ∷ []
+  read : back first second ≡ x
+
+two-length : (l : Length) → FitsLength l → TwoWords lengthWords lengthOf l
+two-length len.Unset h = record { first = 0; second = 0; is = refl; read = refl }
+two-length (len.Is n) h = record { first = 1; second = n; is = refl; read = ap len.Is (u32-same n h) }
+
+two-column : (c : Column) → FitsColumn c → TwoWords columnWords columnOf c
+two-column col.None h = record { first = 0; second = 0; is = refl; read = refl }
+two-column (col.At n) h = record { first = 1; second = n; is = refl; read = ap col.At (u32-same n h) }
+
+kind-same : (k : LineKind) → kindIn (kindWord k) ≡ k
+kind-same kind.Expression = refl
+kind-same kind.Statement = refl
+
+-- four words in front of the tag of what is held: the record behind it
+record-read : (a b c d : ℕ) (r : LineRecord) (ws : List ℕ) → FitsRecord r → recordIn (a ∷ b ∷ c ∷ d ∷ 1 ∷ (recordWords r ++ ws)) ≡ r
+record-read a b c d r ws f =
+    let L = two-length (r .length) (f .length) in
+    let S = two-column (r .«column_start») (f .column-start) in
+    let E = two-column (r .«column_end») (f .column-end) in
+    let e = record-words r (L .is) (S .is) (E .is) refl in
+    let e₁ = u16-same (r .section) (f .section) in
+    let e₂ = u32-same (r .offset) (f .offset) in
+    let e₃ = L .read in
+    let e₄ = u32-same (r .file) (f .file) in
+    let e₅ = u32-same (r .«start_line») (f .start-line) in
+    let e₆ = u32-same (r .«end_line») (f .end-line) in
+    let e₇ = S .read in
+    let e₈ = E .read in
+    let e₉ = kind-same (r .kind) in
+    ap (λ (x : List ℕ). recordIn (a ∷ b ∷ c ∷ d ∷ 1 ∷ (x ++ ws))) e
+    ∙ (λ i. record {
+      section = e₁ i;
+      offset = e₂ i;
+      length = e₃ i;
+      file = e₄ i;
+      «start_line» = e₅ i;
+      «end_line» = e₆ i;
+      «column_start» = e₇ i;
+      «column_end» = e₈ i;
+      kind = e₉ i;
+    })
+
+held-read : (a b c d : ℕ) (h : Held) (ws : List ℕ) → FitsHeld h → heldIn (a ∷ b ∷ c ∷ d ∷ (heldWords h ++ ws)) ≡ h
+unfolding heldIn
+held-read a b c d held.Nothing ws f = refl
+held-read a b c d (held.One r) ws f = ap held.One (record-read a b c d r ws f)
+
+-- ---- a state
+
+rest-read : (tag : ℕ) (t : Rest) (ws : List ℕ) → FitsHeld (t .held) → restIn (tag ∷ (restWords t ++ ws)) ≡ t
+rest-read tag t ws f =
+    let e = held-read tag (t .slot) (t .left) (t .scan) (t .held) ws f in
+    λ i. record { slot = t .slot; left = t .left; scan = t .scan; held = e i }
+
+-- a word behind those of the rest
+behind-rest : (tag : ℕ) (t : Rest) (ys : List ℕ) (n i : ℕ) → n ≡ restSize + i → getD (tag ∷ (restWords t ++ ys)) n 0 ≡ getD ys i 0
+behind-rest tag t ys n i e =
+    ap (λ (k : ℕ). getD (tag ∷ (restWords t ++ ys)) k 0) (e ∙ ap (λ (k : ℕ). k + i) (sym (rest-length tag t)))
+    ∙ getD-append-add (tag ∷ restWords t) ys i 0
+
+place-read : (tag : ℕ) (t : Rest) (p : Place) (ws : List ℕ) → FitsPlace p → placeIn (tag ∷ (restWords t ++ (placeWords p ++ ws))) ≡ p
+place-read tag t p ws f =
+    let at : (n i : ℕ) → n ≡ restSize + i → getD (tag ∷ (restWords t ++ (placeWords p ++ ws))) n 0 ≡ getD (placeWords p ++ ws) i 0
+    = behind-rest tag t (placeWords p ++ ws) in
+    let e₁ = ap u32Of (at 17 0 refl) ∙ u32-same (p .head .offset) (f .offset) in
+    let e₂ = ap u16Of (at 18 1 refl) ∙ u16-same (p .head .section) (f .section) in
+    let e₃ = ap u16Of (at 19 2 refl) ∙ u16-same (p .head .flags) (f .flags) in
+    let e₄ = ap u32Of (at 20 3 refl) ∙ u32-same (p .head .code) (f .code) in
+    let e₅ = at 21 4 refl in
+    let e₆ = at 22 5 refl in
+    let e₇ = ap u32Of (at 23 6 refl) ∙ u32-same (p .file) (f .file) in
+    let e₈ = at 24 7 refl in
+    let e₉ = at 25 8 refl in
+    let e₁₀ = at 26 9 refl in
+    λ i. record {
+      head = record { offset = e₁ i; section = e₂ i; flags = e₃ i; code = e₄ i };
+      end = e₅ i;
+      next = e₆ i;
+      file = e₇ i;
+      lines = e₈ i;
+      line = e₉ i;
+      column = e₁₀ i;
+    }
+
+-- THE THEOREM
+pub state-read : (w : LineWalk) (ws : List ℕ) → FitsWalk w → lineWalkIn (lineWalkWords w ++ ws) ≡ w
+unfolding lineWalkIn
+state-read walk.New ws f = refl
+state-read (walk.Between t) ws f =
+    ap (λ (x : List ℕ). walk.Between (restIn (1 ∷ x))) (append-assoc (restWords t) noPlace ws) ∙ ap walk.Between (rest-read 1 t (noPlace ++ ws) f)
+state-read (walk.Inside p t) ws f =
+    let a = append-assoc (restWords t) (placeWords p) ws in
+    let e = place-read 2 t p ws (f .0) in
+    let g = rest-read 2 t (placeWords p ++ ws) (f .1) in
+    ap (λ (x : List ℕ). walk.Inside (placeIn (2 ∷ x)) (restIn (2 ∷ x))) a ∙ (λ i. walk.Inside (e i) (g i))
