@@ -1,6 +1,6 @@
 -- A walk over a table in words: 0 and whatever behind it for a new one; else any other number, where the body starts, how long it is, and
 -- the place in it. A word that is not there is 0. Source: docs/DECISIONS.md, 32.
--- Definitions only; a reader must believe them.
+-- Definitions only; a reader must believe them, but for `walkIn`, `walkWords`: `walk-new`, `table-read` (answer_words TableWordsLaws) say what these mean.
 use Prim.Native.Nat.{ℕ}
 use mathlib.Core.List.{List, [], _∷_, _++_}
 use mathlib.Core.Bool.{Bool, false, cond}

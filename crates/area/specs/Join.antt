@@ -1,6 +1,6 @@
 -- The bytes of subsections: what a writer makes. `parts` undoes it (`parts-whole` of JoinLaws). Source: cvinfo.h, `CV_DebugSSubsectionHeader_t`;
 -- document 01, "Area and subsections": a subsection is kind u32, length u32, body.
--- Definitions only; a reader must believe them.
+-- Definitions only; no public contract cites them.
 use mathlib.Core.List.{List, [], _∷_, _++_}
 use Prim.Native.Nat.{ℕ}
 use lib.ListN.{length}

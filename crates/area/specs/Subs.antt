@@ -1,6 +1,7 @@
 -- The subsections that a reading of an area sees: the known ones in order, up to the end or the first refusal. The rule for kinds is a parameter.
 -- Source: document 01, "Area and subsections" and the sentences on number 11 and on a place past the lent bytes.
--- Definitions only; a reader must believe them.
+-- Definitions only; a reader must believe them, but for `firstOf`, `stepAt`: `steps-are` (area SubsLaws) says what these mean; for `placeBehind` to
+-- `crateStep`: `walk-steps` (area WalkLaws) says what these mean; for `bodiesIn`, `bodies`: no public contract cites these.
 use Prim.Native.Nat.{ℕ, _+_}
 use mathlib.Core.List.{List}
 use mathlib.Core.Bool.{cond}

@@ -1,5 +1,5 @@
 -- What the answers of this crate tell. Source: document 01, "Refusal numbers", and the values that it names for each.
--- Definitions only; a reader must believe them.
+-- Definitions only; a reader must believe them, but for `toldHead`: no public contract cites it.
 use Prim.Native.Nat.{ℕ}
 use Rattle.walk.specs.Listing.{Move, item, pass, over, fail, Answer, gives, none, refuses}
 use Rattle.refusal.specs.Told.{Told, told}

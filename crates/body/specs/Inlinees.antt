@@ -2,7 +2,8 @@
 -- `CV_INLINEE_SOURCE_LINE_SIGNATURE` 0 and `_EX` 1, `InlineeSourceLine` (inlinee, fileId, sourceLineNum), `InlineeSourceLineEx` (inlinee, fileId,
 -- sourceLineNum, countOfExtraFiles and that many fileIds); document 01, "Checksums, inlinees": whatever is cut is 1, and only the signature 1 has
 -- extra files.
--- Definitions only; a reader must believe them.
+-- Definitions only; a reader must believe them, but for `extraBytes`, `inlineeBytes`: `decided` (round_trip Decided) says what these mean; for `extraLength`:
+-- contracts of inner calls alone cite it.
 use Prim.Native.Nat.{ℕ, _+_, _-_, _*_}
 use mathlib.Core.List.{List, [], _++_}
 use mathlib.Core.Bool.{Bool, true, false, cond}

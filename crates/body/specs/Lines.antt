@@ -2,7 +2,7 @@
 -- u16, flags u16, cbCon), `CV_LINES_HAVE_COLUMNS` (bit 0), `CV_DebugSLinesFileBlockHeader_t` (offFile, nLines, cbBlock, which counts this
 -- header; then nLines of `CV_Line_t`, then, with columns, nLines of `CV_Column_t`); document 01, "Line subsections", for the order of the
 -- tests: header whole 1, size at least 12 else 7, data present 1, lines and columns inside the data else 7; bytes over are ignored.
--- Definitions only; a reader must believe them.
+-- Definitions only; a reader must believe them, but for `lineHeadBytes`, `blockBytes`: `decided` (round_trip Decided) says what these mean.
 use Prim.Native.Nat.{ℕ, _+_, _-_, _*_, _/_, _%_}
 use mathlib.Core.List.{List, _++_}
 use mathlib.Core.Bool.{Bool, true, false, cond}

@@ -1,6 +1,6 @@
 -- Runs of words of four bytes: as bytes spell them, and as bytes are made of them. Source: document 01, "Area and subsections": words are
 -- little-endian.
--- Definitions only; a reader must believe them.
+-- Definitions only; a reader must believe them, but for `wordBytes`: `decided` (round_trip Decided) says what it means.
 use Prim.Native.Nat.{ℕ, zero, suc}
 use mathlib.Core.List.{List, [], _∷_, _++_}
 use lib.ListN.{drop}

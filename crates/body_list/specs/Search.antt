@@ -1,7 +1,7 @@
 -- The search for the body that a slot names, with a list of line bodies lent beside the slots. The list says only where a search begins; that the body
 -- is the same without it, if what is known is true, is `found-right` of SearchLaws, and that what is known stays true is `found-known`. Source: document
 -- 01, "Line subsections" (a walk over a list takes one slot after the other) and "each look at the middle leaves a shorter span" (halving).
--- Definitions only; a reader must believe them.
+-- Definitions only; contracts of inner calls alone cite them.
 use Prim.Native.Nat.{ℕ, zero, suc, _+_, _-_, _/_}
 use mathlib.Core.List.{List, [], _∷_}
 use mathlib.Core.Bool.{Bool, true, false, cond, _&&_}

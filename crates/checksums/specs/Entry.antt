@@ -2,7 +2,7 @@
 -- table, size u8, kind u8, bytes, padding) and `CV_SourceChksum_t` (NONE 0, MD5 1, SHA1 2, SHA_256 3); document 01, "Checksums, inlinees": 1 for
 -- head or bytes, 3 for the kind, then the alignment to 4 from the start of the body, missing padding being 1; any size is read, and kind 0 drops
 -- its bytes; docs/DECISIONS.md: it answers the place where they stood, and length 0.
--- Definitions only; a reader must believe them.
+-- Definitions only; a reader must believe them, but for `entrySpelt`: no public contract cites it.
 use Prim.Native.Nat.{ℕ, _+_, _-_}
 use mathlib.Core.List.{List, []}
 use mathlib.Core.Bool.{cond}

@@ -1,6 +1,6 @@
 -- When two checksums are equal, each a kind and its bytes. Source: document 01, "Checksums, inlinees": two "none" checksums are not equal in the
 -- crate's comparison; crate, `PartialEq for FileChecksum`: the kinds are the same, and no "none", and the bytes are the same.
--- Definitions only; a reader must believe them.
+-- Definitions only; `equal-sums-are`, `equal-sums-refl` (checksums EqualLaws) say what they mean.
 use Prim.Native.Nat.{ℕ}
 use mathlib.Core.List.{List, [], _∷_}
 use mathlib.Core.Bool.{Bool, true, false, cond}

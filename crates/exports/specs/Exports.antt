@@ -1,7 +1,8 @@
 -- The exports of an area: those of its first CROSSSCOPEEXPORTS subsection (0xf8). Source: cvinfo.h, `LocalIdAndGlobalIdPair`; document 01,
 -- "Cross-module tables" (bit 31 of local tells Id from Type; a lookup tests 9 over all pairs, without sign, then gives the global or none; the
 -- length is the number of pairs) and "Area and subsections" (the first of its kind; without one the answer is empty).
--- Definitions only; a reader must believe them.
+-- Definitions only; a reader must believe them, but for `pairSize`, `exportIn`, `pairAt` to `exportStep`: `exports-walk` (exports ExportsLaws) says what
+-- these mean.
 use Prim.Native.Nat.{ℕ, _/_, _%_}
 use mathlib.Core.List.{List, [], _∷_}
 use mathlib.Core.Bool.{Bool, true, cond, _&&_}

@@ -1,7 +1,7 @@
 -- Exports by their body alone: where it stands in an area, after all tests of a lookup; and of a body that is lent, whatever its bytes are, the export at an
 -- index and the global index of a local one. Source: document 01, "Cross-module tables" (a lookup tests 9 over all pairs), number 4, number 11, "each look
 -- at the middle leaves a shorter span", and "Area and subsections" (without such a subsection the answer is empty).
--- Definitions only; a reader must believe them.
+-- Definitions only; a reader must believe them, but for `ifShort` to `globalIn`: `body-exports`, `body-resolves` (exports FoundBodyLaws) say what these mean.
 use Prim.Native.Nat.{ℕ, zero, suc, _+_, _-_, _*_, _/_, _%_}
 use mathlib.Core.List.{List}
 use mathlib.Core.Bool.{cond}

@@ -2,7 +2,7 @@
 -- checksum subsection of the whole area, after the line list's tests but 10), "Checksums, inlinees" (a file index is a byte offset into the body:
 -- beyond it 1, at its end 18), "What must change shape" (kind, start and length, with one call that hands back the bytes) and number 11;
 -- docs/DECISIONS.md: without a checksum subsection the body is empty.
--- Definitions only; a reader must believe them.
+-- Definitions only; a reader must believe them, but for `fileStep`: `files-walk` (files FilesLaws) says what it means.
 use Prim.Native.Nat.{ℕ, _+_, _-_}
 use mathlib.Core.List.{List}
 use mathlib.Core.Bool.{cond}

@@ -1,7 +1,8 @@
 -- The imports of an area: those of its first CROSSSCOPEIMPORTS subsection (0xf7). Source: cvinfo.h, `CrossScopeReferences` and `CrossScopeId` (bit
 -- 31 set, scope in bits 20 to 30, id in bits 0 to 19); document 01, "Cross-module tables" (resolving: area and whole body, then 5, then the
 -- module and its word, either missing being 6) and "Area and subsections" (the first of its kind; without one the answer is empty).
--- Definitions only; a reader must believe them.
+-- Definitions only; a reader must believe them, but for `moduleShown`, `inArea` to `importStep`: `imports-walk`, `imports-words` (imports ImportsLaws) say
+-- what these mean.
 use Prim.Native.Nat.{ℕ, _+_, _*_, _/_, _%_}
 use mathlib.Core.List.{List}
 use mathlib.Core.Bool.{cond}

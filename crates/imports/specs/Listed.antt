@@ -1,7 +1,7 @@
 -- A list of the import modules of an area: where the head of each stands, in lent slots; and a reference resolved by a list that is lent. Source: document
 -- 01, "Cross-module tables" (the area and the whole body come first; a module or a word that is missing is 6), numbers 10 and 11, "a place past the lent
 -- bytes is 1", and "lent memory stays as found" of a refused call.
--- Definitions only; a reader must believe them.
+-- Definitions only; a reader must believe them, but for `refOn` to `resolveListed`: `listed-resolves` (imports MadeListLaws) says what these mean.
 use Prim.Native.Nat.{ℕ, _+_}
 use mathlib.Core.List.{List, _++_}
 use mathlib.Core.Bool.{cond}

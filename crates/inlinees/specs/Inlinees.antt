@@ -2,7 +2,8 @@
 -- `InlineeSourceLine` and `InlineeSourceLineEx`, whose bytes crate `body` reads (`inlineeBite`); document 01, "Checksums, inlinees": signature
 -- u32, absent 1, then the entries; "Area and subsections": inlinees come from the first subsection of their kind; "a place past the lent bytes
 -- is 1".
--- Definitions only; a reader must believe them.
+-- Definitions only; a reader must believe them, but for `headSize` to `inlineesIn`: `inlinees-walk`, `inlinees-mean` (inlinees InlineesLaws) say what these
+-- mean.
 use Prim.Native.Nat.{ℕ, _+_, _-_, _*_}
 use mathlib.Core.List.{List}
 use mathlib.Core.Bool.{Bool, true, false, cond}

@@ -3,7 +3,8 @@
 -- the next block, the file, the lines left, the next line and the next column. Where a state lacks a part its words are 0.
 -- Read back, a word too large for its field counts modulo the field's size, and a tag above the last is the last.
 -- Source: docs/DECISIONS.md, 32.
--- Definitions only; a reader must believe them.
+-- Definitions only; a reader must believe them, but for `u16Of` to `lineWalkIn`, `noRecord` to `lineWalkWords`: `walk-new` (line_state_words LineWordsLaws),
+-- `state-read` (line_state_words ReadBackLaws) say what these mean.
 use Prim.Native.Nat.{ℕ, _+_, _%_}
 use mathlib.Core.List.{List, [], _∷_, _++_}
 use mathlib.Core.Bool.{cond}

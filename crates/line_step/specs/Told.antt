@@ -1,5 +1,5 @@
 -- What the answers of this crate tell. Source: document 01, "Refusal numbers", and the values that it names for each.
--- Definitions only; a reader must believe them.
+-- Definitions only; contracts of inner calls alone cite them.
 use Rattle.walk.specs.Listing.{item, pass, over, fail, Reply, gave, nothing, refused}
 use Rattle.refusal.specs.Told.{Told, told}
 use Rattle.line_step.specs.Turn.{LineMove}

@@ -1,7 +1,7 @@
 -- The turns of the line walk: what one turn does to its state, for every state, also one that no walk comes to. What a walk of turns means is in
 -- crate `line_walk`. Source: document 01, "Line subsections": one record is held back until its end is known; the ends are the next non-marker
 -- line's offset, then section offset plus code size when a subsection's blocks are done; a place past the lent bytes is 1; 11 comes first.
--- Definitions only; a reader must believe them.
+-- Definitions only; `walk-is` (line_walk WalkLaws) says what they mean.
 use Prim.Native.Nat.{ℕ, _+_, _-_, _*_, _%_, _^_}
 use mathlib.Core.List.{List}
 use mathlib.Core.Bool.{Bool, true, false, cond}

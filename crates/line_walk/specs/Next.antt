@@ -1,6 +1,6 @@
 -- What a step of the line walk answers, for every state: the first record that its turns give. What the steps of a walk give together is
 -- `recordsOf` of Meaning (`walk-is` of WalkLaws). Source: document 01, "What must change shape": a state by value and a step.
--- Definitions only; a reader must believe them.
+-- Definitions only; `walk-is` (line_walk WalkLaws) says what they mean.
 use Prim.Native.Nat.{ℕ, suc, _+_, _-_, _*_}
 use mathlib.Core.List.{List}
 use lib.ListN.{length}

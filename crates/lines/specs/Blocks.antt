@@ -1,7 +1,7 @@
 -- The block at a place of a line body, as code reads it: where its lines stand. That these blocks, taken for their words, are those of the body
 -- is `blocks-are` of BlocksLaws. Source: cvinfo.h, `CV_DebugSLinesFileBlockHeader_t`; document 01, "Line subsections", for the order of the
 -- tests, and "a place past the lent bytes is 1".
--- Definitions only; a reader must believe them.
+-- Definitions only; `blocks-are` (lines BlocksLaws) says what they mean.
 use Prim.Native.Nat.{ℕ, _+_, _-_, _*_}
 use mathlib.Core.List.{List}
 use mathlib.Core.Bool.{Bool, cond}

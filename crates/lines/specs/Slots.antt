@@ -1,7 +1,7 @@
 -- An order list as its reader takes it: the line bodies that its slots name, one for each line subsection of the area. Source: document 01, "Line
 -- subsections" (the walk repeats the list's tests but 10 and takes one slot a line subsection) and number 19 (a slot that is missing or names
 -- no line body).
--- Definitions only; a reader must believe them.
+-- Definitions only; a reader must believe them, but for `scanFrom` to `slotAt`: `walk-is` (line_walk WalkLaws) says what these mean.
 use Prim.Native.Nat.{ℕ, zero, suc}
 use mathlib.Core.List.{List, [], _∷_}
 use mathlib.Core.Bool.{Bool, cond, _&&_}

@@ -1,7 +1,8 @@
 -- A step of the walk over a text's lines, for every state, and what it does to the lent buffer. What the steps of a walk give together is `linesOf`
 -- of Dump (`text-is` of DumpLaws). Source: document 01, "What must change shape": a state by value and a step; number 10 for a lent room that is too
 -- small, which then stays as found.
--- Definitions only; a reader must believe them.
+-- Definitions only; a reader must believe them, but for `Line` to `stepOf`: `text-is` (listing DumpLaws) says what these mean; for `lineAnswer`: no public
+-- contract cites it.
 use Prim.Native.Nat.{ℕ}
 use mathlib.Core.List.{List}
 use mathlib.Core.Bool.{cond}

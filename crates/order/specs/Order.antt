@@ -1,7 +1,7 @@
 -- The order list of an area: where its line bodies start, in walk order. Source: document 01, "Line subsections": ascending (section, offset),
 -- equal keys in area order; 10 if there are more line subsections than slots; the first slots then hold body positions in walk order, the rest
 -- unchanged; and "lent memory stays as found" of a refused call.
--- Definitions only; a reader must believe them.
+-- Definitions only; a reader must believe them, but for `orderOf`: `order-starts` (order BuiltLaws) says what it means.
 use Prim.Native.Nat.{ℕ, _+_, _*_}
 use mathlib.Core.List.{List, _++_, map}
 use lib.ListN.{length, drop}

@@ -1,7 +1,8 @@
 -- Which areas are plain, and what a writer has to know of the last subsection of one. Source: document 01, "Writer and plain areas": the full
 -- reading refuses nothing, and no kind is 0x80000000; opaque lengths are divisible by 4; checksum sizes are 0, 16, 20, 32 for the kinds 0 to 3,
 -- their padding zero; the signature of inlinees is 0 or 1; blocks are exactly filled; each export body strictly ascends by local index.
--- Definitions only; a reader must believe them.
+-- Definitions only; a reader must believe them, but for `strict` to `plainBlock`, `tidy` to `inlineesMark`, `markOf`, `nothing-yet` to `Plain`: `in-words`
+-- (round_trip InWordsLaws), `last-is` (round_trip LastLaws) say what these mean.
 use Prim.Native.Nat.{ℕ, _+_, _%_, _≤_}
 use mathlib.Core.Path.{_≡_}
 use mathlib.Core.List.{List}

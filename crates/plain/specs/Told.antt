@@ -1,5 +1,5 @@
 -- What the answers of this crate tell. Source: document 01, "Refusal numbers", and the values that it names for each.
--- Definitions only; a reader must believe them.
+-- Definitions only; a reader must believe them, but for `toldMark`: no public contract cites it.
 use Prim.Native.Nat.{ℕ}
 use mathlib.Core.Option.{Option, none, some}
 use Rattle.plain.specs.Plain.{Last}

@@ -1,6 +1,6 @@
 -- The plain predicate and the calls on a whole area: what a plain area promises who reads it. That the tables are those of the full reading is said by
 -- the crate `reading_agrees`, wherever that refuses nothing. Source: document 01, "Writer and plain areas".
--- Definitions only; a reader must believe them.
+-- Definitions only; no public contract cites them.
 use Prim.Native.Nat.{ℕ}
 use mathlib.Core.Path.{_≡_}
 use mathlib.Core.List.{List}

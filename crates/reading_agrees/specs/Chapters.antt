@@ -1,6 +1,6 @@
 -- The subsections in a full reading: each begins with the item that opens it, and has all items up to the next one that opens. Source: document
 -- 01, "Writer and plain areas": every subsection in order.
--- Definitions only; a reader must believe them.
+-- Definitions only; no public contract cites them.
 use Prim.Native.Nat.{ℕ}
 use mathlib.Core.Bool.{Bool, false, cond}
 use lib.Dec.{eqb}

@@ -1,6 +1,6 @@
 -- The record at a place of a typed body, as an item; places count from the area's start, where the body stands. Each body is read by the step
 -- of its own crate. Source: document 01, "Writer and plain areas": each typed body raw, so that a checksum of kind 0 has its bytes here.
--- Definitions only; a reader must believe them.
+-- Definitions only; `walk-reads` (reading_walk ReadingLaws) says what they mean.
 use Prim.Native.Nat.{ℕ, _+_, _-_, _*_}
 use mathlib.Core.List.{List}
 use mathlib.Core.Bool.{Bool, true, false}

@@ -1,6 +1,6 @@
 -- One step of the full reading, from any state. Source: document 01, "Writer and plain areas" and "Area and subsections": refusals come in the
 -- order of the bytes, 11 first; a body is read before the next header is; an ignored subsection gives nothing.
--- Definitions only; a reader must believe them.
+-- Definitions only; `walk-reads` (reading_walk ReadingLaws) says what they mean.
 use Prim.Native.Nat.{ℕ, _+_, _%_}
 use mathlib.Core.List.{List}
 use mathlib.Core.Bool.{cond}

@@ -1,6 +1,6 @@
 -- The starred lines of document 01's sheet, in one table. A row has what a call answers, as the definition says that the call's contract is an equation
 -- with, and the answer that document 01 writes; the comment behind a row names the call. Source: document 01, "Sheet lines to try".
--- Definitions only; a reader must believe them.
+-- Definitions only; no public contract cites them.
 use Prim.Native.Nat.{ℕ}
 use mathlib.Core.Path.{_≡_}
 use mathlib.Core.Bool.{true, false}

@@ -2,7 +2,8 @@
 -- mended by the crate: the list's first subsection at just this section and offset; else the last one in list order of the same section with a
 -- smaller offset, whether or not it covers the offset; else none. The list's tests but 10 come first, and a slot on the way that is missing or
 -- names no line body is 19.
--- Definitions only; a reader must believe them.
+-- Definitions only; a reader must believe them, but for `Numbered` to `symbolWalk`: `symbol-walk`, `symbol-fails` (symbol_lines RecordsLaws) say what these
+-- mean.
 use Prim.Native.Nat.{ℕ, _+_}
 use mathlib.Core.List.{List}
 use mathlib.Core.Bool.{Bool, cond, _&&_}

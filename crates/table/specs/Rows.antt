@@ -1,6 +1,7 @@
 -- The records of a body from a place on, each with the place at which it stands. A bite says what the front of bytes is (crate `body`), and
 -- `size` how many bytes a record has; places count from the body's start. Source: document 01, "a place past the lent bytes is 1".
--- Definitions only; a reader must believe them.
+-- Definitions only; a reader must believe them, but for `rowOf` to `rowsFrom`: `imports-walk` (imports ImportsLaws), `exports-walk` (exports ExportsLaws) say
+-- what these mean.
 use Prim.Native.Nat.{ℕ, _+_}
 use mathlib.Core.List.{List}
 use mathlib.Core.Bool.{cond}

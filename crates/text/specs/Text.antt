@@ -1,6 +1,6 @@
 -- Numbers and bytes as text, and text put into a lent buffer. Source: document 01, "Sheet lines to try": kinds, offsets and checksum bytes in hex,
 -- other numbers in decimal; "Refusal numbers": 10 for a lent room that is too small, which then stays as found. Text is the list of its ASCII codes.
--- Definitions only; a reader must believe them.
+-- Definitions only; a reader must believe them, but for `Next` to `pieceWritten`: contracts of inner calls alone cite these.
 use Prim.Native.Nat.{ℕ, zero, suc, _+_, _/_, _%_}
 use Prim.Native.Char.{code}
 use Prim.Native.String.{String}

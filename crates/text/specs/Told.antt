@@ -1,5 +1,5 @@
 -- What the answer of this crate tells. Source: document 01, "Refusal numbers", and the values that it names for each.
--- Definitions only; a reader must believe them.
+-- Definitions only; contracts of inner calls alone cite them.
 use Rattle.refusal.specs.Told.{told}
 use Rattle.text.specs.Text.{Next, at, stopped}
 use Rattle.text.specs.declared.Place.{Place}

@@ -1,6 +1,7 @@
 -- The writer's calls: what each answers, and the buffer after it. A call is an item of the full reading. Source: document 01, "Writer and plain
 -- areas", and numbers 10, 16, 17 of its table; the order of refusals is 16, 17, 10.
--- Definitions only; a reader must believe them.
+-- Definitions only; a reader must believe them, but for `bytesFor` to `Act`, `place` to `bufferAfter`, `openAct`, `growAct`: `decided` (round_trip Decided)
+-- says what these mean.
 use Prim.Native.Nat.{ℕ, _+_, _-_, _/_, _%_, min}
 use mathlib.Core.List.{List, [], _++_}
 use mathlib.Core.Bool.{Bool, true, cond, _&&_}
