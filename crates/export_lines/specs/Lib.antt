@@ -1,3 +1,4 @@
 pub mod Calls
 pub mod CallsLaws
 pub mod OneLaws
+pub mod LastLaws

@@ -4,3 +4,4 @@ pub mod Untold
 pub mod AgainLaws
 pub mod Bodies
 pub mod BodiesLaws
+pub mod LinesLaws

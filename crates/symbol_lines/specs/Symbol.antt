@@ -17,7 +17,7 @@ use Rattle.find.specs.Find.{same}
 use Rattle.lines.specs.Body.{Body}
 use Rattle.lines.specs.Slots.{listOf}
 use Rattle.order.specs.Order.{inOrder}
-use Rattle.line_step.specs.declared.Held.the-variants.{Nothing}
+use Rattle.line_step.specs.Turn.{freshRest}
 use Rattle.line_step.specs.declared.LineWalk.{LineWalk}
 use Rattle.line_step.specs.declared.LineWalk.the-variants.{Between}
 use Rattle.line_walk.specs.Meaning.{Records, bodyThen, settle}
@@ -83,9 +83,9 @@ better section offset h i y = cond (headBefore section offset h) (gave i) y
 
 -- the walk over the one subsection that a slot names; without a slot it is at its end
 abbrev pub walkOf : Reply ℕ Told → LineWalk
-walkOf (gave i) = Between (record { slot = i; left = 1; scan = 0; held = Nothing })
-walkOf nothing = Between (record { slot = 0; left = 0; scan = 0; held = Nothing })
-walkOf (refused t) = Between (record { slot = 0; left = 0; scan = 0; held = Nothing })
+walkOf (gave i) = Between (freshRest i 1)
+walkOf nothing = Between (freshRest 0 0)
+walkOf (refused t) = Between (freshRest 0 0)
 
 abbrev pub walkTo : Reply ℕ Told → Reply LineWalk Told
 walkTo (gave i) = gave (walkOf (gave i))

@@ -11,9 +11,8 @@ ghost use Rattle.symbol_lines.specs.Symbol.{headIs, better, slotIn, walk
 ghost use Rattle.symbol_lines.specs.Told.{toldBest, toldSymbol};
 use body_list::Known;
 use body_list::find_body;
-use line_step::Held;
 use line_step::LineWalk;
-use line_step::Rest;
+use line_step::fresh_rest;
 use lines::Counted;
 use lines::LineHeader;
 use lines::Named;
@@ -59,18 +58,8 @@ fn walk_of(best: Best) -> LineWalk
     ensures { λ r. ⌜ r ≡ walkOf (toldBest best) ⌝ }
 {
     match best {
-        Best::None => LineWalk::Between(Rest {
-            slot: 0,
-            left: 0,
-            scan: 0,
-            held: Held::Nothing,
-        }),
-        Best::Slot(i) => LineWalk::Between(Rest {
-            slot: i,
-            left: 1,
-            scan: 0,
-            held: Held::Nothing,
-        }),
+        Best::None => LineWalk::Between(fresh_rest(0, 0)),
+        Best::Slot(i) => LineWalk::Between(fresh_rest(i, 1)),
     }
 }
 

@@ -1,0 +1,30 @@
+-- THE LAWS of many lines at once: the records given, and the steps behind them, are the records of the definition; over a list left as it was built those of
+-- the area alone.
+use Prim.Native.Nat.{ℕ, _+_}
+use mathlib.Core.Path.{_≡_, sym, _∙_}
+use mathlib.Core.List.{List}
+use lib.ListN.{length}
+use Rattle.walk.specs.Listing.{calls, replies, gave}
+use Rattle.walk.specs.Many.{many}
+use Rattle.walk.specs.ManyLaws.{gaveAll, many-calls}
+use Rattle.area.specs.Kind.{Sort}
+use Rattle.order.specs.Order.{ordered, slotsAfter}
+use Rattle.line_step.specs.declared.LineWalk.the-variants.{New}
+use Rattle.line_walk.specs.Meaning.{recordsOf, areaRecords}
+use Rattle.line_walk.specs.Next.{nextOf}
+use Rattle.line_walk.specs.WalkLaws.{walk-is}
+use Rattle.line_walk.specs.AreaLaws.{walk-built}
+
+module _ (rule : ℕ → Sort) (s v : List ℕ) (k j : ℕ) where
+  -- k records at once, and j steps behind them
+  pub many-lines : gaveAll (many (nextOf rule s v) k New .records) (calls (nextOf rule s v) j (many (nextOf rule s v) k New .next))
+      ≡ replies (length (many (nextOf rule s v) k New .records) + j) (recordsOf rule s v)
+  many-lines = sym (many-calls (nextOf rule s v) k j New) ∙ walk-is rule s v (length (many (nextOf rule s v) k New .records) + j)
+
+-- over the list that `order_list` made in slots that held xs
+module _ (rule : ℕ → Sort) (s xs : List ℕ) (n : ℕ) (e : gave n ≡ ordered rule s (length xs)) (k j : ℕ) where
+  pub many-built : gaveAll (many (nextOf rule s (slotsAfter rule s xs)) k New .records) (calls (nextOf rule s (slotsAfter rule s xs)) j (many (nextOf rule s (slotsAfter rule s xs)) k New .next))
+      ≡ replies (length (many (nextOf rule s (slotsAfter rule s xs)) k New .records) + j) (areaRecords rule s)
+  many-built =
+      sym (many-calls (nextOf rule s (slotsAfter rule s xs)) k j New)
+      ∙ walk-built rule s n xs e (length (many (nextOf rule s (slotsAfter rule s xs)) k New .records) + j)
