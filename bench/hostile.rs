@@ -195,6 +195,23 @@ fn lines(name: &str, area: &[u8], times: &mut Times) {
     }
 }
 
+/// A walk whose state says that there are as many slots as the area has words, which all name the last body. That is a short one here: see `one_body_again`.
+fn forged(name: &str, area: &[u8], times: &mut Times) {
+    let Some(lists) = Lists::of(area).filter(|lists| lists.slots.len() > area.len() / 64) else { return };
+    let slots = vec![lists.bodies[lists.bodies.len() - 1]; area.len() / 4];
+    let out = || {
+        let mut out = [0; LINE_STATE + RECORD];
+        (out[0], out[2]) = (1, slots.len() as u64);
+        out
+    };
+    let name = format!("{name}; a forged state, the last slot again and again");
+    let seconds = timed(out, |out| calls::c13_next_line(area, &slots, &lists.bodies, out));
+    times.insert(("c13_next_line", name.clone()), seconds);
+    let room = || (vec![1; area.len() / 8 * RECORD], out());
+    let seconds = timed(room, |(records, out)| calls::c13_lines(area, &slots, &lists.bodies, records, out));
+    times.insert(("c13_lines", name), seconds);
+}
+
 /// A call of the writer at a place of a buffer.
 type Writing = (&'static str, fn(&mut [u8], usize, &mut [u64]) -> u32);
 
@@ -232,6 +249,7 @@ fn every(bytes: usize) -> Times {
         assert!(area.len() <= bytes && area.len() + 256 > bytes, "{name}: {} bytes", area.len());
         reading(&name, &area, &mut times);
         lines(&name, &area, &mut times);
+        forged(&name, &area, &mut times);
         writing(&name, &area, &mut times);
     }
     times
