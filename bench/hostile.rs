@@ -85,20 +85,23 @@ const AREAS: [Hostile; 18] = [
     ("empty names", |n| names(n, 0, 0)),
 ];
 
-/// Line subsections without a block, in each order of keys, and with one line, in no order.
+/// Line subsections without a block, in each order of keys, and with one line, in no order: a record, a marker, and behind records a block that is refused.
 fn line_areas(bytes: usize) -> Vec<(String, Vec<u8>)> {
     let empty = |key: u32| subsection(0xf2, &bytes_of([key, 1, 1]));
     let mut areas: Vec<(String, Vec<u8>)> = ORDERS
         .iter()
         .map(|(name, keys)| (format!("empty line subsections {name}"), keys((bytes / 20) as u32).into_iter().flat_map(empty).collect()))
         .collect();
-    areas.push(("lines in no order".into(), lines_in_no_order(bytes)));
+    areas.push(("lines in no order".into(), lines_in_no_order(bytes, 10)));
+    areas.push(("markers in no order".into(), lines_in_no_order(bytes, 0xfe_efee)));
+    let refused = subsection(0xf2, &bytes_of([u32::MAX, 1, 0, 0, 0, 8]));
+    areas.push(("lines in no order, a wrong block behind".into(), [refused, lines_in_no_order(bytes - 32, 10)].concat()));
     areas
 }
 
-/// Line subsections of one line each.
-fn lines_in_no_order(bytes: usize) -> Vec<u8> {
-    let line = |key: u32| subsection(0xf2, &bytes_of([key, 1, 1, 0, 1, 20, 0, 10]));
+/// Line subsections of one line each, with these flags.
+fn lines_in_no_order(bytes: usize, flags: u32) -> Vec<u8> {
+    let line = |key: u32| subsection(0xf2, &bytes_of([key, 1, 1, 0, 1, 20, 0, flags]));
     ORDERS[2].1((bytes / 40) as u32).into_iter().flat_map(line).collect()
 }
 
@@ -195,21 +198,31 @@ fn lines(name: &str, area: &[u8], times: &mut Times) {
     }
 }
 
-/// A walk whose state says that there are as many slots as the area has words, which all name the last body. That is a short one here: see `one_body_again`.
-fn forged(name: &str, area: &[u8], times: &mut Times) {
-    let Some(lists) = Lists::of(area).filter(|lists| lists.slots.len() > area.len() / 64) else { return };
-    let slots = vec![lists.bodies[lists.bodies.len() - 1]; area.len() / 4];
+/// A walk from a state that no call gave.
+fn forged(name: String, area: &[u8], slots: &[u32], words: &[(usize, usize)], times: &mut Times) {
+    let bodies = Lists::of(area).map_or(vec![], |lists| lists.bodies);
     let out = || {
         let mut out = [0; LINE_STATE + RECORD];
-        (out[0], out[2]) = (1, slots.len() as u64);
+        words.iter().for_each(|(i, word)| out[*i] = *word as u64);
         out
     };
-    let name = format!("{name}; a forged state, the last slot again and again");
-    let seconds = timed(out, |out| calls::c13_next_line(area, &slots, &lists.bodies, out));
+    let seconds = timed(out, |out| calls::c13_next_line(area, slots, &bodies, out));
     times.insert(("c13_next_line", name.clone()), seconds);
     let room = || (vec![1; area.len() / 8 * RECORD], out());
-    let seconds = timed(room, |(records, out)| calls::c13_lines(area, &slots, &lists.bodies, records, out));
+    let seconds = timed(room, |(records, out)| calls::c13_lines(area, slots, &bodies, records, out));
     times.insert(("c13_lines", name), seconds);
+}
+
+/// Forged walks: one that stands in a body as long as the area, whose lines have no end; and where there are many bodies, one that has as many slots as the
+/// area has words, which all name the last body. That is a short one: see `one_body_again`.
+fn forgeries(name: &str, area: &[u8], times: &mut Times) {
+    let inside = [(0, 2), (21, area.len()), (24, usize::MAX)];
+    forged(format!("{name}; a forged state inside a body"), area, &[], &inside, times);
+    let lists = Lists::of(area).unwrap_or_default();
+    if lists.bodies.len() > area.len() / 64 {
+        let slots = vec![lists.bodies[lists.bodies.len() - 1]; area.len() / 4];
+        forged(format!("{name}; a forged state, the last slot again and again"), area, &slots, &[(0, 1), (2, slots.len())], times);
+    }
 }
 
 /// A call of the writer at a place of a buffer.
@@ -249,7 +262,7 @@ fn every(bytes: usize) -> Times {
         assert!(area.len() <= bytes && area.len() + 256 > bytes, "{name}: {} bytes", area.len());
         reading(&name, &area, &mut times);
         lines(&name, &area, &mut times);
-        forged(&name, &area, &mut times);
+        forgeries(&name, &area, &mut times);
         writing(&name, &area, &mut times);
     }
     times
@@ -257,7 +270,7 @@ fn every(bytes: usize) -> Times {
 
 /// The whole walk over lines in no order, with room for so many records in each call.
 fn whole_walk(bytes: usize, room: usize) -> f64 {
-    let area = lines_in_no_order(bytes);
+    let area = lines_in_no_order(bytes, 10);
     let lists = Lists::of(&area).expect("lists");
     let make = || (vec![1; room * RECORD], [0; LINE_STATE + 2]);
     timed(make, |(records, out)| loop {
