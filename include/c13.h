@@ -61,7 +61,7 @@ enum c13_refusal {
     C13_OFFSET_TOO_LARGE = 8,            /* section offset plus line offset or code size above 4,294,967,295 */
     C13_UNSORTED_EXPORTS = 9,            /* lookup in exports whose local indices are not strictly ascending */
     C13_NO_ROOM = 10,                    /* lent room too small */
-    C13_TOO_LONG = 11,                   /* area or stream above 16,777,216 bytes */
+    C13_TOO_LONG = 11,                   /* area, stream or body that is lent alone, above 16,777,216 bytes */
     C13_OLD_FORMAT = 12,                 /* C11 lines, or symbol signature not 4 */
     C13_NO_STRING_TABLE = 13,            /* string table signature not 0xEFFEEFFE */
     C13_HASH_VERSION = 14,               /* string hash version not 1 or 2 */
@@ -117,8 +117,8 @@ uint32_t c13_body_list(const uint8_t *area, size_t area_len, uint32_t *bodies, s
 /* WHAT THE BODY LIST IS FOR. The three calls below are lent both lists. No answer depends on `bodies`: it may be anything, and of length 0. With the list that
  * c13_body_list made of the same area a call costs at most some n log n steps, whatever area and slots are: n are the bytes of both, and a body that
  * several slots name counts for each of them. Without it, or with another list, a call over slots that go back in the area often costs up to n squared:
- * each slot that lies before the last one is searched from the area's start. With it at most the first such slot of a call is; at the next the list is
- * held against the area, in one pass, and then each slot is found in it by halving. */
+ * each slot that lies before the last one is searched from the area's start. With it, at the first such slot of a call, the list is held against the area,
+ * in one pass, and then each slot is found in it by halving. */
 
 /* The words of a line record, counted from its first. An optional number is 1 and the number, or 0 and 0. */
 enum c13_line_word {
@@ -214,7 +214,7 @@ uint32_t c13_resolve_import(const uint8_t *area, size_t area_len, uint32_t index
  *   out[0] how many places it takes */
 uint32_t c13_import_list(const uint8_t *area, size_t area_len, uint32_t *places, size_t places_len, uint64_t *out, size_t out_len);
 
-/* A cross-module reference resolved by a list, in some 40 instructions whatever the area's size. With the places that c13_import_list took of the same area,
+/* A cross-module reference resolved by a list, at a cost that does not depend on the area's size. With the places that c13_import_list took of the same area,
  * and no more than these, the answer is that of c13_resolve_import. With any other places C13_CUT where no whole module stands at the one that is picked.
  *   out[0] the module's name   out[1] the word */
 uint32_t c13_resolve_listed(const uint8_t *area, size_t area_len, const uint32_t *places, size_t places_len, uint32_t index, uint64_t *out,
@@ -241,7 +241,7 @@ uint32_t c13_export_body(const uint8_t *area, size_t area_len, uint64_t *out, si
  *   out[0] 0 a type, 1 an id   out[1] its local index   out[2] its global index */
 uint32_t c13_export_at(const uint8_t *body, size_t body_len, size_t i, uint64_t *out, size_t out_len);
 
-/* The global index of a local one in a body that is lent alone, by halving: some 10 instructions for each look, of which n exports take at most log n. Of the
+/* The global index of a local one in a body that is lent alone, by halving: n exports take at most log n looks. Of the
  * body that c13_export_body gave the answer is that of c13_resolve_export. The order of the local indices is not tested again: in a body where they do not
  * ascend one may be missed. C13_TOO_LONG above 16,777,216 bytes, then C13_EXPORT_LENGTH.
  *   out[0] the global index */
@@ -285,12 +285,13 @@ uint32_t c13_tables_part(const uint8_t *stream, size_t stream_len, uint32_t symb
  * LONG AREAS. A call tests all that is before its place, so the time of a sequence on one area grows with the square of its length. Subsections do not depend
  * on each other: areas that are written apart, each from place 0, and laid end to end are the area that all the calls write, and each call is answered the
  * same, refused ones too, but that its place counts from its area's start (proved: `all-joined`, `same-apart` of crates/round_trip). So write each
- * subsection as an area of its own into the free rest of the buffer. With `used` bytes written, and `end` the smaller of the buffer's length and 16,777,216:
+ * subsection as an area of its own into the free rest of the buffer. Keep `last`, where the last subsection begins, and `place`, which was last answered
+ * there, both 0 at first; `end` is the smaller of the buffer's length and 16,777,216:
  *
- *     a call that begins a subsection    buf + used, end - used, place 0
- *     a call that adds an entry to it    buf + used, end - used, the place last answered
+ *     a call that begins a subsection    buf + last + place, end - last - place, place 0; where it is given, add `place` to `last`, and out[0] is `place`
+ *     a call that adds an entry to it    buf + last, end - last, place; where it is given, out[0] is `place`
  *
- * and before the next subsection begins, add the place last answered to `used`. */
+ * A call that is refused changes neither. last + place bytes are written. */
 
 /* Whether an area is plain, which is what the writer makes: the full reading refuses nothing, and document 01's rules hold. C13_NONE: it is not.
  *   out[0] place of its last header   out[1] kind of its last subsection   out[2] its mark; all 0 in an empty area */

@@ -1,6 +1,6 @@
 -- The list of an area's line bodies: where they start, in the order of the area. Source: document 01, "Line subsections" (10 if there are more line
 -- subsections than slots) and "lent memory stays as found" of a refused call.
--- Definitions only; a reader must believe them, but for `subStart`, `startsFrom`: `order-starts` (order BuiltLaws) says what these mean.
+-- Definitions only; a reader must believe them, but for `subStart`, `startsFrom`: `body-starts`, `order-starts` (order BuiltLaws) say what these mean.
 use Prim.Native.Nat.{ℕ}
 use mathlib.Core.List.{List, [], _∷_, _++_, map}
 use mathlib.Core.Bool.{cond}

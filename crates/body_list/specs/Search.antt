@@ -15,7 +15,7 @@ use Rattle.find.specs.Find.{Span}
 use Rattle.lines.specs.Slots.{slotAt}
 use Rattle.body_list.specs.BodyList.{startsFrom}
 use Rattle.body_list.specs.declared.Known.{Known}
-use Rattle.body_list.specs.declared.Known.the-variants.{Nothing, Place, Bodies, Other}
+use Rattle.body_list.specs.declared.Known.the-variants.{Nothing, Bodies, Other}
 use Rattle.body_list.specs.declared.Begin.{Begin}
 
 -- ---- halving: a look for u at the middle of the slots from a to e, and then f of the half that is left
@@ -60,8 +60,7 @@ beginHeld rule s b u p = cond (isAreas rule s b) (record { place = beginIn b u p
 
 -- a body that does not lie behind p is a step back
 unfoldable pub beginOf : (ℕ → Sort) → List ℕ → List ℕ → Known → ℕ → ℕ → Begin
-beginOf rule s b Nothing u p = cond (ltb p u) (record { place = p; known = Nothing }) (record { place = p; known = Place })
-beginOf rule s b Place u p = cond (ltb p u) (record { place = p; known = Place }) (beginHeld rule s b u p)
+beginOf rule s b Nothing u p = cond (ltb p u) (record { place = p; known = Nothing }) (beginHeld rule s b u p)
 beginOf rule s b Bodies u p = record { place = beginIn b u p; known = Bodies }
 beginOf rule s b Other u p = record { place = p; known = Other }
 

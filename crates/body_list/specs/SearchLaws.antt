@@ -22,19 +22,15 @@ use Rattle.body_list.specs.Search.{halved, sameList, isAreas, beginIn, b
 use Rattle.body_list.specs.HalvingLaws.{In, found-in}
 use Rattle.body_list.specs.PlacesLaws.{list-scans}
 use Rattle.body_list.specs.declared.Known.{Known}
-use Rattle.body_list.specs.declared.Known.the-variants.{Nothing, Place, Bodies, Other}
+use Rattle.body_list.specs.declared.Known.the-variants.{Nothing, Bodies, Other}
 use Rattle.body_list.specs.declared.Begin.{Begin}
 use Rattle.body_list.specs.declared.Located.{Located}
 
 -- what is known is true of the list b, and of the place p at which a search may begin
 abbrev pub Right : (ℕ → Sort) → List ℕ → List ℕ → Known → ℕ → Type 0
 Right rule s b Nothing p = Unit {0}
-Right rule s b Place p = Scans rule s p
 Right rule s b Bodies p = Scans rule s p × (b ≡ startsFrom rule s 0)
-Right rule s b Other p = Scans rule s p
-
-pub right-start : (rule : ℕ → Sort) (s b : List ℕ) → Right rule s b Place 0
-right-start rule s b = scans-start rule s
+Right rule s b Other p = Unit {0}
 
 same-are : (xs ys : List ℕ) → sameList xs ys ≡ true → xs ≡ ys
 unfolding sameList
@@ -75,28 +71,33 @@ module _ (rule : ℕ → Sort) (s v b : List ℕ) where
     same : slotAt rule s v i (g .place) ≡ slotAt rule s v i p
     behind : (a : Span) → gave a ≡ slotAt rule s v i (g .place) → Right rule s b (g .known) (a .start + a .len)
 
-  place-sound : (i p : ℕ) → Scans rule s p → Sound i p (record { place = p; known = Place })
-  place-sound i p g = record { same = refl; behind = slot-scans rule s v i p g }
-
-  other-sound : (i p : ℕ) → Scans rule s p → Sound i p (record { place = p; known = Other })
-  other-sound i p g = record { same = refl; behind = slot-scans rule s v i p g }
-
   bodies-sound : (i p : ℕ) → Scans rule s p → b ≡ startsFrom rule s 0 → Sound i p (record { place = beginIn b (getD v i 0) p; known = Bodies })
   bodies-sound i p g e =
       let q = beginIn b (getD v i 0) p in
       let f = in-right (getD v i 0) p e g in
       record { same = slot-same rule s v i q p f g; behind = λ a k. (slot-scans rule s v i q f a k, e) }
 
+  -- a step back, found in the area's list
+  back-begin : (i p : ℕ) → getD v i 0 ≤ p → b ≡ startsFrom rule s 0 → slotAt rule s v i (beginIn b (getD v i 0) p) ≡ slotAt rule s v i p
+  unfolding beginIn
+  back-begin i p h e =
+      let u = getD v i 0 in
+      by-cases (λ (k : ℕ). slotAt rule s v i k ≡ slotAt rule s v i p) (ltb u 8) (λ f. refl)
+      (λ f. by-cases (λ (k : ℕ). slotAt rule s v i k ≡ slotAt rule s v i p) (halved u b 0 (length b))
+      (λ q. slot-same rule s v i (u - 8) 0 (list-scans rule s u (subst (In u) e (found-in u b q))) (scans-start rule s) ∙ sym (back-same i p h))
+      (λ q. refl))
+
+  back-sound : (i p : ℕ) → getD v i 0 ≤ p → b ≡ startsFrom rule s 0 → Sound i p (record { place = beginIn b (getD v i 0) p; known = Bodies })
+  back-sound i p h e = let q = back-begin i p h e in record { same = q; behind = λ a k. (back-scans i p h a (k ∙ q), e) }
+
   begin-sound : (k : Known) (i p : ℕ) → Right rule s b k p → Sound i p (beginOf rule s b k (getD v i 0) p)
   unfolding beginHeld beginOf
   begin-sound Nothing i p g =
       by-cases (Sound i p) (ltb p (getD v i 0)) (λ e. record { same = refl; behind = λ a k. tt })
-      (λ e. record { same = refl; behind = back-scans i p (ltb-false p (getD v i 0) e) })
-  begin-sound Place i p g =
-      by-cases (Sound i p) (ltb p (getD v i 0)) (λ e. place-sound i p g)
-      (λ e. by-cases (Sound i p) (isAreas rule s b) (λ f. bodies-sound i p g (same-are b (startsFrom rule s 0) f)) (λ f. other-sound i p g))
+      (λ e. let h = ltb-false p (getD v i 0) e in
+      by-cases (Sound i p) (isAreas rule s b) (λ f. back-sound i p h (same-are b (startsFrom rule s 0) f)) (λ f. record { same = refl; behind = λ a k. tt }))
   begin-sound Bodies i p g = bodies-sound i p (g .0) (g .1)
-  begin-sound Other i p g = other-sound i p g
+  begin-sound Other i p g = record { same = refl; behind = λ a k. tt }
 
   module _ (k : Known) (i p : ℕ) (g : Right rule s b k p) where
     -- THE THEOREM: the body is the one that the search without the list finds

@@ -6,25 +6,20 @@ use mathlib.Core.Logic.{⊎-elim}
 use mathlib.Core.Bool.{Bool, true, false, _&&_}
 use native.Mathlib.Omega.{arith}
 use native.Mathlib.Numerals.{add-one}
-use lib.ListN.{length, getD, take, drop, drop-of-length-le}
+use lib.ListN.{length, getD, drop, drop-of-length-le}
 use lib.Seq.{drop-cons}
 use lib.Dec.{ltb, leb, eqb}
 use borrow.Author.Tests.{leb-false, eq-eqb, ne-eqb}
-use Rattle.word.specs.Word.{u32At}
-use Rattle.word.specs.WordLaws.{u32-take, u32-drop}
 use Rattle.walk.specs.Cases.{tests, by-cases, le-or-gt}
-use Rattle.walk.specs.Listing.{Reply, gave, refused, gives}
+use Rattle.walk.specs.Listing.{Reply, refused}
 use Rattle.refusal.specs.Told.{Told, told}
 use Rattle.refusal.specs.declared.Refusal.the-variants as why
-use Rattle.area.specs.Kind.{Sort, crateRule}
-use Rattle.area.specs.Subs.{stepAt}
-use Rattle.area.specs.SubsLaws.{whole-known, head-whole, step-gives}
+use Rattle.area.specs.Kind.{Sort}
 use Rattle.find.specs.Find.{Span}
 use Rattle.lines.specs.Slots.{slotAt}
-use Rattle.lines.specs.SlotsLaws.{seek-hit, scan-on, slot-is}
 use Rattle.body_list.specs.Search.{halved, sameList, isAreas, beginIn, beginHeld, beginOf, foundFrom, foundBody}
 use Rattle.body_list.specs.declared.Known.{Known}
-use Rattle.body_list.specs.declared.Known.the-variants.{Nothing, Place, Bodies, Other}
+use Rattle.body_list.specs.declared.Known.the-variants.{Nothing, Bodies, Other}
 use Rattle.body_list.specs.declared.Begin.{Begin}
 use Rattle.body_list.specs.Looks.{holds}
 
@@ -92,12 +87,6 @@ module _ (b : List ℕ) (u p : ℕ) where
   unfolding beginIn
   in-missed h e = sym (simp (tests, sym e))
 
-  -- at the header it begins there in any case
-  in-place : p ≡ u - 8 → p ≡ beginIn b u p
-  unfolding beginIn
-  in-place e =
-      by-cases (λ (k : ℕ). p ≡ k) (ltb u 8) (λ f. refl) (λ f. by-cases (λ (k : ℕ). p ≡ k) (halved u b 0 (length b)) (λ g. e) (λ g. refl))
-
 module _ (rule : ℕ → Sort) (s b : List ℕ) (u p : ℕ) where
   pub held-areas : true ≡ isAreas rule s b → (g : ℕ) → g ≡ beginIn b u p → record { place = g; known = Bodies } ≡ beginHeld rule s b u p
   unfolding beginHeld
@@ -114,18 +103,9 @@ module _ (rule : ℕ → Sort) (s b : List ℕ) (u p : ℕ) where
       unfolding beginOf
       nothing-on h = sym (simp tests) ∙ ap (λ (x : Known). beginOf rule s b x u p) (sym e)
 
-      pub nothing-back : u ≤ p → record { place = p; known = Place } ≡ beginOf rule s b k u p
+      pub nothing-back : u ≤ p → (g : Begin) → g ≡ beginHeld rule s b u p → g ≡ beginOf rule s b k u p
       unfolding beginOf
-      nothing-back h = sym (simp tests) ∙ ap (λ (x : Known). beginOf rule s b x u p) (sym e)
-
-    module _ (e : k ≡ Place) where
-      pub place-on : p < u → record { place = p; known = Place } ≡ beginOf rule s b k u p
-      unfolding beginOf
-      place-on h = sym (simp tests) ∙ ap (λ (x : Known). beginOf rule s b x u p) (sym e)
-
-      pub place-back : u ≤ p → (g : Begin) → g ≡ beginHeld rule s b u p → g ≡ beginOf rule s b k u p
-      unfolding beginOf
-      place-back h g q = q ∙ sym (simp tests) ∙ ap (λ (x : Known). beginOf rule s b x u p) (sym e)
+      nothing-back h g q = q ∙ sym (simp tests) ∙ ap (λ (x : Known). beginOf rule s b x u p) (sym e)
 
     pub bodies-in : k ≡ Bodies → (g : ℕ) → g ≡ beginIn b u p → record { place = g; known = Bodies } ≡ beginOf rule s b k u p
     unfolding beginOf

@@ -1,8 +1,8 @@
 // The list of an area's line bodies in the order of the area, and the search for the body that a slot of another list names, which may go by it.
 //
 // A walk that steps back in the area would search from its start each time. Where the lent list is just the area's, each further body is found in it
-// by halving. It is held against the area once: at the first step back of a walk whose place is known to be one, and at the second of any other. A
-// caller that starts with `Nothing`, or at 0 with `Place`, and hands on what it is answered, finds the same bodies with any list.
+// by halving. It is held against the area once, at the first step back. A caller that starts with `Nothing`, and hands on what it is answered, finds the
+// same bodies with any list.
 ghost use mathlib.Core.Path.{_≡_};
 ghost use Prim.Native.Nat.{_≤_};
 ghost use mathlib.Core.List.{_++_};
@@ -70,11 +70,10 @@ pub fn body_list(area: &[u8], bodies: &mut [u32]) -> Counted
     }
 }
 
-// What a call has found out so far: nothing; that the place where a search may begin is one that the subsections come to; that, and that the lent
-// list is the area's; that, and that the list is another.
+// What a call has found out so far: nothing; that the lent list is the area's, and that the subsections come to the place where a search may begin; or
+// that the list is another.
 pub enum Known {
     Nothing,
-    Place,
     Bodies,
     Other,
 }
@@ -183,8 +182,7 @@ fn begin_held(area: &[u8], bodies: &[u32], body: usize, scan: usize) -> Begin
     }
 }
 
-// A body that does not lie behind `scan` is a step back: the search goes through the area from its start. That shows that the place behind the body is
-// one that the subsections come to; a step back from such a place is worth a look at the list.
+// A body that does not lie behind `scan` is a step back, which would be searched for from the area's start: it is worth a look at the list.
 fn begin_of(area: &[u8], bodies: &[u32], known: Known, body: usize, scan: usize) -> Begin
     ensures { λ r. ⌜ r ≡ beginOf crateRule (now (area .entry)) (now (bodies .entry)) known body scan ⌝ }
 {
@@ -194,18 +192,6 @@ fn begin_of(area: &[u8], bodies: &[u32], known: Known, body: usize, scan: usize)
                 return Begin {
                     place: scan,
                     known: Known::Nothing,
-                };
-            }
-            Begin {
-                place: scan,
-                known: Known::Place,
-            }
-        }
-        Known::Place => {
-            if scan < body {
-                return Begin {
-                    place: scan,
-                    known: Known::Place,
                 };
             }
             begin_held(area, bodies, body, scan)

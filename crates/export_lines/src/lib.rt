@@ -9,7 +9,8 @@ ghost use Prim.Native.Nat.{_≤_};
 ghost use Rattle.area.specs.Kind.{crateRule};
 ghost use Rattle.answer_words.specs.Given.{Gives, given};
 ghost use Rattle.answer_words.specs.FillGiven.{answerStatus, askedSize};
-ghost use Rattle.export_lines.specs.Calls.{orderGiven, slotsLeft, bodiesGiven, bodiesLeft, lineGiven, symbolGiven, holdsOne, overWalk, linesGiven, recordsLeft};
+ghost use Rattle.export_lines.specs.Calls.{orderGiven, slotsLeft, bodiesGiven, bodiesLeft, lineGiven};
+ghost use Rattle.export_lines.specs.Calls.{symbolGiven, holdsOne, overWalk, linesGiven, recordsLeft};
 ghost use Rattle.line_state_words.specs.LineWords.{stateSize, lineWalkWords};
 use answer_words::GIVEN;
 use answer_words::NONE;
@@ -78,7 +79,7 @@ pub fn next_line(area: &[u8], slots: &[u32], bodies: &[u32], out: &mut [u64]) ->
     }
 }
 
-// The lines of a symbol: the state of a walk that `next_line` steps.
+// The lines of a symbol: the state of a walk that `next_line` and `lines` step.
 pub fn lines_for_symbol(
     area: &[u8],
     slots: &[u32],

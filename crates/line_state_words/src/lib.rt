@@ -196,7 +196,7 @@ fn kind_word(k: LineKind) -> u32
 }
 
 // A record at a place, in words of 64 bits, as a state has it. Where its words do not fit nothing is put.
-pub fn put_record(out: &mut [u64], at: usize, r: LineRecord)
+fn put_record(out: &mut [u64], at: usize, r: LineRecord)
     ensures { λ _. ⌜ now (out .exit) ≡ store (now (out .entry)) at (recordWords r) ⌝ }
 {
     let length = r.length;

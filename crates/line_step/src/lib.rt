@@ -7,7 +7,8 @@ ghost use mathlib.Core.Path.{_≡_};
 ghost use Prim.Native.Nat.{_+_, _-_, _*_, _≤_, _<_, _^_};
 ghost use Rattle.area.specs.Kind.{crateRule};
 ghost use Rattle.line_record.specs.Told.{toldLineEntry};
-ghost use Rattle.line_step.specs.Turn.{sourceOf, lineEntryAt, freshRest, withHeld, pastLines, holdOf, lineTurn, columnPlace, nextBlock, endHeld, endOf, blockTurn, insideTurn, placeAt, enterPlace, behindBody, subTurn, finishOf, betweenTurn, openOf, turnOf};
+ghost use Rattle.line_step.specs.Turn.{sourceOf, lineEntryAt, freshRest, withHeld, pastLines, holdOf, lineTurn, columnPlace, nextBlock, endHeld};
+ghost use Rattle.line_step.specs.Turn.{endOf, blockTurn, insideTurn, placeAt, enterPlace, behindBody, subTurn, finishOf, betweenTurn, openOf, turnOf};
 ghost use Rattle.lines.specs.Lines.{countLines};
 ghost use Rattle.line_step.specs.Told.{toldNextBlock, toldEndBody, toldEntered, toldTurn};
 use line_record::Entry;
@@ -354,7 +355,7 @@ fn sub_turn(area: &[u8], slots: &[u32], t: Rest) -> Turn
 }
 
 // No subsection is left: the held record is ready.
-pub fn finish(t: Rest) -> Turn
+fn finish(t: Rest) -> Turn
     ensures { λ r. ⌜ toldTurn r ≡ finishOf t ⌝ }
 {
     let held = t.held;

@@ -24,7 +24,7 @@ use Rattle.line_state_words.specs.LineWordsLaws.{record-length}
 use Rattle.lines.specs.Lines.{countLines}
 use Rattle.lines.specs.LinesLaws.{counted-short}
 use Rattle.lines.specs.Slots.{slotAt}
-use Rattle.lines.specs.SlotsLaws.{seek-hit, scan-on, slot-is, slot-missing, slot-scans, scans-start}
+use Rattle.lines.specs.SlotsLaws.{seek-hit, scan-on, slot-is, slot-missing, slot-scans}
 use Rattle.lines.specs.Told.{toldNamed}
 use Rattle.lines.specs.declared.Named.{Named}
 use Rattle.body_list.specs.SearchLaws.{Right}
@@ -107,9 +107,8 @@ module _ (rule : ℕ → Sort) (s v b : List ℕ) (i p : ℕ) where
   -- what is known stays so behind a body that is found from there on
   right-on : (k : Known) → Right rule s b k p → (a : Span) → gave a ≡ slotAt rule s v i p → Right rule s b k (a .start + a .len)
   right-on known.Nothing g a e = tt
-  right-on known.Place g a e = slot-scans rule s v i p g a e
   right-on known.Bodies g a e = (slot-scans rule s v i p (g .0) a e, g .1)
-  right-on known.Other g a e = slot-scans rule s v i p g a e
+  right-on known.Other g a e = tt
 
   pub located-as : (k : Known) (x : Named) → Knows rule s b k p → toldNamed x ≡ slotAt rule s v i p → LocatedIs rule s v b i p (record { named = x; known = k })
   located-as k x g e = record { named = e; known = λ a q. record { so = right-on k (g .so) a (q ∙ e) } }
@@ -177,13 +176,13 @@ module _ (rule : ℕ → Sort) (s v : List ℕ) where
 
     -- a new walk; k is how many line subsections there are
     pub stand-new : (w : LineWalk) (k : ℕ) (p : Place) (t : Rest) → w ≡ New → gave k ≡ countLines rule s → t ≡ freshRest 0 k
-        → StandOf rule s v b w (record { inside = false; place = p; rest = t; known = known.Place })
+        → StandOf rule s v b w (record { inside = false; place = p; rest = t; known = known.Nothing })
     stand-new w k p t ew e et =
         let f = counted-short rule s k e in
         let q : pass (Between t) ≡ turnOf rule s v w = ap (λ x. pass (Between x)) et ∙ ap openOf e ∙ turn-is rule s v w f New ew in
         record {
           short = f;
-          known = subst⁻¹ (λ x. Knows rule s b known.Place (x .scan)) et (record { so = scans-start rule s });
+          known = knows-nothing rule s b (t .scan);
           turns = λ room n o l. turns-put-pass rule s v room l (Between t) q;
         }
 
@@ -240,9 +239,6 @@ module _ (rule : ℕ → Sort) (s v : List ℕ) (n : ℕ) (w : LineWalk) (o : Li
         ends = k .ends;
         exactly = λ z w₁ o₁ e g. ap (λ u. u .last) (turns-put-both rule s v room f (k .turns) w₁ o₁ e g) ∙ k .exactly z w₁ o₁ e (f .under-way w₁ o₁ e g);
       }
-
-  pub bodies-none : BodiesPut rule s v n w o (record { n = n; walk = w; over = false }) o
-  bodies-none = record { size = refl; turns = turns-put-same rule s v (length o / recordSize); ends = not-so; exactly = not-so }
 
   pub bodies-last : (m : ℕ) (t u : Rest) (o′ o″ : List ℕ) (r : LineRecord) → Comes m (Between t) o′ → m < length o / recordSize → length s ≤ longest → t .left ≡ 0 → t .held ≡ One r
       → u ≡ withHeld t Nothing → o″ ≡ store o′ (recordSize * m) (recordWords r) → recordSize * m + recordSize ≤ length o′

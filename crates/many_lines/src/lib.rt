@@ -3,8 +3,8 @@
 //
 // The records before an end or a refusal are given first, and the next call, from the walk answered, tells it.
 //
-// A turn tells every answer. Between two turns the walk goes on body after body, as far as nothing is to be told (`bodies_from`). The area's list of line bodies
-// may be lent beside the slots, so that each body is found soon; no answer depends on it.
+// A turn tells where there is no record, and why. Between two turns the walk goes on body after body, as far as nothing else is to be told
+// (`bodies_from`). The area's list of line bodies may be lent beside the slots, so that each body is found soon; no answer depends on it.
 ghost use mathlib.Core.Path.{_≡_};
 ghost use Prim.Native.Nat.{_+_, _*_, _/_, _<_, _≤_};
 ghost use mathlib.Core.Bool.{false};
@@ -17,7 +17,8 @@ ghost use Rattle.line_state_words.specs.LineWords.{recordSize, recordWords};
 ghost use Rattle.line_step.specs.declared.LineWalk.the-variants.{New};
 ghost use Rattle.many_lines.specs.Lines.{linesOf, linesCounted, linesFilled};
 ghost use Rattle.many_lines.specs.Told.{toldLines};
-ghost use Rattle.many_lines.specs.Bodies.{LookedIs, Knows, LocatedIs, OnwardIs, LastIs, standsAt, StandsFor, BodiesPut, toldEnd, StopsAt, FilledBy, Answers, Refilled, withoutRoom};
+ghost use Rattle.many_lines.specs.Bodies.{LookedIs, Knows, LocatedIs, OnwardIs, LastIs, standsAt, StandsFor};
+ghost use Rattle.many_lines.specs.Bodies.{BodiesPut, toldEnd, StopsAt, FilledBy, Answers, Refilled, withoutRoom};
 use body_lines::body_lines;
 use body_list::Known;
 use body_list::Located;
@@ -283,7 +284,7 @@ fn stand_new(area: &[u8]) -> Standing
                 inside: false,
                 place,
                 rest,
-                known: Known::Place,
+                known: Known::Nothing,
             })
         }
         Counted::Refused(_) => Standing::No,

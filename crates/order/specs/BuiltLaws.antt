@@ -201,3 +201,7 @@ module _ (rule : ℕ → Sort) (s : List ℕ) (n : ℕ) (e : gave n ≡ countLin
 pub built : (rule : ℕ → Sort) (s xs : List ℕ) (n : ℕ) → gave n ≡ ordered rule s (length xs) → listOf rule s (slotsAfter rule s xs) ≡ before (inOrder rule s) ends
 built rule s xs n e =
     ap (λ x. listOf rule s (slotsBy rule s xs x)) (sym e) ∙ built-list rule s n (listed-counted (length xs) (countLines rule s) n e) (drop n xs)
+
+-- THE THEOREM for the list of bodies: it holds where the line bodies start, in the order of the area
+pub body-starts : (rule : ℕ → Sort) (s : List ℕ) → map bodyStart (lineBodies rule s) ≡ startsFrom rule s 0
+body-starts rule s = sym (map-map (bodyOf s) bodyStart (listed (only (is 0xf2) (subsFrom rule s 0))))

@@ -2,9 +2,9 @@
 -- what is left. It says what `writer_decides` Calls means, which the contracts of the writer's functions cite.
 --
 -- To check what is said here a reader needs Listed.antt and InWords.antt of this crate (plain areas; `in-words` and `listed-in-words` of InWordsLaws say that
--- `Plain` is what document 01 says in words), Reading.antt of `reading` and, of Calls.antt of `writer_decides`, `itemKind` and `limit`, and no proof. The
--- statement is `Decided`; the name below it proves it. What stands behind the written bytes is as it was: `Careful` of Demand. That the bytes of a plain
--- area are those that the writer makes of what it lists is `MadeAgain` of Demand.
+-- `Plain` is what document 01 says in words; above 16,777,216 bytes also Plain.antt of `plain`), Reading.antt of `reading` and, of Calls.antt of
+-- `writer_decides`, `itemKind` and `limit`, and no proof. The statement is `Decided`; the name below it proves it. What stands behind the written bytes is as
+-- it was: `Careful` of Demand. That the bytes of a plain area are those that the writer makes of what it lists is `MadeAgain` of Demand.
 use Prim.Native.Nat.{ℕ, _<_, _≤_}
 use mathlib.Core.Path.{_≡_}
 use mathlib.Core.Logic.{_⊎_}
@@ -40,11 +40,11 @@ module _ (it : Item) (b : List ℕ) (w : ℕ) (xs : List Item) where
   abbrev pub Is17 : Type 0
   Is17 = InPlace xs it × ((s : List ℕ) → ListsWith xs it s → ⊥) × (answered it b w ≡ refused (told why.NotPlain))
 
-  -- number 10: the area that lists it exceeds the smaller of the buffer and the longest area
+  -- number 10: an area that lists it exceeds the smaller of the buffer and the longest area
   abbrev pub Is10 : Type 0
   Is10 = (s : List ℕ) × ListsWith xs it s × (limit (length b) < length s) × (answered it b w ≡ refused (told why.NoRoom))
 
-  -- accepted: the area that lists it is there, and the answer is the place behind it
+  -- accepted: an area that lists it is there, and the answer is the place behind it
   abbrev pub IsWritten : Type 0
   IsWritten =
       (s : List ℕ) × ListsWith xs it s × (length s ≤ limit (length b)) × (answered it b w ≡ gave (length s)) × (take (length s) (bufferAfter it b w) ≡ s)

@@ -5,12 +5,12 @@ use mathlib.Core.Logic.{_⊎_, inl, inr, ⊎-elim}
 use mathlib.Core.List.{List, [], _∷_, _++_}
 use mathlib.Core.Option.{some}
 use native.Mathlib.Omega.{arith}
-use lib.ListN.{length, drop}
-use lib.Seq.{drop-at}
+use lib.ListN.{length, take, drop}
+use lib.Seq.{take-at, drop-at}
 use Rattle.word.specs.Word.{Bytes}
 use Rattle.walk.specs.Listing.{more, ends, before}
 use Rattle.refusal.specs.Told.{longest}
-use Rattle.area.specs.Parts.{parts}
+use Rattle.area.specs.Parts.{Raw, parts}
 use Rattle.area.specs.Kind.{crateRule}
 use Rattle.area.specs.Join.{join}
 use Rattle.area.specs.JoinLaws.{parts-whole, join-append}
@@ -24,9 +24,9 @@ use Rattle.round_trip.specs.Listed.{kindAfter, markAfter}
 use Rattle.round_trip.specs.ExactLaws.{last-after}
 use Rattle.round_trip.specs.Demand.{crate-knows, plain-short}
 
--- the last subsection of s begins at a place and is of a kind
+-- the last subsection of s begins at a place, before which whole subsections stand, and is of a kind
 abbrev pub LastAt : List ℕ → ℕ → ℕ → Type 0
-LastAt s p k = (b : List ℕ) × (parts (drop p s) ≡ more (record { kind = k; body = b }) ends)
+LastAt s p k = ((rs : List Raw) × (parts (take p s) ≡ before rs ends)) × ((b : List ℕ) × (parts (drop p s) ≡ more (record { kind = k; body = b }) ends))
 
 pub record LastIs (s : List ℕ) (l : Last) : Type 0 where
   pub calls : List Item
@@ -45,10 +45,17 @@ last-at ss v =
     let d : drop (lastOf 0 nothing-yet ss .header) (join (rawsOf ss)) ≡ join (rawSec (v .last) ∷ []) =
     ap (λ (x : List ℕ). drop (lastOf 0 nothing-yet ss .header) x) e
     ∙ drop-at J (join (rawSec (v .last) ∷ [])) (lastOf 0 nothing-yet ss .header)
+    (let x : lastOf 0 nothing-yet ss .header ≡ 0 + length J = ap (λ (x : Last). x .header) l in omega arith) in
+    let f : take (lastOf 0 nothing-yet ss .header) (join (rawsOf ss)) ≡ J =
+    ap (λ (x : List ℕ). take (lastOf 0 nothing-yet ss .header) x) e
+    ∙ take-at J (join (rawSec (v .last) ∷ [])) (lastOf 0 nothing-yet ss .header)
     (let x : lastOf 0 nothing-yet ss .header ≡ 0 + length J = ap (λ (x : Last). x .header) l in omega arith) in (
-      bodySec (v .last),
-      ap parts d ∙ parts-whole (rawSec (v .last) ∷ [])
-          ∙ ap (λ (k : ℕ). more (record { kind = k; body = bodySec (v .last) }) ends) (sym (ap (λ (x : Last). x .kind) l)),
+      (rawsOf (v .init), ap parts f ∙ parts-whole (rawsOf (v .init))),
+      (
+        bodySec (v .last),
+        ap parts d ∙ parts-whole (rawSec (v .last) ∷ [])
+            ∙ ap (λ (k : ℕ). more (record { kind = k; body = bodySec (v .last) }) ends) (sym (ap (λ (x : Last). x .kind) l)),
+      ),
     )
 
 moved-at : (s t : List ℕ) (l m : Last) → t ≡ s → l ≡ m → LastAt t (m .header) (m .kind) → LastAt s (l .header) (l .kind)

@@ -1,6 +1,7 @@
 -- A plain area, its length aside: number 11 is tested before all else, and is no rule of plain areas. What such an area lists, its length aside, is what
 -- its full reading lists where it is short enough to have one (`listed-reads` of ListedLaws). Source: document 01, "Writer and plain areas": number
--- 17 is what would break the rules other than by refusal 11.
+-- 17 is what would break the rules other than by refusal 11. Up to 16,777,216 bytes it is plain in document 01's words (`listed-in-words` of InWordsLaws);
+-- above, where it tells 10 from 17 alone, `plainFrom` of plain must be read.
 -- Definitions only; a reader must believe them.
 use Prim.Native.Nat.{ℕ, _+_, _%_}
 use mathlib.Core.Path.{_≡_}

@@ -1,5 +1,5 @@
 // The lines of a symbol (crate: `LineProgram::lines_for_symbol`): which one subsection of the order list they stand in, as a walk over that one alone.
-// `line_walk::next_line` steps it.
+// `line_walk::next_line` and `many_lines::next_lines` step it.
 //
 // The crate searches its sorted list by halves. Here the list is lent and may be wrong, so that each slot on the way is looked at; the area is
 // passed over once if the bodies ascend in it as in the list, and a few times at most where the area's list of bodies is lent beside it.
@@ -75,7 +75,7 @@ fn find_slot(
     ensures { λ r. ⌜ toldSymbol r ≡ walkTo (slotIn section offset (named (bodyAt crateRule (now (area .entry))) n (now (slots .entry)))) ⌝ }
 {
     let mut best = Best::None;
-    let mut known = Known::Place;
+    let mut known = Known::Nothing;
     let mut scan: usize = 0;
     let mut i: usize = 0;
     while i < n {

@@ -89,7 +89,7 @@ find-slot-spec =
     (tie.spec
     Inv-loop
     μ-loop
-    (λ c. (best-start _ _ _ _ _ _, scans-start _ _, scans-start _ _))
+    (λ c. (best-start _ _ _ _ _ _, scans-start _ _, tt))
     (λ c κs. search needs)
     (λ c. search needs)
     add-end
