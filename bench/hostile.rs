@@ -79,7 +79,7 @@ const AREAS: [Hostile; 18] = [
     ("import modules of no words", |n| one(n, 0xf7, &[], |i| [i, 0])),
     ("one import module", |n| one(n, 0xf7, &[5, (n as u32 - 16) / 4], |i| [i])),
     ("exports", |n| one(n, 0xf8, &[], |i| [i, i])),
-    ("exports, the last one not in order", |n| [one(n - 8, 0xf8, &[], |i| [i + 1, i]), vec![]].concat()),
+    ("exports, the last one not in order", |n| subsection(0xf8, &bytes_of((0..(n as u32 - 16) / 8).flat_map(|i| [i + 1, i]).chain([0, 0])))),
     ("one name without an end", |n| names(n, b'a', b'a')),
     ("one name", |n| names(n, b'a', 0)),
     ("empty names", |n| names(n, 0, 0)),

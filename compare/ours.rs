@@ -122,6 +122,7 @@ impl Block {
                 Said::Given | Said::Last if told => break "a record behind the last".into(),
                 Said::Given => {}
                 Said::Last => told = true,
+                Said::None if !told && !stepped.is_empty() => break "an end that was not told".into(),
                 Said::None => break "end".into(),
                 Said::Refused(why) => break why,
             }

@@ -7,7 +7,8 @@ use std::iter::FusedIterator;
 
 /// A C13 area: the debug subsections of a module, one behind the other.
 ///
-/// It is lent bytes and nothing else. Each call reads them anew, and none trusts what another has found.
+/// It is lent bytes and nothing else. Each of its calls reads them anew; a [`LineProgram`], [`CrossModuleImports`] or [`CrossModuleExports`] keeps what it
+/// found.
 #[derive(Clone, Copy, Debug)]
 pub struct Area<'a> {
     bytes: &'a [u8],
@@ -77,7 +78,7 @@ impl<'a> Area<'a> {
         InlineeIterator::new(self.bytes)
     }
 
-    /// What it takes from other modules, from its first subsection of imports; without one there is nothing.
+    /// What it takes from other modules, from its first subsection of imports; without one there is nothing. A table that is refused is told by each lookup.
     pub fn imports(&self) -> CrossModuleImports<'a> {
         CrossModuleImports::new(self.bytes)
     }

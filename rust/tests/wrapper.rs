@@ -190,7 +190,7 @@ fn tables_are_read() {
     assert_eq!(imports.resolve_import(0x8000_0001), Ok(CrossModuleRef(ModuleRef(StringRef(5)), 0x1004)));
     assert_eq!(imports.resolve_import(0x8020_0000), Err(Refusal::CrossModuleRefNotFound(0x8020_0000)));
     assert_eq!(imports.resolve_import(1), Err(Refusal::NotACrossModuleRef(1)));
-    // the whole table first, at each lookup
+    // the table is read once, and each lookup tells its refusal
     let cut = subsection(0xf7, &[5, 2, 0x1003]);
     let imports = Area::new(&cut).imports();
     assert_eq!((imports.resolve_import(0x8000_0000), imports.clone().resolve_import(1)), (Err(Refusal::Cut), Err(Refusal::Cut)));

@@ -329,7 +329,7 @@ static void fail(const struct function *f, const char *why) {
 /* Another body list in the place of the one that is lent: of the same length, each place by one too far; by one shorter; none. */
 static void another_body_list(int which) {
     if (which == 0)
-        for (size_t i = 1; i <= bodies_used; i++) bodies_end[-i]++;
+        for (size_t i = 1; i <= bodies_used; i++) bodies_end[-(ptrdiff_t)i]++;
     else
         bodies_used = which == 1 && bodies_used ? bodies_used - 1 : 0;
 }
@@ -361,7 +361,7 @@ static uint32_t tried(const struct function *f, const uint8_t *bytes, size_t n, 
     if (!answered(again) && memcmp(kept, records, sizeof kept)) fail(f, "records without an answer");
     memcpy(kept, records, sizeof kept);
     memcpy(first, out, 8 * m);
-    memcpy(out, state, 8 * m);
+    memcpy(out, state, 8 * m), memset(records, 0xee, sizeof kept);
     status = f->f(bytes, n, out, m);
     if (status != again || memcmp(first, out, 8 * m) || memcmp(kept, records, sizeof kept)) fail(f, "another answer to the same");
     if (f->f == next_line || f->f == lines || f->f == symbol) other_bodies(f, bytes, n, state, m, status);
@@ -435,7 +435,7 @@ static void lists_by_chance(const uint8_t *area, size_t n) {
         for (size_t i = 0; i < places_used; i++) places[i] = (uint32_t)number_by_chance();
     if (chance() % 2) return;
     bodies_used = chance() % 16;
-    for (size_t i = 1; i <= bodies_used; i++) bodies_end[-i] = (uint32_t)number_by_chance();
+    for (size_t i = 1; i <= bodies_used; i++) bodies_end[-(ptrdiff_t)i] = (uint32_t)number_by_chance();
 }
 
 /* Bytes cut, spoilt and by chance, with states, slots and numbers by chance. */
