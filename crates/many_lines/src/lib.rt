@@ -230,7 +230,7 @@ fn bodies_on(
             p = x.place;
             t = with_held(t, last);
             if x.stuck {
-                return stuck(n, LineWalk::Inside(p, t));
+                return Reached { n, walk: LineWalk::Inside(p, t), over: false };
             }
             let head = p.head;
             match end_body(head, last) {
@@ -239,7 +239,7 @@ fn bodies_on(
                     t = with_held(t, closing);
                 }
                 EndBody::Refused(_) => {
-                    return stuck(n, LineWalk::Inside(p, t));
+                    return Reached { n, walk: LineWalk::Inside(p, t), over: false };
                 }
             }
         } else {
@@ -254,7 +254,7 @@ fn bodies_on(
                     known = after;
                 }
                 Onward::Stays => {
-                    return stuck(n, LineWalk::Between(t));
+                    return Reached { n, walk: LineWalk::Between(t), over: false };
                 }
             }
         }

@@ -14,7 +14,7 @@ use Rattle.line_step.specs.Turn.{endHeld}
 use Rattle.line_step.specs.Told.{toldEndBody}
 use Rattle.line_step.specs.declared.Rest.{Rest}
 use Rattle.many_lines.specs.Bodies.{Knows, walkAt, OnwardIs}
-use Rattle.many_lines.specs.BodiesLaws.{knows-at, toGo, go-first, go-turn, Comes, comes-first, comes-at, comes-pass, comes-lines, pass-end, bodies-at, bodies-finish}
+use Rattle.many_lines.specs.BodiesLaws.{knows-at, toGo, go-first, go-turn, Comes, comes-first, comes-at, comes-pass, comes-lines, pass-end, bodies-stuck, bodies-finish}
 use Rattle.many_lines.proofs.bodies_on.Statement.{statement}
 use Rattle.many_lines.proofs.bodies_on.Tie as tie
 
@@ -56,15 +56,15 @@ loop-again c =
 
 returns : tie.Need-returns Inv-loop μ-loop
 returns c =
-    let l = c .before .before .before .before .before .before .before .before .before .loop in
-    let h = comes-at crateRule _ _ _ _ _ _ true (c .before .before .before .before .before .before .before .before .if1 .taken) (l .n) (l .p) (l .t) (l .out) (l .inv .0) in
-    bodies-at crateRule _ _ _ _ _ _ _ _ _ (comes-lines crateRule _ _ _ _ _ (l .n) (l .out) (l .p) (l .t) _ _ _ h (c .before .before .before .before .before .before .body-lines .ensures) (c .before .before .with-held .ensures)) (c .stuck .ensures)
+    let l = c .before .before .before .before .before .before .before .before .loop in
+    let h = comes-at crateRule _ _ _ _ _ _ true (c .before .before .before .before .before .before .before .if1 .taken) (l .n) (l .p) (l .t) (l .out) (l .inv .0) in
+    bodies-stuck crateRule _ _ _ _ _ _ _ _ (comes-lines crateRule _ _ _ _ _ (l .n) (l .out) (l .p) (l .t) _ _ _ h (c .before .before .before .before .before .body-lines .ensures) (c .before .with-held .ensures))
 
 returns-2 : tie.Need-returns-2 Inv-loop μ-loop
 returns-2 c =
-    let l = c .before .before .before .before .before .before .before .before .before .before .before .before .before .loop in
-    let h = comes-at crateRule _ _ _ _ _ _ true (c .before .before .before .before .before .before .before .before .before .before .before .before .if1 .taken) (l .n) (l .p) (l .t) (l .out) (l .inv .0) in
-    bodies-at crateRule _ _ _ _ _ _ _ _ _ (comes-lines crateRule _ _ _ _ _ (l .n) (l .out) (l .p) (l .t) _ _ _ h (c .before .before .before .before .before .before .before .before .before .before .body-lines .ensures) (c .before .before .before .before .before .before .with-held .ensures)) (c .stuck2 .ensures)
+    let l = c .before .before .before .before .before .before .before .before .before .before .before .before .loop in
+    let h = comes-at crateRule _ _ _ _ _ _ true (c .before .before .before .before .before .before .before .before .before .before .before .if1 .taken) (l .n) (l .p) (l .t) (l .out) (l .inv .0) in
+    bodies-stuck crateRule _ _ _ _ _ _ _ _ (comes-lines crateRule _ _ _ _ _ (l .n) (l .out) (l .p) (l .t) _ _ _ h (c .before .before .before .before .before .before .before .before .before .body-lines .ensures) (c .before .before .before .before .before .with-held .ensures))
 
 last-record-requires : tie.Need-last-record-requires Inv-loop μ-loop
 last-record-requires c κs = let l = c .before .before .before .before .loop in omega (arith, l .inv .2, l .inv .0 .size)
@@ -94,8 +94,8 @@ loop-again-2 c =
 
 returns-4 : tie.Need-returns-4 Inv-loop μ-loop
 returns-4 c =
-    let l = c .before .before .before .before .before .before .before .loop in
-    bodies-at crateRule _ _ _ _ _ _ _ _ _ (comes-at crateRule _ _ _ _ _ _ false (c .before .before .before .before .before .before .if1 .left) (l .n) (l .p) (l .t) (l .out) (l .inv .0)) (c .stuck3 .ensures)
+    let l = c .before .before .before .before .before .before .loop in
+    bodies-stuck crateRule _ _ _ _ _ _ _ _ (comes-at crateRule _ _ _ _ _ _ false (c .before .before .before .before .before .if1 .left) (l .n) (l .p) (l .t) (l .out) (l .inv .0))
 
 pub bodies-on-spec : {M : Type 1} → statement M
 bodies-on-spec =
@@ -106,7 +106,6 @@ bodies-on-spec =
     loop-holds
     (λ c κs. search needs)
     (λ c κs. search needs)
-    (λ c κs. search needs)
     (λ c. search needs)
     returns
     (λ c κs. search needs)
@@ -115,7 +114,6 @@ bodies-on-spec =
     loop-less
     loop-again
     (λ c. search needs)
-    (λ c κs. search needs)
     (λ c. search needs)
     returns-2
     last-record-requires
@@ -126,6 +124,5 @@ bodies-on-spec =
     loop-less-2
     loop-again-2
     (λ c. search needs)
-    (λ c κs. search needs)
     (λ c. search needs)
     returns-4)
