@@ -17,6 +17,7 @@ use Rattle.walk.specs.ManyLaws.{NoRecord, many-step, many-none, many-zero, many
 use Rattle.refusal.specs.Told.{Told}
 use Rattle.answer_words.specs.PiecesLaws.{put-nothing, put-join}
 use Rattle.answer_words.specs.Fill.{wordsOf, noRoom, counted, filled, fillOf}
+use Rattle.answer_words.specs.Filling.{putFrom, done, Filled, Filling}
 
 module _ (k : ℕ) where
   times-next : (n : ℕ) → k * (n + 1) ≡ k * n + k
@@ -27,11 +28,6 @@ module _ (k : ℕ) where
   one-more n m h = omega (arith, times-next n, mul-le-mul-left k (let l : n + 1 ≤ m / k = omega arith in l), mul-div-le m k)
 
 -- ---- records put one by one are their words put at once
-
--- the records behind the first n, of k words each, which f has
-abbrev putFrom : {B : Type 0} → ℕ → (B → List ℕ) → ℕ → List ℕ → List B → List ℕ
-putFrom k f n o [] = o
-putFrom k f n o (r ∷ rs) = putFrom k f (n + 1) (put o (k * n) (f r)) rs
 
 module _ {B : Type 0} (k : ℕ) (f : B → List ℕ) (sized : (b : B) → length (f b) ≡ k) where
   put-from : (n : ℕ) (o : List ℕ) (rs : List B) → k * (n + length rs) ≤ length o → putFrom k f n o rs ≡ put o (k * n) (wordsOf f rs)
@@ -47,15 +43,6 @@ module _ {B : Type 0} (k : ℕ) (f : B → List ℕ) (sized : (b : B) → length
       ∙ ap (λ (a : ℕ). put o′ a (wordsOf f rs)) e ∙ put-join o (k * n) (f r) (wordsOf f rs) fits
 
 -- ---- the loop
-
--- n records are put into o, and those of m come behind them
-record Done (S : Type 0) : Type 0 where
-  count : ℕ
-  next : S
-  words : List ℕ
-
-abbrev done : {S B : Type 0} → ℕ → (B → List ℕ) → ℕ → List ℕ → Many S B → Done S
-done k f n o m = record { count = n + length (m .records); next = m .next; words = putFrom k f n o (m .records) }
 
 -- fewer are enough where no more are given
 module _ {S B R : Type 0} (next : S → Answer S B R) where
@@ -82,31 +69,24 @@ module _ {S B : Type 0} (k : ℕ) (f : B → List ℕ) (sized : (b : B) → leng
   abbrev room : ℕ
   room = length o₀ / k
 
-  -- what is told, and what the words are at the end
-  abbrev pub Filled : Answer S ℕ Told → List ℕ → Type 0
-  Filled a o = (a ≡ counted (fillOf k next (length o₀) w₀)) × (o ≡ filled f o₀ (fillOf k next (length o₀) w₀))
+  abbrev Ends : Answer S ℕ Told → List ℕ → Type 0
+  Ends = Filled k f next w₀ o₀
 
-  -- a call at the state w₀ with the words o₀ has put n records, so that these are o now; it stands at the state w, and `last` is the one behind the
-  -- last record
-  pub record Filling (n : ℕ) (last w : S) (o : List ℕ) : Type 0 where
-    pub most : n ≤ length o₀ / k
-    pub size : length o ≡ length o₀
-    pub same : next w ≡ next last
-    pub first : n ≡ 0 → last ≡ w₀
-    rest : done k f n o (many next (room - n) last) ≡ done k f 0 o₀ (many next room w₀)
+  abbrev Keeps : ℕ → S → S → List ℕ → Type 0
+  Keeps = Filling k f next w₀ o₀
 
-  pub fill-start : Filling 0 w₀ w₀ o₀
+  pub fill-start : Keeps 0 w₀ w₀ o₀
   fill-start =
       record { most = omega arith; size = refl; same = refl; first = λ e. refl; rest = let e : room - 0 ≡ room = omega arith in ap (λ (x : ℕ). done k f 0 o₀ (many next x w₀)) e }
 
   -- ---- with room for a record or without
 
-  filled-is : k ≤ length o₀ → {a : Answer S ℕ Told} {o : List ℕ} → (a ≡ counted (manyOf next room w₀)) × (o ≡ filled f o₀ (manyOf next room w₀)) → Filled a o
+  filled-is : k ≤ length o₀ → {a : Answer S ℕ Told} {o : List ℕ} → (a ≡ counted (manyOf next room w₀)) × (o ≡ filled f o₀ (manyOf next room w₀)) → Ends a o
   unfolding fillOf
   filled-is h q = let e : manyOf next room w₀ ≡ fillOf k next (length o₀) w₀ = sym (simp tests) in (q .0 ∙ ap counted e, q .1 ∙ ap (filled f o₀) e)
 
   -- without: a is what a step answers
-  pub fill-no-room : length o₀ < k → (a : Answer S B Told) → a ≡ next w₀ → Filled (counted (noRoom a)) o₀
+  pub fill-no-room : length o₀ < k → (a : Answer S B Told) → a ≡ next w₀ → Ends (counted (noRoom a)) o₀
   unfolding fillOf
   fill-no-room h a e =
       let q : noRoom a ≡ fillOf k next (length o₀) w₀ = ap noRoom e ∙ sym (simp tests) in
@@ -119,13 +99,13 @@ module _ {S B : Type 0} (k : ℕ) (f : B → List ℕ) (sized : (b : B) → leng
 
   -- ---- the turns
 
-  module _ {n : ℕ} {last w : S} {o : List ℕ} (h : Filling n last w o) where
+  module _ {n : ℕ} {last w : S} {o : List ℕ} (h : Keeps n last w o) where
     -- a turn that passes on
-    pub fill-pass : (t : S) → next t ≡ next w → Filling n last t o
+    pub fill-pass : (t : S) → next t ≡ next w → Keeps n last t o
     fill-pass t e = record { most = h .most; size = h .size; same = e ∙ h .same; first = h .first; rest = h .rest }
 
     -- a turn that gives a record, whose words are put
-    pub fill-record : (r : B) (t : S) → gives r t ≡ next w → n < length o₀ / k → Filling (n + 1) t t (put o (k * n) (f r))
+    pub fill-record : (r : B) (t : S) → gives r t ≡ next w → n < length o₀ / k → Keeps (n + 1) t t (put o (k * n) (f r))
     fill-record r t e l =
         let fits : k * n + length (f r) ≤ length o = omega (arith, sized r, h .size, one-more k n (length o₀) l) in
         let o′ = put o (k * n) (f r) in
@@ -146,9 +126,9 @@ module _ {S B : Type 0} (k : ℕ) (f : B → List ℕ) (sized : (b : B) → leng
         }
 
     -- a record whose words are put if they fit, as they do here
-    pub fill-stored : (r : B) (t : S) (o′ : List ℕ) → gives r t ≡ next w → n < length o₀ / k → o′ ≡ store o (k * n) (f r) → Filling (n + 1) t t o′
+    pub fill-stored : (r : B) (t : S) (o′ : List ℕ) → gives r t ≡ next w → n < length o₀ / k → o′ ≡ store o (k * n) (f r) → Keeps (n + 1) t t o′
     fill-stored r t o′ e l q =
-        subst (Filling (n + 1) t t)
+        subst (Keeps (n + 1) t t)
         (store-put o (k * n) (f r) k (sized r) (omega (arith, h .size, one-more k n (length o₀) l)) ∙ sym q) (fill-record r t e l)
 
     -- ---- it stops where there is no room for another record, or where no other is given
@@ -183,15 +163,15 @@ module _ {S B : Type 0} (k : ℕ) (f : B → List ℕ) (sized : (b : B) → leng
         qn ∙ ap (λ d. d .next) (sym (many-fewer next room n w₀ (omega arith) (h .most)))
 
     module _ (fits : k ≤ length o₀) where
-      pub fill-full : length o₀ / k ≤ n → 1 ≤ n → Filled (gives n last) o
+      pub fill-full : length o₀ / k ≤ n → 1 ≤ n → Ends (gives n last) o
       fill-full l p = filled-is fits (stopped (inr l) p)
 
       -- a is what a step from here answers
-      pub fill-stop : (a : Answer S B Told) → a ≡ next w → NoRecord a → (n ≡ 0 → ⊥) → Filled (gives n last) o
+      pub fill-stop : (a : Answer S B Told) → a ≡ next w → NoRecord a → (n ≡ 0 → ⊥) → Ends (gives n last) o
       fill-stop a e g z = filled-is fits (stopped (inl (subst NoRecord e g)) (omega arith))
 
       -- at once: the answer is that of the one step
-      pub fill-none : (a : Answer S B Told) → a ≡ next w → NoRecord a → n ≡ 0 → Filled (counted (noRoom a)) o
+      pub fill-none : (a : Answer S B Told) → a ≡ next w → NoRecord a → n ≡ 0 → Ends (counted (noRoom a)) o
       fill-none a e g z =
           let q : a ≡ next w₀ = e ∙ h .same ∙ ap next (h .first z) in
           let m = many-none next room w₀ (subst NoRecord q g) in

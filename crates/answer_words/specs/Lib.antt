@@ -2,6 +2,7 @@ pub mod Given
 pub mod GivenLaws
 pub mod PiecesLaws
 pub mod Fill
+pub mod Filling
 pub mod FillLaws
 pub mod TableWords
 pub mod TableWordsLaws

@@ -23,7 +23,7 @@ use Rattle.line_step.specs.declared.LineWalk.{LineWalk}
 use Rattle.line_step.specs.declared.LineWalk.the-variants.{Inside}
 use Rattle.body_lines.specs.declared.LineHeld.{LineHeld}
 use Rattle.body_lines.specs.declared.InBody.{InBody}
-use Rattle.body_lines.specs.TurnsLaws.{TurnsPut}
+use Rattle.body_lines.specs.Turns.{TurnsPut}
 
 -- the record of an entry whose sum and words these are
 abbrev pub heldRecord : Place → ℕ → ℕ → ℕ → LineRecord

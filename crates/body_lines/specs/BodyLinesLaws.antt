@@ -28,7 +28,8 @@ use Rattle.line_step.specs.declared.Place.{Place}
 use Rattle.line_step.specs.declared.LineWalk.the-variants.{Inside}
 use Rattle.body_lines.specs.declared.LineHeld.{LineHeld}
 use Rattle.body_lines.specs.declared.InBody.{InBody}
-use Rattle.body_lines.specs.TurnsLaws.{TurnsPut, turns-put-same, turns-put-pass, turns-put-record, turns-put-on}
+use Rattle.body_lines.specs.Turns.{TurnsPut}
+use Rattle.body_lines.specs.TurnsLaws.{turns-put-same, turns-put-pass, turns-put-record, turns-put-on}
 use Rattle.body_lines.specs.BodyLines.{heldRecord, LinesFit, LinePut, insideAt, LinesPut, PutAs, HeldPut, FirstLine, BlockPut, BodyPut}
 
 -- ---- words of a part

@@ -1,3 +1,4 @@
+pub mod Turns
 pub mod FillLaws
 pub mod TurnsLaws
 pub mod BodyLines

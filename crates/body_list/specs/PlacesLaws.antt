@@ -16,8 +16,8 @@ use Rattle.area.specs.Kind.{Sort}
 use Rattle.area.specs.Subs.{Sub, subsFrom}
 use Rattle.area.specs.SubsLaws.{SubLies, Chained, subs-ind, subs-chained}
 use Rattle.find.specs.Find.{is}
-use Rattle.lines.specs.Slots.{bodyIn, bodyFrom}
-use Rattle.lines.specs.SlotsLaws.{Scans, body-passed}
+use Rattle.lines.specs.Slots.{bodyIn, bodyFrom, Scans}
+use Rattle.lines.specs.SlotsLaws.{body-passed}
 use Rattle.body_list.specs.BodyList.{listed, subStart, startsFrom}
 use Rattle.body_list.specs.HalvingLaws.{In}
 

@@ -3,6 +3,7 @@
 -- 01, "Line subsections" (a walk over a list takes one slot after the other) and "each look at the middle leaves a shorter span" (halving).
 -- Definitions only; contracts of inner calls alone cite them.
 use Prim.Native.Nat.{ℕ, zero, suc, _+_, _-_, _/_}
+use mathlib.Core.Path.{_≡_}
 use mathlib.Core.List.{List, [], _∷_}
 use mathlib.Core.Bool.{Bool, true, false, cond, _&&_}
 use lib.ListN.{length, getD}
@@ -12,7 +13,7 @@ use Rattle.refusal.specs.Told.{Told, told}
 use Rattle.refusal.specs.declared.Refusal.the-variants as why
 use Rattle.area.specs.Kind.{Sort}
 use Rattle.find.specs.Find.{Span}
-use Rattle.lines.specs.Slots.{slotAt}
+use Rattle.lines.specs.Slots.{slotAt, Scans}
 use Rattle.body_list.specs.BodyList.{startsFrom}
 use Rattle.body_list.specs.declared.Known.{Known}
 use Rattle.body_list.specs.declared.Known.the-variants.{Nothing, Bodies, Other}
@@ -77,3 +78,9 @@ unfoldable pub foundBody : (ℕ → Sort) → List ℕ → List ℕ → List ℕ
 foundBody rule s v b k i p =
     cond (leb (length v) i) (record { reply = refused (told why.WrongSlot); known = k })
     (foundFrom rule s v i (beginOf rule s b k (getD v i 0) p))
+
+-- what is known is true of the list b, and of the place p at which a search may begin
+abbrev pub Right : (ℕ → Sort) → List ℕ → List ℕ → Known → ℕ → Type 0
+Right rule s b Nothing p = Unit {0}
+Right rule s b Bodies p = Scans rule s p × (b ≡ startsFrom rule s 0)
+Right rule s b Other p = Unit {0}

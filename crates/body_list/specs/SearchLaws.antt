@@ -13,24 +13,18 @@ use Rattle.refusal.specs.Told.{told}
 use Rattle.refusal.specs.declared.Refusal.the-variants as why
 use Rattle.area.specs.Kind.{Sort}
 use Rattle.find.specs.Find.{Span}
-use Rattle.lines.specs.Slots.{bodyFrom, scanFrom, nameOf, slotAt}
-use Rattle.lines.specs.SlotsLaws.{Scans, scans-start, scan-anew, slot-same, slot-missing, slot-scans}
+use Rattle.lines.specs.Slots.{bodyFrom, scanFrom, nameOf, slotAt, Scans}
+use Rattle.lines.specs.SlotsLaws.{scans-start, scan-anew, slot-same, slot-missing, slot-scans}
 use Rattle.lines.specs.Told.{toldNamed}
 use Rattle.body_list.specs.BodyList.{startsFrom}
 use Rattle.body_list.specs.Told.{toldLocated}
-use Rattle.body_list.specs.Search.{halved, sameList, isAreas, beginIn, beginHeld, beginOf, FoundBody, foundBody}
+use Rattle.body_list.specs.Search.{halved, sameList, isAreas, beginIn, beginHeld, beginOf, FoundBody, foundBody, Right}
 use Rattle.body_list.specs.HalvingLaws.{In, found-in}
 use Rattle.body_list.specs.PlacesLaws.{list-scans}
 use Rattle.body_list.specs.declared.Known.{Known}
 use Rattle.body_list.specs.declared.Known.the-variants.{Nothing, Bodies, Other}
 use Rattle.body_list.specs.declared.Begin.{Begin}
 use Rattle.body_list.specs.declared.Located.{Located}
-
--- what is known is true of the list b, and of the place p at which a search may begin
-abbrev pub Right : (ℕ → Sort) → List ℕ → List ℕ → Known → ℕ → Type 0
-Right rule s b Nothing p = Unit {0}
-Right rule s b Bodies p = Scans rule s p × (b ≡ startsFrom rule s 0)
-Right rule s b Other p = Unit {0}
 
 same-are : (xs ys : List ℕ) → sameList xs ys ≡ true → xs ≡ ys
 unfolding sameList

@@ -32,8 +32,8 @@ use Rattle.lines.specs.Lines.{countLines}
 use Rattle.lines.specs.Blocks.{LineBlock, blockAt}
 use Rattle.lines.specs.BlocksLaws.{blocksOn, blocks-step}
 use Rattle.lines.specs.Body.{bodyOn}
-use Rattle.lines.specs.Slots.{bodyAt, nameThen, named, slotAt, listIn}
-use Rattle.lines.specs.SlotsLaws.{Scans, scans-start, SlotIn, slot-lies, slot-scanned, named-slot}
+use Rattle.lines.specs.Slots.{bodyAt, nameThen, named, slotAt, listIn, Scans}
+use Rattle.lines.specs.SlotsLaws.{scans-start, SlotIn, slot-lies, slot-scanned, named-slot}
 use Rattle.lines.specs.LinesLaws.{count-long, counted-short}
 use Rattle.line_step.specs.declared.Held.{Held}
 use Rattle.line_step.specs.declared.Held.the-variants.{Nothing, One}

@@ -1,8 +1,10 @@
 -- An order list as its reader takes it: the line bodies that its slots name, one for each line subsection of the area. Source: document 01, "Line
 -- subsections" (the walk repeats the list's tests but 10 and takes one slot a line subsection) and number 19 (a slot that is missing or names
 -- no line body).
--- Definitions only; a reader must believe them, but for `scanFrom` to `slotAt`: `walk-is` (line_walk WalkLaws) says what these mean.
-use Prim.Native.Nat.{ℕ, zero, suc}
+-- Definitions only; a reader must believe them, but for `scanFrom` to `slotAt`: `walk-is` (line_walk WalkLaws) says what these mean; for `Scans`: no public
+-- contract cites it.
+use Prim.Native.Nat.{ℕ, zero, suc, _<_}
+use mathlib.Core.Path.{_≡_}
 use mathlib.Core.List.{List, [], _∷_}
 use mathlib.Core.Bool.{Bool, cond, _&&_}
 use lib.ListN.{length, getD}
@@ -68,3 +70,7 @@ nameOf (refused t) = refused t
 unfoldable pub slotAt : (ℕ → Sort) → List ℕ → List ℕ → ℕ → ℕ → Reply Span Told
 slotAt rule s v i p =
     cond (leb (length v) i) (refused (told why.WrongSlot)) (nameOf (bodyFrom rule s (scanFrom p (getD v i 0)) (getD v i 0)))
+
+-- a search from p finds each body behind p that a search from the area's start finds
+abbrev pub Scans : (ℕ → Sort) → List ℕ → ℕ → Type 0
+Scans rule s p = (v : ℕ) → p < v → bodyFrom rule s p v ≡ bodyFrom rule s 0 v

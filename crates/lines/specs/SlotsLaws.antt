@@ -23,7 +23,7 @@ use Rattle.area.specs.SubsLaws.{Inside, subs-inside, Chained, subs-chained}
 use Rattle.find.specs.Find.{same, Span, spanOf}
 use Rattle.find.specs.FindLaws.{first-hit, first-miss}
 use Rattle.lines.specs.Body.{bodyOn}
-use Rattle.lines.specs.Slots.{startsAt, bodyIn, bodyFrom, bodyAt, nameThen, named, scanFrom, nameOf, slotAt}
+use Rattle.lines.specs.Slots.{startsAt, bodyIn, bodyFrom, bodyAt, nameThen, named, scanFrom, nameOf, slotAt, Scans}
 
 -- ---- the loop of `seek`: the laws of `find` for a first one, at this test
 
@@ -59,9 +59,6 @@ body-lies : (rule : ℕ → Sort) (s : List ℕ) (p v : ℕ) → Gives (Lies (le
 body-lies rule s p v = lies-in (length s) v (subsFrom rule s p) (subs-inside rule s p)
 
 -- ---- a search from p finds each body behind p that a search from the area's start finds
-
-abbrev pub Scans : (ℕ → Sort) → List ℕ → ℕ → Type 0
-Scans rule s p = (v : ℕ) → p < v → bodyFrom rule s p v ≡ bodyFrom rule s 0 v
 
 pub scans-start : (rule : ℕ → Sort) (s : List ℕ) → Scans rule s 0
 scans-start rule s v h = refl

@@ -18,7 +18,8 @@ use Rattle.table.specs.declared.TableWalk.{TableWalk}
 use Rattle.table.specs.declared.TableWalk.the-variants as walk
 use Rattle.files.specs.Files.{File, fileStep, filesIn}
 use Rattle.files.specs.FilesLaws.{files-walk, Leads, file-leads, file-over}
-use Rattle.answer_words.specs.FillLaws.{Filling, fill-stored}
+use Rattle.answer_words.specs.Filling.{Filling}
+use Rattle.answer_words.specs.FillLaws.{fill-stored}
 use Rattle.answer_words.specs.FillGivenLaws.{Behind, fill-behind-each}
 use Rattle.answer_words.specs.PiecesLaws.{put-part}
 use Rattle.answer_words.specs.TableWords.{overTable}
@@ -29,7 +30,7 @@ use Rattle.many_files.specs.Files.{filesOf}
 module _ (rule : ℕ → Sort) (s : List ℕ) (w₀ : TableWalk) (o₀ : List ℕ) where
   -- n files are put into o, and the walk behind them is w
   abbrev pub Put : ℕ → TableWalk → List ℕ → Type 0
-  Put n w o = Filling fileSize fileWords file-length (fileStep rule s) w₀ o₀ n w w o
+  Put n w o = Filling fileSize fileWords (fileStep rule s) w₀ o₀ n w w o
 
   -- a turn: its words are put as a part of their own, whose length is known
   pub put-file : {n : ℕ} {w : TableWalk} {o : List ℕ} → Put n w o → (f : File) (t : TableWalk) {y ws : List ℕ} → gives f t ≡ fileStep rule s w

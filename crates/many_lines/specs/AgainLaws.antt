@@ -20,7 +20,7 @@ use Rattle.line_step.specs.declared.LineWalk.{LineWalk}
 use Rattle.line_walk.specs.Next.{nextOf}
 use Rattle.answer_words.specs.Fill.{wordsOf, counted, filled, fillOf}
 use Rattle.answer_words.specs.FillLaws.{many-fewer}
-use Rattle.body_lines.specs.FillLaws.{Filled}
+use Rattle.body_lines.specs.Turns.{Filled}
 
 -- ---- what an answer holds
 

@@ -13,7 +13,7 @@ use Rattle.area.specs.Kind.{Sort}
 use Rattle.find.specs.Find.{Span}
 use Rattle.lines.specs.Slots.{slotAt}
 use Rattle.lines.specs.Told.{toldNamed}
-use Rattle.body_list.specs.SearchLaws.{Right}
+use Rattle.body_list.specs.Search.{Right}
 use Rattle.body_list.specs.declared.Known.{Known}
 use Rattle.body_list.specs.declared.Located.{Located}
 use Rattle.line_record.specs.declared.LineRecord.{LineRecord}
@@ -26,8 +26,7 @@ use Rattle.line_step.specs.declared.Place.{Place}
 use Rattle.line_step.specs.declared.LineWalk.{LineWalk}
 use Rattle.line_step.specs.declared.LineWalk.the-variants.{New, Between, Inside}
 use Rattle.line_walk.specs.Next.{nextOf}
-use Rattle.body_lines.specs.FillLaws.{Filled}
-use Rattle.body_lines.specs.TurnsLaws.{UnderWay, TurnsPut}
+use Rattle.body_lines.specs.Turns.{Filled, UnderWay, TurnsPut}
 use Rattle.many_lines.specs.Told.{toldLines}
 use Rattle.many_lines.specs.declared.Looked.{Looked}
 use Rattle.many_lines.specs.declared.Looked.the-variants as looked

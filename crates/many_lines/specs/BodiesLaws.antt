@@ -27,7 +27,7 @@ use Rattle.lines.specs.Slots.{slotAt}
 use Rattle.lines.specs.SlotsLaws.{seek-hit, scan-on, slot-is, slot-missing, slot-scans}
 use Rattle.lines.specs.Told.{toldNamed}
 use Rattle.lines.specs.declared.Named.{Named}
-use Rattle.body_list.specs.SearchLaws.{Right}
+use Rattle.body_list.specs.Search.{Right}
 use Rattle.body_list.specs.declared.Known.{Known}
 use Rattle.body_list.specs.declared.Known.the-variants as known
 use Rattle.line_step.specs.Turn.{LineMove, freshRest, withHeld, endHeld, enterPlace, behindBody, openOf, finishOf, turnOf}
@@ -45,9 +45,10 @@ use Rattle.answer_words.specs.Fill.{noRoom, counted, fillOf}
 use Rattle.body_lines.specs.declared.InBody.{InBody}
 use Rattle.body_lines.specs.BodyLines.{Used, BodyPut}
 use Rattle.body_lines.specs.BodyLinesLaws.{stored-length}
-use Rattle.body_lines.specs.TurnsLaws.{UnderWay, TurnsPut, turns-put-same, turns-put-pass, turns-put-record, turns-put-on, turns-put-both, turns-put-last}
+use Rattle.body_lines.specs.Turns.{Filled, UnderWay, TurnsPut}
+use Rattle.body_lines.specs.TurnsLaws.{turns-put-same, turns-put-pass, turns-put-record, turns-put-on, turns-put-both, turns-put-last}
 use Rattle.answer_words.specs.FillLaws as fill
-use Rattle.body_lines.specs.FillLaws.{Filled, turns-start, turns-full}
+use Rattle.body_lines.specs.FillLaws.{turns-start, turns-full}
 use Rattle.many_lines.specs.Bodies.{Look, Knows, LocatedIs, LastAs, LastIs, walkAt, standsAt, StandOf, StandsFor, BodiesPut, toldEnd, StopsAt, FilledBy, Answers, Refilled, withoutRoom}
 use Rattle.many_lines.specs.AgainLaws.{same-count, same-state, lines-again}
 use Rattle.many_lines.specs.declared.Stand.{Stand}

@@ -8,10 +8,11 @@ use native.Mathlib.Nat.{add-sub-cancel-left}
 use native.Mathlib.Omega.{arith}
 use Rattle.walk.specs.Listing.{gave}
 use Rattle.area.specs.Kind.{crateRule}
-use Rattle.lines.specs.Slots.{bodyAt, named}
-use Rattle.lines.specs.SlotsLaws.{Scans, scans-start, slot-inside, slot-scans}
+use Rattle.lines.specs.Slots.{bodyAt, named, Scans}
+use Rattle.lines.specs.SlotsLaws.{scans-start, slot-inside, slot-scans}
 use Rattle.lines.specs.Told.{toldNamed}
-use Rattle.body_list.specs.SearchLaws.{Right, located-right, located-known}
+use Rattle.body_list.specs.Search.{Right}
+use Rattle.body_list.specs.SearchLaws.{located-right, located-known}
 use Rattle.symbol_lines.specs.Symbol.{slotIn, walkTo}
 use Rattle.symbol_lines.specs.Told.{toldBest}
 use Rattle.symbol_lines.specs.SymbolLaws.{walk-best, slotFrom, bestOf, best-start, turn-hit, turn-on, turn-refused, turn-end}
