@@ -118,7 +118,8 @@ uint32_t c13_body_list(const uint8_t *area, size_t area_len, uint32_t *bodies, s
  * c13_body_list made of the same area a call costs at most some n log n steps, whatever area and slots are: n are the bytes of both, and a body that
  * several slots name counts for each of them. Without it, or with another list, a call over slots that go back in the area often costs up to n squared:
  * each slot that lies before the last one is searched from the area's start. With it, at the first such slot of a call, the list is held against the area,
- * in one pass, and then each slot is found in it by halving. */
+ * in one pass, and then each slot is found in it by halving. Where the slots that c13_order_list made ascend they are the body list themselves: they may be
+ * lent in both places, and no call for it is needed. */
 
 /* The words of a line record, counted from its first. An optional number is 1 and the number, or 0 and 0. */
 enum c13_line_word {

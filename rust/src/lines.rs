@@ -227,6 +227,7 @@ impl Clone for ChecksumPart {
 pub struct LineProgram<'a> {
     area: &'a [u8],
     slots: Vec<u32>,
+    /// The second list. Empty where the first ascends, and so is the second, too.
     bodies: Vec<u32>,
     checksums: ChecksumPart,
 }
@@ -244,9 +245,21 @@ impl<'a> LineProgram<'a> {
         let out: [u64; 2] = one(|out| calls::c13_order_list(area, &mut slots, out))?;
         slots.truncate(size(&out, 0));
         slots.shrink_to_fit();
-        let mut bodies = vec![0; slots.len()];
-        let _: [u64; 2] = one(|out| calls::c13_body_list(area, &mut bodies, out))?;
+        let mut bodies = vec![];
+        if !slots.windows(2).all(|pair| pair[0] < pair[1]) {
+            bodies.resize(slots.len(), 0);
+            let _: [u64; 2] = one(|out| calls::c13_body_list(area, &mut bodies, out))?;
+        }
         Ok(LineProgram { area, slots, bodies, checksums: ChecksumPart::unknown() })
+    }
+
+    /// The list of the line subsections in the order of the area.
+    fn bodies(&self) -> &[u32] {
+        if self.bodies.is_empty() {
+            &self.slots
+        } else {
+            &self.bodies
+        }
     }
 
     /// All line records, by ascending section and offset of their subsections.
@@ -258,7 +271,7 @@ impl<'a> LineProgram<'a> {
     /// The line records of the symbol at a place: those of the line subsection that starts there, or else of the last one of the section that starts
     /// before it, whether or not that reaches so far.
     pub fn lines_for_symbol(&self, place: PdbInternalSectionOffset) -> LineIterator<'_> {
-        let walk = one(|out| calls::c13_lines_for_symbol(self.area, &self.slots, &self.bodies, place.section, place.offset, out));
+        let walk = one(|out| calls::c13_lines_for_symbol(self.area, &self.slots, self.bodies(), place.section, place.offset, out));
         LineIterator { program: self, records: walk.map(|out| Many::of(Walk::from(out), 0)).map_err(Some) }
     }
 
@@ -315,7 +328,7 @@ impl Iterator for LineIterator<'_> {
         match &mut self.records {
             Ok(records) => {
                 let call =
-                    |records: &mut [RecordWord], out: &mut [u64]| calls::c13_lines(program.area, &program.slots, &program.bodies, records, out);
+                    |records: &mut [RecordWord], out: &mut [u64]| calls::c13_lines(program.area, &program.slots, program.bodies(), records, out);
                 Some(records.next(LINE_STATE, call)?.map(LineInfo::of))
             }
             Err(why) => why.take().map(Err),
