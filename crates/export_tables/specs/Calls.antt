@@ -4,7 +4,7 @@
 use Prim.Native.Nat.{ℕ}
 use mathlib.Core.List.{List}
 use Rattle.area.specs.Kind.{Sort}
-use Rattle.table.specs.Words.{wordIn}
+use Rattle.table.specs.Table.{wordIn}
 use Rattle.inlinees.specs.Inlinees.{inlineeStep}
 use Rattle.imports.specs.Imports.{importStep, resolveImport}
 use Rattle.imports.specs.Listed.{importList, placesAfter, resolveListed}

@@ -20,32 +20,18 @@ use Rattle.body.specs.Checksums.{Checksum}
 use Rattle.checksums.specs.Entry.{Entry, entryAt, entriesFrom}
 use Rattle.lines.specs.Lines.{countLines}
 
--- what is known of a file: its name, and its checksum's kind and where its bytes stand in what is lent, the area or a checksum body alone
-pub record Info : Type 0 where
-  pub name : ℕ
-  pub kind : ℕ
-  pub start : ℕ
-  pub len : ℕ
-
--- a file of a walk, and its index
+-- a file of a walk: its index, and its entry, whose bytes are told by their place in the area
 pub record File : Type 0 where
   pub index : ℕ
-  pub info : Info
+  pub info : Entry
 
--- an entry of a body
-abbrev pub entryInfo : Entry → Info
-entryInfo e = record { name = e .name; kind = e .kind; start = e .start; len = e .len }
-
--- the same in an area, where the body stands at start
-abbrev pub movedInfo : ℕ → Info → Info
-movedInfo start f = record { name = f .name; kind = f .kind; start = start + f .start; len = f .len }
-
-abbrev pub infoOf : ℕ → Entry → Info
-infoOf start e = movedInfo start (entryInfo e)
+-- an entry of the body at start, the place of its bytes counted from the area's start
+abbrev pub entryMoved : ℕ → Entry → Entry
+entryMoved start e = record { name = e .name; kind = e .kind; start = start + e .start; len = e .len }
 
 -- its place in the body, 6 before its bytes, is the index
 abbrev pub fileOf : ℕ → Entry → File
-fileOf start e = record { index = e .start - 6; info = infoOf start e }
+fileOf start e = record { index = e .start - 6; info = entryMoved start e }
 
 -- f, if the tests before it pass
 abbrev pub ifPassed : Reply ℕ Told → Reply Span Told → Reply Span Told
@@ -66,13 +52,13 @@ abbrev pub filesIn : (ℕ → Sort) → List ℕ → Listing File Told
 filesIn rule s = tableOf (λ (b : List ℕ). entriesFrom b 0) fileOf s (filesSub rule s)
 
 -- what stands at index i of a body
-abbrev pub atIndex : ℕ → Answer ℕ Entry Told → Reply Info Told
-atIndex i (gives e x) = gave (entryInfo e)
+abbrev pub atIndex : ℕ → Answer ℕ Entry Told → Reply Entry Told
+atIndex i (gives e x) = gave e
 atIndex i none = refused (told (why.NoFile i))
 atIndex i (refuses t) = refused t
 
--- THE FILE at an index of a checksum body that is lent alone
-unfoldable pub fileIn : List ℕ → ℕ → Reply Info Told
+-- THE FILE at an index of a checksum body that is lent alone: its entry, whose bytes are told by their place in the body
+unfoldable pub fileIn : List ℕ → ℕ → Reply Entry Told
 fileIn b i = cond (ltb longest (length b)) (refused (told why.TooLong)) (atIndex i (entryAt b i))
 
 -- the part of the area that is its checksum body: without one it is empty
@@ -85,12 +71,12 @@ unfoldable pub checksumPart : (ℕ → Sort) → List ℕ → Reply Span Told
 checksumPart rule s = orEmpty (filesSub rule s)
 
 -- THE FILE at an index of the body that is a part of an area
-abbrev pub fileInPart : List ℕ → ℕ → Reply Span Told → Reply Info Told
-fileInPart s i (gave a) = mapReply (movedInfo (a .start)) same (fileIn (bytesAt s a) i)
+abbrev pub fileInPart : List ℕ → ℕ → Reply Span Told → Reply Entry Told
+fileInPart s i (gave a) = mapReply (entryMoved (a .start)) same (fileIn (bytesAt s a) i)
 fileInPart s i nothing = nothing
 fileInPart s i (refused t) = refused t
 
-unfoldable pub fileAt : (ℕ → Sort) → List ℕ → ℕ → Reply Info Told
+unfoldable pub fileAt : (ℕ → Sort) → List ℕ → ℕ → Reply Entry Told
 fileAt rule s i = fileInPart s i (checksumPart rule s)
 
 -- a part of the area that is asked for: what does not lie in it, and every part of an area that is too long, is the empty one at its start

@@ -15,10 +15,9 @@ use Rattle.refusal.specs.Told.{Told, told, longest}
 use Rattle.refusal.specs.declared.Refusal.the-variants as why
 use Rattle.area.specs.Kind.{Sort}
 use Rattle.find.specs.Find.{same, Span, lastSub, bytesAt}
-use Rattle.table.specs.Table.{Place, spotIn, spotOf, shifted, readAt, tableOf}
+use Rattle.table.specs.Table.{Place, spotIn, spotOf, shifted, readAt, tableOf, ofBody}
 use Rattle.table.specs.StepLaws.{Steps, steps}
 use Rattle.table.specs.TableLaws.{Finds, Inside, in-inside, spot-lies, spot-inside, last-finds, table-walk}
-use Rattle.table.specs.Whole.{ofBody}
 use Rattle.table.specs.WholeLaws.{mapped-every, table-means}
 use Rattle.table.specs.declared.TableWalk.{TableWalk}
 use Rattle.table.specs.declared.TableWalk.the-variants as walk
@@ -28,7 +27,7 @@ use Rattle.checksums.specs.Entry as entry
 use Rattle.checksums.specs.Told.{toldEntry}
 use Rattle.checksums.specs.EntryLaws.{EntryWithin, entry-within, entry-none, entry-lies, entries-step, entries-mean, In, entries-in, Stands, entries-stand}
 use Rattle.lines.specs.Lines.{countLines}
-use Rattle.files.specs.Files.{Info, File, movedInfo, infoOf, fileOf, ifPassed, filesSub, fileStep, filesIn}
+use Rattle.files.specs.Files.{File, entryMoved, fileOf, ifPassed, filesSub, fileStep, filesIn}
 use Rattle.files.specs.Files.{atIndex, fileIn, orEmpty, checksumPart, fileInPart, fileAt, held, partOf, fileSpelt}
 
 -- ---- the checksum body
@@ -63,10 +62,10 @@ file-steps rule s w = steps entryAt fileOf toldEntry (filesSub rule s) s w (file
 
 -- an entry, its index being its place
 pub file-entry : (start len at : ℕ) (b : List ℕ) (e : Entry) (x : ℕ) (out : Answer TableWalk File Told) → gives e x ≡ entryAt b at
-    → shifted fileOf start len (gives e x) ≡ out → gives (record { index = at; info = infoOf start e }) (walk.In start len x) ≡ out
+    → shifted fileOf start len (gives e x) ≡ out → gives (record { index = at; info = entryMoved start e }) (walk.In start len x) ≡ out
 file-entry start len at b e x out l q =
     let i : at ≡ e .start - 6 = omega (arith, entry-lies b at e x l) in
-    (λ j. gives (record { index = i j; info = infoOf start e }) (walk.In start len x)) ∙ q
+    (λ j. gives (record { index = i j; info = entryMoved start e }) (walk.In start len x)) ∙ q
 
 -- where a step leads: on in its body, which lies in an area that is not too long; the bytes of its file stand before that place
 pub record Leads (s : List ℕ) (f : File) (t : TableWalk) : Type 0 where
@@ -132,12 +131,12 @@ module _ (b : List ℕ) (i : ℕ) where
   in-read h u e = ap (atIndex i) e ∙ sym (simp tests)
 
   -- the bytes of its checksum lie in the body
-  abbrev InfoIn : Reply Info Told → Type 0
+  abbrev InfoIn : Reply Entry Told → Type 0
   InfoIn (gave f) = f .start + f .len ≤ length b
   InfoIn nothing = Unit {0}
   InfoIn (refused t) = Unit {0}
 
-  pub in-lies : (f : Info) → gave f ≡ fileIn b i → f .start + f .len ≤ length b
+  pub in-lies : (f : Entry) → gave f ≡ fileIn b i → f .start + f .len ≤ length b
   unfolding fileIn
   in-lies f e =
       subst⁻¹ InfoIn e
@@ -150,11 +149,11 @@ module _ (b : List ℕ) (i : ℕ) where
 
 -- of the body of len bytes at start, a part of the area
 module _ (s : List ℕ) (start len i : ℕ) where
-  pub part-read : (k : ℕ) (u : Reply Info Told) → u ≡ fileIn (take k (drop start s)) i → k ≡ len
-      → mapReply (movedInfo start) same u ≡ fileInPart s i (gave (record { start = start; len = len }))
-  part-read k u e ek = ap (mapReply (movedInfo start) same) (e ∙ ap (λ (j : ℕ). fileIn (take j (drop start s)) i) ek)
+  pub part-read : (k : ℕ) (u : Reply Entry Told) → u ≡ fileIn (take k (drop start s)) i → k ≡ len
+      → mapReply (entryMoved start) same u ≡ fileInPart s i (gave (record { start = start; len = len }))
+  part-read k u e ek = ap (mapReply (entryMoved start) same) (e ∙ ap (λ (j : ℕ). fileIn (take j (drop start s)) i) ek)
 
-  pub part-lies : start + len ≤ length s → (k : ℕ) (f : Info) → gave f ≡ fileIn (take k (drop start s)) i → k ≡ len → start + f .start ≤ length s
+  pub part-lies : start + len ≤ length s → (k : ℕ) (f : Entry) → gave f ≡ fileIn (take k (drop start s)) i → k ≡ len → start + f .start ≤ length s
   part-lies h k f e ek = omega (arith, in-lies (take k (drop start s)) i f e, length-take k (drop start s))
 
 -- the part that is the checksum body, by what was found
@@ -188,7 +187,7 @@ module _ (rule : ℕ → Sort) (s : List ℕ) where
 
 module _ (rule : ℕ → Sort) (s : List ℕ) (i : ℕ) where
   -- THE LAW: on the part that is the checksum body `file_in` answers what `file_at` answers, but for the place, which counts from the part's start
-  pub file-in : (a : Span) → gave a ≡ checksumPart rule s → mapReply (movedInfo (a .start)) same (fileIn (bytesAt s a) i) ≡ fileAt rule s i
+  pub file-in : (a : Span) → gave a ≡ checksumPart rule s → mapReply (entryMoved (a .start)) same (fileIn (bytesAt s a) i) ≡ fileAt rule s i
   unfolding fileAt
   file-in a e = ap (fileInPart s i) e
 
@@ -207,7 +206,7 @@ files-indexed rule s = by (filesSub rule s) (files-finds rule s)
         let b = bytesAt s a in
         let short : length b ≤ longest = omega (arith, length-take (a .len) (drop (a .start) s)) in
         mapped-every (Stands b) (fileOf (a .start)) (λ (f : File). fileInPart s (f .index) (gave a) ≡ gave (f .info))
-        (λ e q. ap (mapReply (movedInfo (a .start)) same) (sym (in-read b (e .start - 6) short _ (q .is)))) (entriesFrom b 0) (entries-stand b 0)
+        (λ e q. ap (mapReply (entryMoved (a .start)) same) (sym (in-read b (e .start - 6) short _ (q .is)))) (entriesFrom b 0) (entries-stand b 0)
     by nothing h = tt
     by (refused t) h = tt
 

@@ -4,7 +4,8 @@ use Rattle.walk.specs.Listing.{Answer, gives, none, refuses, Reply, gave, refus
 use Rattle.refusal.specs.Told.{Told, told}
 use Rattle.table.specs.declared.TableWalk.{TableWalk}
 use Rattle.checksums.specs.Told.{toldKind}
-use Rattle.files.specs.Files.{Info, File}
+use Rattle.checksums.specs.Entry.{Entry}
+use Rattle.files.specs.Files.{File}
 use Rattle.files.specs.declared.FileStep.{FileStep}
 use Rattle.files.specs.declared.FileStep.the-variants as step
 use Rattle.files.specs.declared.FileAnswer.{FileAnswer}
@@ -15,6 +16,6 @@ toldFile (step.File i m k a n w) = gives (record { index = i; info = record { na
 toldFile step.None = none
 toldFile (step.Refused r) = refuses (told r)
 
-abbrev pub toldInfo : FileAnswer → Reply Info Told
+abbrev pub toldInfo : FileAnswer → Reply Entry Told
 toldInfo (answer.File m k a n) = gave (record { name = m; kind = toldKind k; start = a; len = n })
 toldInfo (answer.Refused r) = refused (told r)

@@ -7,7 +7,8 @@ use Rattle.refusal.specs.declared.Refusal.the-variants as why
 use Rattle.table.specs.declared.TableWalk.{TableWalk}
 use Rattle.checksums.specs.Untold.{untoldKind, untold-kind}
 use Rattle.checksums.specs.declared.ChecksumKind.{ChecksumKind}
-use Rattle.files.specs.Files.{Info, File}
+use Rattle.checksums.specs.Entry.{Entry}
+use Rattle.files.specs.Files.{File}
 use Rattle.files.specs.declared.FileStep.{FileStep}
 use Rattle.files.specs.declared.FileStep.the-variants as step
 use Rattle.files.specs.declared.FileAnswer.{FileAnswer}
@@ -25,7 +26,7 @@ untold-file step.None = refl
 untold-file (step.Refused r) = ap step.Refused (untold-told r)
 
 -- no answer tells `nothing`
-abbrev pub untoldInfo : Reply Info Told → FileAnswer
+abbrev pub untoldInfo : Reply Entry Told → FileAnswer
 untoldInfo (gave f) = answer.File (f .name) (untoldKind (f .kind)) (f .start) (f .len)
 untoldInfo nothing = answer.Refused why.Cut
 untoldInfo (refused t) = answer.Refused (untold t)

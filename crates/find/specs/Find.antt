@@ -7,7 +7,7 @@ use mathlib.Core.Bool.{Bool}
 use lib.Dec.{eqb}
 use lib.ListN.{take, drop}
 use denote.Ref.{RefT}
-use Rattle.word.specs.Part.{HandsBack}
+use Rattle.word.specs.Word.{HandsBack}
 use Rattle.walk.specs.Listing.{Reply, gave, nothing, refused}
 use Rattle.walk.specs.Pick.{firstBy, lastBy, mapReply}
 use Rattle.refusal.specs.Told.{Told}

@@ -11,14 +11,13 @@ use Rattle.area.specs.Kind.{Sort}
 use Rattle.find.specs.Find.{same, firstSub, firstBytes}
 use Rattle.table.specs.StepLaws.{Steps, steps}
 use Rattle.table.specs.TableLaws.{first-finds, table-walk}
-use Rattle.table.specs.Whole.{ofBody}
+use Rattle.table.specs.Table.{ofBody, wordIn}
 use Rattle.table.specs.WholeLaws.{table-every, table-means}
 use Rattle.table.specs.declared.TableWalk.{TableWalk}
 use Rattle.table.specs.declared.TableWalk.the-variants as walk
 use Rattle.body.specs.Words.{wordsIn}
 use Rattle.body.specs.Inlinees.{Inlinee}
 use Rattle.table.specs.Collect.{ofNth}
-use Rattle.table.specs.Words.{wordIn}
 use Rattle.table.specs.WordsLaws.{words-part, word-of}
 use Rattle.inlinees.specs.Inlinees.{SourceLine, sourceLineAt, sourceLinesFrom, show, inlineeStep, inlineesIn, inlineeSpelt, inlineesOf}
 use Rattle.inlinees.specs.Told.{toldSourceLine}

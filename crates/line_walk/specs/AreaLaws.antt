@@ -18,8 +18,7 @@ use Rattle.line_record.specs.declared.LineSource.{LineSource}
 use Rattle.line_record.specs.declared.LineRecord.{LineRecord}
 use Rattle.line_record.specs.Flags.{isMarker}
 use Rattle.line_record.specs.Record.{maxOffset, headSource, entryOf, closedAt}
-use Rattle.lines.specs.Lines.{countLines}
-use Rattle.lines.specs.Body.{Body}
+use Rattle.lines.specs.Lines.{countLines, Body}
 use Rattle.order.specs.Order.{orderOf, ordered, slotsAfter, inOrder}
 use Rattle.order.specs.BuiltLaws.{built-list, built}
 use Rattle.line_step.specs.declared.LineWalk.the-variants.{New}

@@ -14,7 +14,7 @@ use Rattle.body.specs.Lines.{LineHead, lineHead, columned, Block, blocks}
 use Rattle.line_record.specs.declared.LineRecord.{LineRecord}
 use Rattle.line_record.specs.Record.{maxOffset, headSource, entryOf, closedAt}
 use Rattle.line_record.specs.LimitsLaws.{Limits, entry-limits, close-limits}
-use Rattle.lines.specs.Body.{Body}
+use Rattle.lines.specs.Lines.{Body}
 use Rattle.lines.specs.Slots.{listOf}
 use Rattle.line_walk.specs.Meaning.{Event, line, done, Events, entryThen, behind, linesThen, blocksThen, bodyThen, eventsOf, settleOne, settle, recordsOf}
 

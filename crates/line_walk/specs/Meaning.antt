@@ -15,7 +15,7 @@ use Rattle.area.specs.Kind.{Sort}
 use Rattle.body.specs.Lines.{LineHead, lineHeadSize, lineHead, columned, Block, blocks}
 use Rattle.line_record.specs.Record.{maxOffset, headSource, entryOf, closedAt}
 use Rattle.line_record.specs.declared.LineRecord.{LineRecord}
-use Rattle.lines.specs.Body.{Body}
+use Rattle.lines.specs.Lines.{Body}
 use Rattle.lines.specs.Slots.{listOf}
 use Rattle.order.specs.Order.{inOrder}
 

@@ -28,10 +28,9 @@ use Rattle.line_record.specs.Record.{maxOffset, columnIf, headSource, entryOf, 
 use Rattle.line_record.specs.declared.LineRecord.{LineRecord}
 use Rattle.lines.specs.declared.LineHeader.{LineHeader}
 use Rattle.lines.specs.Told.{toldHeader}
-use Rattle.lines.specs.Lines.{countLines}
+use Rattle.lines.specs.Lines.{countLines, bodyOn}
 use Rattle.lines.specs.Blocks.{LineBlock, blockAt}
 use Rattle.lines.specs.BlocksLaws.{blocksOn, blocks-step}
-use Rattle.lines.specs.Body.{bodyOn}
 use Rattle.lines.specs.Slots.{bodyAt, nameThen, named, slotAt, listIn, Scans}
 use Rattle.lines.specs.SlotsLaws.{scans-start, SlotIn, slot-lies, slot-scanned, named-slot}
 use Rattle.lines.specs.LinesLaws.{count-long, counted-short}

@@ -1,6 +1,5 @@
 pub mod Lines
 pub mod Blocks
-pub mod Body
 pub mod Slots
 pub mod Told
 pub mod Untold

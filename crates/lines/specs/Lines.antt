@@ -1,5 +1,5 @@
 -- The line subsections of an area, after the tests over all of it. Source: cvinfo.h, `DEBUG_S_SUBSECTION_TYPE` (LINES f2); document 01, "Line
--- subsections": refusals 1 and 2 over the whole area in its order, a short line header giving 1 before what is behind it.
+-- subsections": refusals 1 and 2 over the whole area in its order, a short line header giving 1 before what is behind it; the first slots hold body positions.
 -- Definitions only; a reader must believe them.
 use Prim.Native.Nat.{ℕ, _+_}
 use mathlib.Core.List.{List}
@@ -12,7 +12,7 @@ use Rattle.refusal.specs.declared.Refusal.the-variants as why
 use Rattle.area.specs.Kind.{Sort}
 use Rattle.area.specs.Subs.{Sub, subsFrom}
 use Rattle.body.specs.Lines.{lineHeadSize}
-use Rattle.find.specs.Find.{is}
+use Rattle.find.specs.Find.{is, Span, bytesAt}
 
 -- line subsections, up to the first one with too few bytes for its header
 unfoldable pub headed : Listing Sub Told → Listing Sub Told
@@ -38,3 +38,12 @@ countOf (fails r) = refused r
 -- THE TESTS that come before every reading of lines, and how many line subsections there are
 abbrev pub countLines : (ℕ → Sort) → List ℕ → Reply ℕ Told
 countLines rule s = countOf (linesFrom rule s 0)
+
+-- a line body as the lines' meaning takes it: where in the area it starts, and its bytes. The start is handed on; what the bytes mean does not depend on it
+pub record Body : Type 0 where
+  pub start : ℕ
+  pub bytes : List ℕ
+
+-- the body at a place of the area
+abbrev pub bodyOn : List ℕ → Span → Body
+bodyOn s a = record { start = a .start; bytes = bytesAt s a }

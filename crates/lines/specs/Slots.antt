@@ -16,8 +16,7 @@ use Rattle.refusal.specs.declared.Refusal.the-variants as why
 use Rattle.area.specs.Kind.{Sort}
 use Rattle.area.specs.Subs.{Sub, subsFrom}
 use Rattle.find.specs.Find.{same, Span, spanOf}
-use Rattle.lines.specs.Lines.{countLines}
-use Rattle.lines.specs.Body.{Body, bodyOn}
+use Rattle.lines.specs.Lines.{countLines, Body, bodyOn}
 
 -- a line subsection whose body starts at v
 abbrev pub startsAt : ℕ → Sub → Bool

@@ -22,7 +22,7 @@ use Rattle.area.specs.Subs.{Sub, subsFrom, stepAt}
 use Rattle.area.specs.SubsLaws.{Inside, subs-inside, Chained, subs-chained}
 use Rattle.find.specs.Find.{same, Span, spanOf}
 use Rattle.find.specs.FindLaws.{first-hit, first-miss}
-use Rattle.lines.specs.Body.{bodyOn}
+use Rattle.lines.specs.Lines.{bodyOn}
 use Rattle.lines.specs.Slots.{startsAt, bodyIn, bodyFrom, bodyAt, nameThen, named, scanFrom, nameOf, slotAt, Scans}
 
 -- ---- the loop of `seek`: the laws of `find` for a first one, at this test

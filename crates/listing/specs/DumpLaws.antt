@@ -23,9 +23,8 @@ use Rattle.table.specs.declared.TableWalk.{TableWalk}
 use Rattle.table.specs.declared.TableWalk.the-variants as table
 use Rattle.checksums.specs.Entry.{entryAt, entriesFrom}
 use Rattle.checksums.specs.EntryLaws.{entries-step}
-use Rattle.lines.specs.Lines.{plus, countOf, countLines}
+use Rattle.lines.specs.Lines.{plus, countOf, countLines, Body}
 use Rattle.lines.specs.Lines as lines
-use Rattle.lines.specs.Body.{Body}
 use Rattle.body_list.specs.BodyList.{inRoom}
 use Rattle.order.specs.Order.{ordered, slotsAfter}
 use Rattle.order.specs.BuiltLaws.{built}

@@ -20,8 +20,7 @@ use Rattle.area.specs.Parts.{Raw}
 use Rattle.area.specs.Subs.{Sub, subsFrom, bodies}
 use Rattle.area.specs.SubsLaws.{Chained, subs-chained, bodied, area-bodies}
 use Rattle.find.specs.Find.{same, is, spanOf}
-use Rattle.lines.specs.Lines.{headed, countOf, countLines}
-use Rattle.lines.specs.Body.{Body, bodyOn}
+use Rattle.lines.specs.Lines.{headed, countOf, countLines, Body, bodyOn}
 use Rattle.lines.specs.Slots.{bodyIn, bodyFrom, bodyAt, nameThen, named, listIn, listOf}
 use Rattle.lines.specs.SlotsLaws.{body-passed}
 use Rattle.lines.specs.LinesLaws.{counted-short}

@@ -12,7 +12,7 @@ use Rattle.area.specs.Kind.{Sort}
 use Rattle.area.specs.Subs.{Sub, subsFrom}
 use Rattle.body.specs.Lines.{lineHead}
 use Rattle.find.specs.Find.{is, spanOf}
-use Rattle.lines.specs.Body.{Body, bodyOn}
+use Rattle.lines.specs.Lines.{Body, bodyOn}
 use Rattle.body_list.specs.BodyList.{listed, startsFrom, bodyList}
 use Rattle.slot_key.specs.Sort.{sortBy}
 use Rattle.slot_key.specs.Rank.{rank}

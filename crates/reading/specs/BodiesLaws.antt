@@ -2,8 +2,7 @@
 use Prim.Native.Nat.{ℕ}
 use mathlib.Core.Path.{_≡_, ap, _∙_}
 use mathlib.Core.List.{List}
-use Rattle.walk.specs.Listing.{Listing, mapped}
-use Rattle.walk.specs.Spread.{spread}
+use Rattle.walk.specs.Listing.{Listing, mapped, spread}
 use Rattle.walk.specs.SpreadLaws.{map-spread-of}
 use Rattle.refusal.specs.Told.{numberOf}
 use Rattle.area.specs.Parts.{Raw}

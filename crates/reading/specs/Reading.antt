@@ -8,8 +8,7 @@ use mathlib.Core.Bool.{Bool, true, false, cond}
 use lib.ListN.{length, take, drop}
 use lib.Dec.{ltb, eqb}
 use Rattle.word.specs.Word.{u32At}
-use Rattle.walk.specs.Listing.{Listing, more, ends, fails, mapped}
-use Rattle.walk.specs.Spread.{spread}
+use Rattle.walk.specs.Listing.{Listing, more, ends, fails, mapped, spread}
 use Rattle.refusal.specs.Told.{Told, told}
 use Rattle.refusal.specs.declared.Refusal.the-variants as why
 use Rattle.area.specs.Parts.{Raw}

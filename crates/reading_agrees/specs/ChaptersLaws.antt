@@ -9,11 +9,10 @@ use lib.Dec.{ltb, eqb}
 use borrow.Author.Tests.{eqb-true}
 use Rattle.word.specs.Word.{u32At}
 use Rattle.walk.specs.Cases.{by-cases}
-use Rattle.walk.specs.Listing.{Listing, more, ends, fails, mapped, andThen, nothing}
+use Rattle.walk.specs.Listing.{Listing, more, ends, fails, mapped, andThen, nothing, spread}
 use Rattle.walk.specs.ListingLaws.{Every}
 use Rattle.walk.specs.Pick.{failure, firstBy, lastBy, only, mapReply}
 use Rattle.walk.specs.PickMapLaws.{SaysSame, first-of-map, last-of-map, only-of-map}
-use Rattle.walk.specs.Spread.{spread}
 use Rattle.refusal.specs.Told.{Told}
 use Rattle.area.specs.Kind.{Sort}
 use Rattle.area.specs.Parts.{Raw}

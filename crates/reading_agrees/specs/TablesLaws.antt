@@ -10,18 +10,16 @@ use lib.Seq.{length-take-le}
 use lib.Dec.{ltb, eqb}
 use borrow.Author.Tests.{eqb-true, ltb-false, le-ltb}
 use Rattle.walk.specs.Cases.{by-cases, both-ways}
-use Rattle.walk.specs.Listing.{Listing, more, ends, fails, mapped, before, Reply, gave, nothing, refused}
+use Rattle.walk.specs.Listing.{Listing, more, ends, fails, mapped, before, Reply, gave, nothing, refused, spread}
 use Rattle.walk.specs.ListingLaws.{Every}
 use Rattle.walk.specs.Pick.{failure, firstBy, lastBy, only, orElse, mapReply}
 use Rattle.walk.specs.PickLaws.{Gives, failure-only}
-use Rattle.walk.specs.Spread.{spread}
 use Rattle.refusal.specs.Told.{Told}
 use Rattle.area.specs.Kind.{Sort}
 use Rattle.area.specs.Subs.{Sub, subsFrom}
 use Rattle.area.specs.SubsLaws.{Inside, subs-inside}
 use Rattle.find.specs.Find.{same, Span, is, spanOf, firstSub, lastSub, bytesAt, firstBytes, lastBytes}
-use Rattle.table.specs.Table.{tableOf}
-use Rattle.table.specs.Whole.{ofBody}
+use Rattle.table.specs.Table.{tableOf, ofBody}
 use Rattle.table.specs.CollectLaws.{mapped-same, mapped-mapped}
 use Rattle.body.specs.Lines.{lineHeadSize, lineHead, columned, blocks}
 use Rattle.body.specs.Checksums.{checksums}
@@ -36,8 +34,7 @@ use Rattle.checksums.specs.Entry.{shown}
 use Rattle.files.specs.Files.{ifPassed, filesSub, filesIn}
 use Rattle.files.specs.Files as file
 use Rattle.files.specs.FilesLaws.{files-mean}
-use Rattle.lines.specs.Body.{Body}
-use Rattle.lines.specs.Lines.{headed, linesFrom, plus, countOf}
+use Rattle.lines.specs.Lines.{Body, headed, linesFrom, plus, countOf}
 use Rattle.body_list.specs.BodyList.{listed}
 use Rattle.order.specs.Order.{bodyOf, lineBodies}
 use Rattle.order.specs.BuiltLaws.{map-map}

@@ -10,7 +10,7 @@ use lib.Seq.{length-take-le}
 use Rattle.walk.specs.Cases.{by-cases, le-or-gt}
 use Rattle.walk.specs.Listing.{Listing, more, ends, fails, andThen, onMove, moved, Answer, gives, none, refuses, Reply, gave, nothing, refused, calls, replies}
 use Rattle.walk.specs.ListingLaws.{calls-are}
-use Rattle.walk.specs.Spread.{spread}
+use Rattle.walk.specs.Listing.{spread}
 use Rattle.refusal.specs.Told.{Told, told, longest}
 use Rattle.refusal.specs.declared.Refusal.the-variants as why
 use Rattle.area.specs.Kind.{Sort}

@@ -10,8 +10,7 @@ use native.Mathlib.Omega.{arith}
 use lib.ListN.{length, length-append}
 use lib.Dec.{leb, eqb}
 use borrow.Author.Tests.{le-leb, eq-eqb, eqb-true}
-use Rattle.walk.specs.Listing.{Reply, gave, refused, ends, before, andThen}
-use Rattle.walk.specs.Spread.{spread}
+use Rattle.walk.specs.Listing.{Reply, gave, refused, ends, before, andThen, spread}
 use Rattle.refusal.specs.Told.{Told, told}
 use Rattle.refusal.specs.declared.Refusal.the-variants as why
 use Rattle.area.specs.Join.{join}

@@ -11,9 +11,8 @@ use lib.Dec.{ltb, leb, eqb}
 use borrow.Author.Tests.{eqb-true, eqb-false, eq-eqb, leb-true, le-leb, le-ltb}
 use Rattle.word.specs.Word.{u16At, u32At}
 use Rattle.walk.specs.Cases.{and-true}
-use Rattle.walk.specs.Listing.{Move, item, Listing, more, ends, fails, before, andThen, all, nothing}
+use Rattle.walk.specs.Listing.{Move, item, Listing, more, ends, fails, before, andThen, all, nothing, spread}
 use Rattle.walk.specs.ListingLaws.{Holds}
-use Rattle.walk.specs.Spread.{spread}
 use Rattle.walk.specs.Pick.{failure}
 use Rattle.refusal.specs.Told.{Told, told, longest}
 use Rattle.refusal.specs.declared.Refusal.the-variants as why

@@ -7,8 +7,7 @@ use Prim.Native.Nat.{ℕ, _+_, _%_}
 use mathlib.Core.Path.{_≡_}
 use mathlib.Core.List.{List, [], _∷_}
 use mathlib.Core.Option.{some}
-use Rattle.walk.specs.Listing.{mapped}
-use Rattle.walk.specs.Spread.{spread}
+use Rattle.walk.specs.Listing.{mapped, spread}
 use Rattle.refusal.specs.Told.{told}
 use Rattle.refusal.specs.declared.Refusal.the-variants as why
 use Rattle.area.specs.Parts.{Raw, Lack, parts}

@@ -11,9 +11,8 @@ use lib.Dec.{ltb, eqb}
 use borrow.Author.Tests.{ltb-false, eqb-true, le-ltb, eq-eqb}
 use Rattle.word.specs.Word.{u16At, u32At}
 use Rattle.walk.specs.Cases.{by-cases, and-true}
-use Rattle.walk.specs.Listing.{Move, item, pass, over, fail, Listing, more, ends, fails, onMove, mapped, before, andThen, all}
+use Rattle.walk.specs.Listing.{Move, item, pass, over, fail, Listing, more, ends, fails, onMove, mapped, before, andThen, all, spread}
 use Rattle.walk.specs.ListingLaws.{To, Holds, Every, all-step, all-ind, all-every}
-use Rattle.walk.specs.Spread.{spread}
 use Rattle.walk.specs.SpreadLaws.{map-then}
 use Rattle.refusal.specs.Told.{Told, told, longest, numberOf}
 use Rattle.refusal.specs.declared.Refusal.the-variants as why

@@ -11,8 +11,7 @@ use lib.Dec.{leb, eqb}
 use borrow.Author.Tests.{le-ltb, le-leb, eq-eqb, ne-eqb, eqb-true, leb-true}
 use Rattle.word.specs.Word.{u16At, u32At, le16, le32}
 use Rattle.word.specs.WordLaws.{le32-length, u32-first}
-use Rattle.walk.specs.Listing.{Move, item, over, Listing, more, ends, fails, before, andThen, all}
-use Rattle.walk.specs.Spread.{spread}
+use Rattle.walk.specs.Listing.{Move, item, over, Listing, more, ends, fails, before, andThen, all, spread}
 use Rattle.refusal.specs.Told.{Told, longest}
 use Rattle.area.specs.Parts.{Raw}
 use Rattle.area.specs.Kind.{Sort}

@@ -7,8 +7,7 @@ use mathlib.Core.Bool.{cond, _||_}
 use lib.ListN.{length, take, drop}
 use lib.Dec.{ltb, eqb}
 use denote.Ref.{RefT}
-use Rattle.word.specs.Word.{u32At}
-use Rattle.word.specs.Part.{HandsBack}
+use Rattle.word.specs.Word.{u32At, HandsBack}
 use Rattle.refusal.specs.Told.{Told, told, longest}
 use Rattle.refusal.specs.declared.Refusal.the-variants as why
 

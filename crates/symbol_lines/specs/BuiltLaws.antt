@@ -13,8 +13,7 @@ use Rattle.walk.specs.FailsLaws.{FailsBy}
 use Rattle.refusal.specs.Told.{Told}
 use Rattle.area.specs.Kind.{Sort}
 use Rattle.find.specs.Find.{same}
-use Rattle.lines.specs.Lines.{countLines}
-use Rattle.lines.specs.Body.{Body}
+use Rattle.lines.specs.Lines.{countLines, Body}
 use Rattle.lines.specs.Slots.{listOf}
 use Rattle.order.specs.Order.{orderOf, ordered, slotsAfter, inOrder}
 use Rattle.order.specs.BuiltLaws.{built-list, built}

@@ -15,9 +15,8 @@ use Rattle.refusal.specs.Told.{Told, longest}
 use Rattle.area.specs.Kind.{Sort}
 use Rattle.find.specs.Find.{same, Span}
 use Rattle.line_record.specs.LimitsLaws.{Limits}
-use Rattle.lines.specs.Lines.{countLines}
+use Rattle.lines.specs.Lines.{countLines, Body, bodyOn}
 use Rattle.lines.specs.LinesLaws.{count-long}
-use Rattle.lines.specs.Body.{Body, bodyOn}
 use Rattle.lines.specs.Slots.{bodyAt, nameThen, named, slotAt, listIn, listOf}
 use Rattle.lines.specs.SlotsLaws.{scans-start, named-slot}
 use Rattle.line_step.specs.declared.LineWalk.{LineWalk}

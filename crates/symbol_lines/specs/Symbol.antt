@@ -14,7 +14,7 @@ use Rattle.refusal.specs.Told.{Told}
 use Rattle.area.specs.Kind.{Sort}
 use Rattle.body.specs.Lines.{LineHead, lineHead}
 use Rattle.find.specs.Find.{same}
-use Rattle.lines.specs.Body.{Body}
+use Rattle.lines.specs.Lines.{Body}
 use Rattle.lines.specs.Slots.{listOf}
 use Rattle.order.specs.Order.{inOrder}
 use Rattle.line_step.specs.Turn.{freshRest}

@@ -14,8 +14,7 @@ use Rattle.refusal.specs.Told.{Told}
 use Rattle.area.specs.Kind.{Sort}
 use Rattle.body.specs.Lines.{LineHead, lineHead}
 use Rattle.find.specs.Find.{same, Span, bytesAt}
-use Rattle.lines.specs.Lines.{countLines}
-use Rattle.lines.specs.Body.{Body, bodyOn}
+use Rattle.lines.specs.Lines.{countLines, Body, bodyOn}
 use Rattle.lines.specs.Slots.{bodyAt, nameThen, named, slotAt, listIn, Scans}
 use Rattle.lines.specs.SlotsLaws.{named-slot}
 use Rattle.symbol_lines.specs.Symbol.{headIs, isAt, isBefore, Numbered, numbered, slotOf, atSlot, beforeSlot, slotIn, better, walkTo, symbolWalk, walkOf}

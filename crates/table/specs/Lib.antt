@@ -4,11 +4,9 @@ pub mod Untold
 pub mod TableLaws
 pub mod StepLaws
 pub mod HandLaws
-pub mod Whole
 pub mod WholeLaws
 pub mod Rows
 pub mod RowsLaws
 pub mod Collect
 pub mod CollectLaws
-pub mod Words
 pub mod WordsLaws

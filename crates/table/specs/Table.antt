@@ -2,7 +2,7 @@
 -- for every table. Source: document 01, "Area and subsections" (without such a subsection the answer is empty), "A walk that ended answers none
 -- again", number 11, and "a place past the lent bytes is 1".
 -- Definitions only; a reader must believe them, but for `spotNew`, `spotOf` to `tableStep`: `table-walk` (table TableLaws) says what these mean.
-use Prim.Native.Nat.{ℕ, _+_}
+use Prim.Native.Nat.{ℕ, _+_, _*_}
 use mathlib.Core.List.{List}
 use mathlib.Core.Bool.{cond}
 use lib.ListN.{length, take, drop}
@@ -14,6 +14,8 @@ use Rattle.refusal.specs.declared.Refusal.the-variants as why
 use Rattle.find.specs.Find.{same, Span}
 use Rattle.table.specs.declared.TableWalk.{TableWalk}
 use Rattle.table.specs.declared.TableWalk.the-variants as walk
+use Rattle.body.specs.Words.{wordsIn}
+use Rattle.table.specs.Collect.{ofNth}
 
 -- a place in the body of len bytes at start
 pub record Place : Type 0 where
@@ -57,3 +59,16 @@ abbrev pub tableOf : {B C : Type 0} → (List ℕ → Listing B Told) → (ℕ �
 tableOf list show s (gave a) = mapped (show (a .start)) same (list (take (a .len) (drop (a .start) s)))
 tableOf list show s nothing = ends
 tableOf list show s (refused t) = fails t
+
+-- a table by the bytes of its body alone: what a body that a finder gives is read as
+abbrev pub ofBody : {D : Type 0} → (List ℕ → Listing D Told) → Reply (List ℕ) Told → Listing D Told
+ofBody f (gave b) = f b
+ofBody f nothing = ends
+ofBody f (refused t) = fails t
+
+-- word i of the count words at a place of the area, as a record tells its words: these must lie in it, else 1
+unfoldable pub wordIn : List ℕ → ℕ → ℕ → ℕ → Reply ℕ Told
+wordIn s words count i =
+    cond (ltb longest (length s)) (refused (told why.TooLong))
+    (cond (ltb (length s) (words + 4 * count)) (refused (told why.Cut))
+    (ofNth i (wordsIn count (drop words s)) nothing gave))

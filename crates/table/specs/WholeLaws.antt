@@ -10,9 +10,8 @@ use Rattle.walk.specs.ListingLaws.{Every}
 use Rattle.walk.specs.Pick.{mapReply}
 use Rattle.refusal.specs.Told.{Told, longest}
 use Rattle.find.specs.Find.{same, Span, bytesAt}
-use Rattle.table.specs.Table.{tableOf}
+use Rattle.table.specs.Table.{tableOf, ofBody}
 use Rattle.table.specs.TableLaws.{Finds}
-use Rattle.table.specs.Whole.{ofBody}
 
 -- ---- what holds of each record
 

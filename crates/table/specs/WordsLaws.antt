@@ -14,7 +14,7 @@ use Rattle.word.specs.Word.{u32At}
 use Rattle.word.specs.WordLaws.{u32-drop, u32-take}
 use Rattle.body.specs.Words.{wordsIn}
 use Rattle.table.specs.Collect.{ofNth}
-use Rattle.table.specs.Words.{wordIn}
+use Rattle.table.specs.Table.{wordIn}
 
 module _ {C : Type 0} (y : C) (f : ℕ → C) where
   nth-front : (n : ℕ) (s : List ℕ) (i : ℕ) → i < n → ofNth i (wordsIn n s) y f ≡ f (u32At s (4 * i))

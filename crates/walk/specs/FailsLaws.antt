@@ -1,7 +1,6 @@
 -- Why a listing can fail: what holds of each refusal that a step can give, and of those of the listings that it is made of, holds of its own.
 use Prim.Native.Nat.{ℕ, zero, suc}
-use Rattle.walk.specs.Listing.{Move, item, pass, over, fail, Listing, more, ends, fails, onMove, mapped, andThen, run, all}
-use Rattle.walk.specs.Spread.{spread}
+use Rattle.walk.specs.Listing.{Move, item, pass, over, fail, Listing, more, ends, fails, onMove, mapped, andThen, run, all, spread}
 
 -- Q holds of the refusal of a step, and of that of a listing, if there is one
 abbrev pub StepFailsBy : {S B R : Type 0} → (R → Type 0) → Move S B R → Type 0
