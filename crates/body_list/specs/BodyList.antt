@@ -37,11 +37,11 @@ inRoom m (refused t) = refused t
 abbrev pub bodyList : (ℕ → Sort) → List ℕ → ℕ → Reply ℕ Told
 bodyList rule s m = inRoom m (countLines rule s)
 
--- the slots behind an answer, which held xs before
-abbrev pub bodiesBy : (ℕ → Sort) → List ℕ → List ℕ → Reply ℕ Told → List ℕ
-bodiesBy rule s xs (gave n) = startsFrom rule s 0 ++ drop n xs
-bodiesBy rule s xs nothing = xs
-bodiesBy rule s xs (refused t) = xs
+-- the slots behind an answer, which held xs before: the numbers ys of a list at their start if it takes n of them, else as they were
+abbrev pub slotsHolding : List ℕ → List ℕ → Reply ℕ Told → List ℕ
+slotsHolding ys xs (gave n) = ys ++ drop n xs
+slotsHolding ys xs nothing = xs
+slotsHolding ys xs (refused t) = xs
 
 abbrev pub bodiesAfter : (ℕ → Sort) → List ℕ → List ℕ → List ℕ
-bodiesAfter rule s xs = bodiesBy rule s xs (bodyList rule s (length xs))
+bodiesAfter rule s xs = slotsHolding (startsFrom rule s 0) xs (bodyList rule s (length xs))

@@ -17,7 +17,7 @@ use Rattle.area.specs.Subs.{Sub, subsFrom, stepAt, firstOf}
 use Rattle.area.specs.SubsLaws.{sub-next, sub-end, sub-refused, subs-long}
 use Rattle.find.specs.Find.{is}
 use Rattle.lines.specs.Lines.{headed, plus, countOf, countLines}
-use Rattle.body_list.specs.BodyList.{listed, subStart, startsFrom, inRoom, bodyList, bodiesBy, bodiesAfter}
+use Rattle.body_list.specs.BodyList.{listed, subStart, startsFrom, inRoom, bodyList, slotsHolding, bodiesAfter}
 
 -- ---- as many bodies as are counted
 
@@ -100,14 +100,14 @@ module _ (rule : ℕ → Sort) (s xs : List ℕ) where
   pub list-refused : (t : Told) → refused t ≡ countLines rule s → (refused t ≡ bodyList rule s (length xs)) × (xs ≡ bodiesAfter rule s xs)
   list-refused t e =
       let q : refused t ≡ bodyList rule s (length xs) = ap (inRoom (length xs)) e in
-      (q, ap (bodiesBy rule s xs) q)
+      (q, ap (slotsHolding (startsFrom rule s 0) xs) q)
 
   module _ (n : ℕ) (e : gave n ≡ countLines rule s) where
     pub list-short : length xs < n → (refused (told why.NoRoom) ≡ bodyList rule s (length xs)) × (xs ≡ bodiesAfter rule s xs)
     list-short h =
         let g : refused (told why.NoRoom) ≡ inRoom (length xs) (gave n) = simp tests in
         let q : refused (told why.NoRoom) ≡ bodyList rule s (length xs) = g ∙ ap (inRoom (length xs)) e in
-        (q, ap (bodiesBy rule s xs) q)
+        (q, ap (slotsHolding (startsFrom rule s 0) xs) q)
 
     -- ys as `fill` leaves the slots
     pub list-all : n ≤ length xs → (ys : List ℕ) → ys ≡ startsFrom rule s 0 ++ drop (length (startsFrom rule s 0)) xs
@@ -115,7 +115,7 @@ module _ (rule : ℕ → Sort) (s xs : List ℕ) where
     list-all h ys f =
         let g : gave n ≡ inRoom (length xs) (gave n) = simp tests in
         let q : gave n ≡ bodyList rule s (length xs) = g ∙ ap (inRoom (length xs)) e in
-        (q, f ∙ ap (λ k. startsFrom rule s 0 ++ drop k xs) (counted-starts rule s n e) ∙ ap (bodiesBy rule s xs) q)
+        (q, f ∙ ap (λ k. startsFrom rule s 0 ++ drop k xs) (counted-starts rule s n e) ∙ ap (slotsHolding (startsFrom rule s 0) xs) q)
 
 -- the list takes n slots only after the tests
 pub listed-counted : (m : ℕ) (x : Reply ℕ Told) (n : ℕ) → gave n ≡ inRoom m x → gave n ≡ x

@@ -8,8 +8,8 @@ use native.Mathlib.Omega.{arith}
 use Rattle.walk.specs.Listing.{Reply, gave, nothing, refused}
 use Rattle.refusal.specs.Told.{Told}
 use Rattle.area.specs.Kind.{Sort}
-use Rattle.order.specs.Order.{ordered, slotsBy, slotsAfter}
-use Rattle.body_list.specs.BodyList.{bodyList, bodiesBy, bodiesAfter}
+use Rattle.order.specs.Order.{orderOf, ordered, slotsAfter}
+use Rattle.body_list.specs.BodyList.{startsFrom, bodyList, slotsHolding, bodiesAfter}
 use Rattle.answer_words.specs.Given.{Gives, given}
 use Rattle.answer_words.specs.GivenLaws.{Still, room-careful, gives-put}
 use Rattle.export_lines.specs.Calls.{orderGiven, slotsLeft, bodiesGiven, bodiesLeft, holdsOne, overWalk, linesGiven, recordsLeft}
@@ -30,7 +30,7 @@ pub order-careful : (rule : ℕ → Sort) (s v o : List ℕ) {r : ℕ} {left : L
     → slotsLeft rule s v o ≡ v
 order-careful rule s v o g z = room-careful o (ordered rule s (length v)) v (slotsAfter rule s v) (still (ordered rule s (length v))) g z
   where
-    still : (x : Reply ℕ Told) → Still x v (slotsBy rule s v x)
+    still : (x : Reply ℕ Told) → Still x v (slotsHolding (orderOf rule s) v x)
     still (gave n) = tt
     still nothing = refl
     still (refused t) = refl
@@ -39,7 +39,7 @@ pub bodies-careful : (rule : ℕ → Sort) (s b o : List ℕ) {r : ℕ} {left : 
     → bodiesLeft rule s b o ≡ b
 bodies-careful rule s b o g z = room-careful o (bodyList rule s (length b)) b (bodiesAfter rule s b) (still (bodyList rule s (length b))) g z
   where
-    still : (x : Reply ℕ Told) → Still x b (bodiesBy rule s b x)
+    still : (x : Reply ℕ Told) → Still x b (slotsHolding (startsFrom rule s 0) b x)
     still (gave n) = tt
     still nothing = refl
     still (refused t) = refl

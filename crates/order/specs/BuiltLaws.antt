@@ -24,13 +24,13 @@ use Rattle.lines.specs.Lines.{headed, countOf, countLines, Body, bodyOn}
 use Rattle.lines.specs.Slots.{bodyIn, bodyFrom, bodyAt, nameThen, named, listIn, listOf}
 use Rattle.lines.specs.SlotsLaws.{body-passed}
 use Rattle.lines.specs.LinesLaws.{counted-short}
-use Rattle.body_list.specs.BodyList.{listed, subStart, startsFrom}
+use Rattle.body_list.specs.BodyList.{listed, subStart, startsFrom, slotsHolding}
 use Rattle.body_list.specs.BodyListLaws.{plus-one, counted-starts, listed-counted}
 use Rattle.slot_key.specs.Sort.{sortBy}
 use Rattle.slot_key.specs.SortLaws.{Each, each-map, each-sort, map-sort, length-sort}
 use Rattle.slot_key.specs.Rank.{keyAt}
 use Rattle.slot_key.specs.RankLaws.{After, Ascends, stable}
-use Rattle.order.specs.Order.{orderOf, ordered, slotsBy, slotsAfter, bodyOf, lineBodies, keyOf, inOrder}
+use Rattle.order.specs.Order.{orderOf, ordered, slotsAfter, bodyOf, lineBodies, keyOf, inOrder}
 
 abbrev lines : Listing Sub Told → List Sub
 lines l = listed (only (is 0xf2) l)
@@ -199,7 +199,7 @@ module _ (rule : ℕ → Sort) (s : List ℕ) (n : ℕ) (e : gave n ≡ countLin
 -- as `order_list` leaves it
 pub built : (rule : ℕ → Sort) (s xs : List ℕ) (n : ℕ) → gave n ≡ ordered rule s (length xs) → listOf rule s (slotsAfter rule s xs) ≡ before (inOrder rule s) ends
 built rule s xs n e =
-    ap (λ x. listOf rule s (slotsBy rule s xs x)) (sym e) ∙ built-list rule s n (listed-counted (length xs) (countLines rule s) n e) (drop n xs)
+    ap (λ x. listOf rule s (slotsHolding (orderOf rule s) xs x)) (sym e) ∙ built-list rule s n (listed-counted (length xs) (countLines rule s) n e) (drop n xs)
 
 -- THE THEOREM for the list of bodies: it holds where the line bodies start, in the order of the area
 pub body-starts : (rule : ℕ → Sort) (s : List ℕ) → map bodyStart (lineBodies rule s) ≡ startsFrom rule s 0

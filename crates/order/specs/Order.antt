@@ -3,9 +3,9 @@
 -- unchanged; and "lent memory stays as found" of a refused call.
 -- Definitions only; a reader must believe them, but for `orderOf`: `order-starts` (order BuiltLaws) says what it means.
 use Prim.Native.Nat.{ℕ, _+_, _*_}
-use mathlib.Core.List.{List, _++_, map}
-use lib.ListN.{length, drop}
-use Rattle.walk.specs.Listing.{Reply, gave, nothing, refused}
+use mathlib.Core.List.{List, map}
+use lib.ListN.{length}
+use Rattle.walk.specs.Listing.{Reply}
 use Rattle.walk.specs.Pick.{only}
 use Rattle.refusal.specs.Told.{Told}
 use Rattle.area.specs.Kind.{Sort}
@@ -13,7 +13,7 @@ use Rattle.area.specs.Subs.{Sub, subsFrom}
 use Rattle.body.specs.Lines.{lineHead}
 use Rattle.find.specs.Find.{is, spanOf}
 use Rattle.lines.specs.Lines.{Body, bodyOn}
-use Rattle.body_list.specs.BodyList.{listed, startsFrom, bodyList}
+use Rattle.body_list.specs.BodyList.{listed, startsFrom, bodyList, slotsHolding}
 use Rattle.slot_key.specs.Sort.{sortBy}
 use Rattle.slot_key.specs.Rank.{rank}
 
@@ -25,14 +25,9 @@ orderOf rule s = sortBy (rank s) (startsFrom rule s 0)
 abbrev pub ordered : (ℕ → Sort) → List ℕ → ℕ → Reply ℕ Told
 ordered rule s m = bodyList rule s m
 
--- the slots behind an answer of the order list, which held xs before
-abbrev pub slotsBy : (ℕ → Sort) → List ℕ → List ℕ → Reply ℕ Told → List ℕ
-slotsBy rule s xs (gave n) = orderOf rule s ++ drop n xs
-slotsBy rule s xs nothing = xs
-slotsBy rule s xs (refused t) = xs
-
+-- the slots behind the order list, which held xs before
 abbrev pub slotsAfter : (ℕ → Sort) → List ℕ → List ℕ → List ℕ
-slotsAfter rule s xs = slotsBy rule s xs (ordered rule s (length xs))
+slotsAfter rule s xs = slotsHolding (orderOf rule s) xs (ordered rule s (length xs))
 
 -- ---- the line bodies of an area themselves, in walk order
 
