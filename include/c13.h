@@ -2,7 +2,8 @@
  *
  * The functions are those of the static library that `scripts/x86-64 library` makes (x86-64, System V calling convention). Each is proved to meet its
  * contract in crates/; this header says the same in words. "Document 01" is docs/01-scope.md. They call one function that is not theirs, memcpy of
- * the C library, and nothing else; that it copies is trusted, and not proved.
+ * the C library, and nothing else; that it copies is trusted, and not proved. The library that `scripts/windows library` makes has the same functions for
+ * Windows, in its calling convention, and a memcpy inside.
  *
  * At the end of this header stand inline functions over these calls: walks, records and refusals as structs. They are easier to use, and no part of
  * what is proved.

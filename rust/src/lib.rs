@@ -29,8 +29,8 @@
 //!
 //! The program `c13` of this package answers that from a shell.
 //!
-//! To link, the static library must be there: `scripts/x86-64 library` of the repository makes it, and where it lies elsewhere the environment
-//! variable `C13_LIBRARY` names its folder when this crate is built.
+//! To link, the static library must be there: `scripts/x86-64 library` of the repository makes it, `scripts/windows library` the one for Windows, and
+//! where it lies elsewhere the environment variable `C13_LIBRARY` names its folder when this crate is built.
 #![deny(unsafe_code)]
 #![warn(missing_docs, clippy::missing_errors_doc)]
 
