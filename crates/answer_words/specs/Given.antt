@@ -11,6 +11,7 @@ use lib.Dec.{leb}
 use Rattle.word.specs.Word.{store}
 use Rattle.walk.specs.Listing.{Answer, gives, none, refuses, Reply, gave, nothing, refused}
 use Rattle.refusal.specs.Told.{Told, numberOf, carriedOf}
+use Rattle.find.specs.Find.{Span}
 
 pub record Given : Type 0 where
   pub status : ℕ
@@ -52,6 +53,10 @@ stepGiven k f (refuses t) = refusalGiven k t
 -- the words of a number
 abbrev pub one : ℕ → List ℕ
 one n = n ∷ []
+
+-- the words of a part of the lent bytes: its start and its length
+abbrev pub spanWords : Span → List ℕ
+spanWords a = a .start ∷ a .len ∷ []
 
 -- one answer: f has its words
 abbrev pub replyGiven : {B : Type 0} → (B → List ℕ) → Reply B Told → Given

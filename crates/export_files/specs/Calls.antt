@@ -5,13 +5,11 @@ use Prim.Native.Nat.{ℕ}
 use mathlib.Core.List.{List, [], _∷_}
 use lib.ListN.{length}
 use Rattle.area.specs.Kind.{Sort}
-use Rattle.find.specs.Find.{Span}
 use Rattle.files.specs.Files.{fileStep, fileAt, checksumPart, fileIn}
-use Rattle.answer_words.specs.Given.{Given, stepGiven, replyGiven}
+use Rattle.answer_words.specs.Given.{Given, stepGiven, replyGiven, spanWords}
 use Rattle.answer_words.specs.TableWords.{tableStateSize, walkIn, walkWords, overTable, tableWords}
 use Rattle.answer_words.specs.FillGiven.{fillGiven, fillLeft}
-use Rattle.many_files.specs.FileWords.{infoWords, fileWords}
-use Rattle.many_files.specs.Files.{filesOf}
+use Rattle.many_files.specs.Files.{infoWords, fileWords, filesOf}
 
 abbrev pub fileGiven : (ℕ → Sort) → List ℕ → List ℕ → Given
 fileGiven rule s o = stepGiven tableStateSize (tableWords fileWords) (fileStep rule s (walkIn o))
@@ -27,12 +25,9 @@ filesLeft rule s x o = fillLeft tableStateSize fileWords o x (filesOf rule s (le
 abbrev pub infoGiven : (ℕ → Sort) → List ℕ → ℕ → Given
 infoGiven rule s index = replyGiven infoWords (fileAt rule s index)
 
--- the place and the length of the checksum body
-abbrev pub partWords : Span → List ℕ
-partWords a = a .start ∷ a .len ∷ []
-
+-- where the checksum body stands
 abbrev pub checksumsGiven : (ℕ → Sort) → List ℕ → Given
-checksumsGiven rule s = replyGiven partWords (checksumPart rule s)
+checksumsGiven rule s = replyGiven spanWords (checksumPart rule s)
 
 abbrev pub fileInGiven : List ℕ → ℕ → Given
 fileInGiven b index = replyGiven infoWords (fileIn b index)

@@ -10,8 +10,7 @@ use Rattle.answer_words.specs.Given.{Gives}
 use Rattle.answer_words.specs.TableWords.{tableStateSize, walkIn, walkWords, overTable}
 use Rattle.answer_words.specs.TableWordsLaws.{walk-length, over-read}
 use Rattle.answer_words.specs.FillGivenLaws.{fill-careful, fill-last}
-use Rattle.many_files.specs.FileWords.{fileWords}
-use Rattle.many_files.specs.Files.{filesOf}
+use Rattle.many_files.specs.Files.{fileWords, filesOf}
 use Rattle.many_files.specs.FilesLaws.{files-over}
 use Rattle.export_files.specs.Calls.{filesGiven, filesLeft}
 

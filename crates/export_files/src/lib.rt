@@ -6,7 +6,7 @@ ghost use lib.ListN.{length};
 ghost use Rattle.area.specs.Kind.{crateRule};
 ghost use Rattle.answer_words.specs.Given.{Gives, replyGiven};
 ghost use Rattle.files.specs.Told.{toldInfo};
-ghost use Rattle.many_files.specs.FileWords.{infoWords};
+ghost use Rattle.many_files.specs.Files.{infoWords};
 ghost use Rattle.export_files.specs.Calls.{fileGiven, filesGiven, filesLeft, infoGiven, checksumsGiven, fileInGiven};
 use answer_words::GIVEN;
 use answer_words::NONE;

@@ -1,15 +1,32 @@
--- What each call on parts gives, by the rule of kinds. s is the area or the stream, and o the lent words, whose first is the place of the next subsection.
+-- What each call on parts gives, by the rule of kinds, and the words of each answer: of a subsection first the place behind it, which is the next state. s is
+-- the area or the stream, and o the lent words, whose first is the place of the next subsection.
 -- Source: docs/DECISIONS.md, 32.
 -- Definitions only; a reader must believe them.
 use Prim.Native.Nat.{ℕ}
-use mathlib.Core.List.{List}
+use mathlib.Core.List.{List, [], _∷_}
 use lib.ListN.{getD}
 use Rattle.area.specs.Kind.{Sort}
-use Rattle.area.specs.Subs.{stepAt}
-use Rattle.strings.specs.Strings.{namesOf, nameAt}
+use Rattle.area.specs.Subs.{stepAt, Sub}
+use Rattle.strings.specs.Strings.{namesOf, nameAt, Outcome, part, refused}
 use Rattle.modi.specs.Modi.{moduleSymbols, linesSpan, tablesSpan}
-use Rattle.answer_words.specs.Given.{Given, stepGiven, replyGiven}
-use Rattle.export_parts.specs.Words.{subStateSize, subWords, yes, spanWords, outcomeGiven}
+use Rattle.answer_words.specs.Given.{Given, stepGiven, replyGiven, spanWords, given, refusalGiven}
+
+-- the state of a walk over subsections is a place
+abbrev pub subStateSize : ℕ
+subStateSize = 1
+
+-- the place behind a subsection; its kind, and where its body stands
+abbrev pub subWords : Sub → ℕ → List ℕ
+subWords b next = next ∷ b .kind ∷ b .start ∷ b .len ∷ []
+
+-- nothing but that there is an answer
+abbrev pub yes : Unit {0} → List ℕ
+yes u = []
+
+-- a part of a string table's stream: its start and its length
+abbrev pub outcomeGiven : Outcome → Given
+outcomeGiven (part start len) = given 1 0 (start ∷ len ∷ [])
+outcomeGiven (refused t) = refusalGiven 0 t
 
 abbrev pub subGiven : (ℕ → Sort) → List ℕ → List ℕ → Given
 subGiven rule s o = stepGiven subStateSize subWords (stepAt rule s (getD o 0 0))

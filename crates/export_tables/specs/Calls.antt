@@ -1,18 +1,35 @@
--- What each call on a table gives, by the rule of kinds. s is the area, v the slots of a list of places, b a body that is lent alone, and o the lent words,
--- whose first are a walk's state. The list changes its slots only with room for a refusal in o. Source: docs/DECISIONS.md, 32.
+-- What each call on a table gives, by the rule of kinds, and the words of each record. s is the area, v the slots of a list of places, b a body that is
+-- lent alone, and o the lent words, whose first are a walk's state. The list changes its slots only with room for a refusal in o.
+-- Source: docs/DECISIONS.md, 32.
 -- Definitions only; a reader must believe them.
 use Prim.Native.Nat.{ℕ}
-use mathlib.Core.List.{List}
+use mathlib.Core.List.{List, [], _∷_}
 use Rattle.area.specs.Kind.{Sort}
 use Rattle.table.specs.Table.{wordIn}
-use Rattle.inlinees.specs.Inlinees.{inlineeStep}
-use Rattle.imports.specs.Imports.{importStep, resolveImport}
+use Rattle.inlinees.specs.Inlinees.{inlineeStep, SourceLine}
+use Rattle.imports.specs.Imports.{importStep, resolveImport, ModuleAt, Ref}
 use Rattle.imports.specs.Listed.{importList, placesAfter, resolveListed}
-use Rattle.exports.specs.Exports.{exportStep, exportCount, resolveExport}
+use Rattle.exports.specs.Exports.{exportStep, exportCount, resolveExport, Export, aType, anId}
 use Rattle.exports.specs.InBody.{exportBody, exportAt, globalIn}
-use Rattle.answer_words.specs.Given.{Given, refusalSize, one, stepGiven, replyGiven, ifRoom, shortGiven}
+use Rattle.answer_words.specs.Given.{Given, refusalSize, one, stepGiven, replyGiven, ifRoom, shortGiven, spanWords}
 use Rattle.answer_words.specs.TableWords.{tableStateSize, walkIn, tableWords}
-use Rattle.export_tables.specs.Words.{inlineeWords, moduleWords, refWords, exportWords, bodyWords}
+
+-- the inlinee, its file and line, the place of its extra files, their number
+abbrev pub inlineeWords : SourceLine → List ℕ
+inlineeWords l = l .inlinee ∷ l .file ∷ l .line ∷ l .extra ∷ l .count ∷ []
+
+-- a module of the imports: its name, the place of its words, their number
+abbrev pub moduleWords : ModuleAt → List ℕ
+moduleWords m = m .name ∷ m .words ∷ m .count ∷ []
+
+-- a reference: its module's name, and its word
+abbrev pub refWords : Ref → List ℕ
+refWords r = r .name ∷ r .word ∷ []
+
+-- 0 for a type or 1 for an id; the local and the global index
+abbrev pub exportWords : Export → List ℕ
+exportWords (aType l g) = 0 ∷ l ∷ g ∷ []
+exportWords (anId l g) = 1 ∷ l ∷ g ∷ []
 
 -- word i of the count words at a place
 abbrev pub wordGiven : List ℕ → ℕ → ℕ → ℕ → Given
@@ -47,7 +64,7 @@ abbrev pub listedGiven : List ℕ → List ℕ → ℕ → Given
 listedGiven s v index = replyGiven refWords (resolveListed s v index)
 
 abbrev pub bodyGiven : (ℕ → Sort) → List ℕ → Given
-bodyGiven rule s = replyGiven bodyWords (exportBody rule s)
+bodyGiven rule s = replyGiven spanWords (exportBody rule s)
 
 abbrev pub exportAtGiven : List ℕ → ℕ → Given
 exportAtGiven b i = replyGiven exportWords (exportAt b i)

@@ -14,8 +14,7 @@ use Rattle.imports.specs.Imports.{Ref, ModuleAt, scopeOf, idOf, ifRef, moduleOf
 use Rattle.imports.specs.Listed.{importPlaces, ifSlots, slotsUsed, importList, slotsWith, placesAfter, refOn, refAt, resolveListed}
 use Rattle.answer_words.specs.Given.{Gives, given, refusalGiven, replyGiven}
 use Rattle.answer_words.specs.GivenLaws.{Still, room-careful, gives-short}
-use Rattle.export_tables.specs.Words.{refWords}
-use Rattle.export_tables.specs.Calls.{listGiven, placesLeft, listedGiven}
+use Rattle.export_tables.specs.Calls.{refWords, listGiven, placesLeft, listedGiven}
 
 -- THE LAW: with any status but 1 the slots are as they were
 pub places-careful : (rule : ℕ → Sort) (s v o : List ℕ) {r : ℕ} {left : List ℕ} → Gives o (listGiven rule s (length v) o) r left → (r ≡ 1 → ⊥)

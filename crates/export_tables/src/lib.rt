@@ -7,7 +7,7 @@ ghost use Rattle.imports.specs.Told.{toldResolved};
 ghost use Rattle.exports.specs.Told.{toldExport, toldLookup};
 ghost use Rattle.area.specs.Kind.{crateRule};
 ghost use Rattle.answer_words.specs.Given.{Gives, one, replyGiven};
-ghost use Rattle.export_tables.specs.Words.{refWords, exportWords};
+ghost use Rattle.export_tables.specs.Calls.{refWords, exportWords};
 ghost use Rattle.export_tables.specs.Calls.{wordGiven, inlineeGiven, moduleGiven, refGiven, exportGiven, countGiven, globalGiven};
 ghost use Rattle.export_tables.specs.Calls.{listGiven, placesLeft, listedGiven, bodyGiven, exportAtGiven, globalInGiven};
 use answer_words::GIVEN;

@@ -23,9 +23,8 @@ use Rattle.answer_words.specs.FillLaws.{fill-stored}
 use Rattle.answer_words.specs.FillGivenLaws.{Behind, fill-behind-each}
 use Rattle.answer_words.specs.PiecesLaws.{put-part}
 use Rattle.answer_words.specs.TableWords.{overTable}
-use Rattle.many_files.specs.FileWords.{fileSize, fileWords}
+use Rattle.many_files.specs.Files.{fileSize, fileWords, filesOf}
 use Rattle.many_files.specs.FileWordsLaws.{file-length}
-use Rattle.many_files.specs.Files.{filesOf}
 
 module _ (rule : ℕ → Sort) (s : List ℕ) (w₀ : TableWalk) (o₀ : List ℕ) where
   -- n files are put into o, and the walk behind them is w

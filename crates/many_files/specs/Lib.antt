@@ -1,4 +1,3 @@
-pub mod FileWords
 pub mod FileWordsLaws
 pub mod Files
 pub mod Told

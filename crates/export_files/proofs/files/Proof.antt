@@ -11,8 +11,7 @@ use Rattle.answer_words.specs.TableWords.{tableStateSize, walkIn, walkWords, ov
 use Rattle.answer_words.specs.TableWordsLaws.{gives-table}
 use Rattle.answer_words.specs.FillGiven.{answerStatus}
 use Rattle.answer_words.specs.FillGivenLaws.{fill-short, fill-given}
-use Rattle.many_files.specs.FileWords.{fileWords}
-use Rattle.many_files.specs.Files.{filesOf}
+use Rattle.many_files.specs.Files.{fileWords, filesOf}
 use Rattle.many_files.specs.Told.{toldFiles}
 use Rattle.export_files.proofs.files.Statement.{statement}
 use Rattle.export_files.proofs.files.Tie as tie

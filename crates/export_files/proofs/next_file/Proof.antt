@@ -9,7 +9,7 @@ use Rattle.answer_words.specs.Given.{stepGiven}
 use Rattle.answer_words.specs.GivenLaws.{gives-as, gives-none}
 use Rattle.answer_words.specs.TableWords.{tableStateSize, tableWords}
 use Rattle.answer_words.specs.TableWordsLaws.{gives-table}
-use Rattle.many_files.specs.FileWords.{fileWords}
+use Rattle.many_files.specs.Files.{fileWords}
 use Rattle.many_files.specs.FileWordsLaws.{file-words}
 use Rattle.export_files.proofs.next_file.Statement.{statement}
 use Rattle.export_files.proofs.next_file.Tie as tie

@@ -5,7 +5,7 @@ use mathlib.Core.Path.{sym, ap}
 use Rattle.files.specs.Told.{toldInfo}
 use Rattle.answer_words.specs.Given.{given, replyGiven}
 use Rattle.answer_words.specs.GivenLaws.{gives-as}
-use Rattle.many_files.specs.FileWords.{infoWords}
+use Rattle.many_files.specs.Files.{infoWords}
 use Rattle.many_files.specs.FileWordsLaws.{info-words}
 use Rattle.export_files.proofs.put_info.Statement.{statement}
 use Rattle.export_files.proofs.put_info.Tie as tie

@@ -3,9 +3,8 @@
 use borrow.Author.Needs.{needs}
 use mathlib.Core.Path.{sym, ap, _∙_}
 use Rattle.modi.specs.Told.{toldPart}
-use Rattle.answer_words.specs.Given.{replyGiven}
+use Rattle.answer_words.specs.Given.{replyGiven, spanWords}
 use Rattle.answer_words.specs.GivenLaws.{gives-as}
-use Rattle.export_parts.specs.Words.{spanWords}
 use Rattle.export_parts.proofs.lines_part.Statement.{statement}
 use Rattle.export_parts.proofs.lines_part.Tie as tie
 

@@ -5,7 +5,7 @@ use mathlib.Core.Path.{sym, ap, _∙_}
 use Rattle.modi.specs.Told.{toldSymbols}
 use Rattle.answer_words.specs.Given.{replyGiven}
 use Rattle.answer_words.specs.GivenLaws.{gives-as, gives-nothing}
-use Rattle.export_parts.specs.Words.{yes}
+use Rattle.export_parts.specs.Calls.{yes}
 use Rattle.export_parts.proofs.module_symbols.Statement.{statement}
 use Rattle.export_parts.proofs.module_symbols.Tie as tie
 

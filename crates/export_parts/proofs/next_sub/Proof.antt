@@ -6,7 +6,7 @@ use Rattle.area.specs.Kind.{crateRule}
 use Rattle.area.specs.Subs.{stepAt}
 use Rattle.area.specs.Told.{toldStep}
 use Rattle.answer_words.specs.Given.{stepGiven}
-use Rattle.export_parts.specs.Words.{subStateSize, subWords}
+use Rattle.export_parts.specs.Calls.{subStateSize, subWords}
 use Rattle.answer_words.specs.GivenLaws.{gives-as, gives-none}
 use Rattle.export_parts.proofs.next_sub.Statement.{statement}
 use Rattle.export_parts.proofs.next_sub.Tie as tie

@@ -4,7 +4,7 @@ use borrow.Author.Needs.{needs}
 use mathlib.Core.Path.{sym, ap, _∙_}
 use Rattle.strings.specs.Told.{toldTable}
 use Rattle.answer_words.specs.GivenLaws.{gives-as}
-use Rattle.export_parts.specs.Words.{outcomeGiven}
+use Rattle.export_parts.specs.Calls.{outcomeGiven}
 use Rattle.export_parts.proofs.string_table.Statement.{statement}
 use Rattle.export_parts.proofs.string_table.Tie as tie
 

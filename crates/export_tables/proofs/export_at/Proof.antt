@@ -5,7 +5,7 @@ use mathlib.Core.Path.{sym, ap, _∙_}
 use Rattle.exports.specs.Told.{toldExportAt}
 use Rattle.answer_words.specs.Given.{given, replyGiven}
 use Rattle.answer_words.specs.GivenLaws.{gives-as, gives-none}
-use Rattle.export_tables.specs.Words.{exportWords}
+use Rattle.export_tables.specs.Calls.{exportWords}
 use Rattle.export_tables.proofs.export_at.Statement.{statement}
 use Rattle.export_tables.proofs.export_at.Tie as tie
 

@@ -3,21 +3,20 @@
 use borrow.Author.Needs.{needs}
 use mathlib.Core.Path.{sym, ap, _∙_}
 use Rattle.exports.specs.Told.{toldBody}
-use Rattle.answer_words.specs.Given.{replyGiven}
+use Rattle.answer_words.specs.Given.{replyGiven, spanWords}
 use Rattle.answer_words.specs.GivenLaws.{gives-as}
-use Rattle.export_tables.specs.Words.{bodyWords}
 use Rattle.export_tables.proofs.export_body.Statement.{statement}
 use Rattle.export_tables.proofs.export_body.Tie as tie
 
 returns : tie.Need-returns
 returns c =
     let h = c .before .before .before .before .before .before in
-    gives-as (replyGiven bodyWords) (ap toldBody (sym (h .start .given .1)) ∙ h .before .before .export-body .ensures) (c .before .before .put .ensures)
+    gives-as (replyGiven spanWords) (ap toldBody (sym (h .start .given .1)) ∙ h .before .before .export-body .ensures) (c .before .before .put .ensures)
 
 returns-2 : tie.Need-returns-2
 returns-2 c =
     let h = c .before .before .before .before .before in
-    gives-as (replyGiven bodyWords) (ap toldBody (sym (h .why .given .1)) ∙ h .before .before .export-body .ensures) (c .before .before .put-refusal .ensures)
+    gives-as (replyGiven spanWords) (ap toldBody (sym (h .why .given .1)) ∙ h .before .before .export-body .ensures) (c .before .before .put-refusal .ensures)
 
 pub export-body-spec : {M : Type 1} → statement M
 export-body-spec =

@@ -4,7 +4,7 @@ use borrow.Author.Needs.{needs}
 use mathlib.Core.Path.{ap}
 use Rattle.exports.specs.declared.CrossModuleExport.{CrossModuleExport}
 use Rattle.exports.specs.Told.{toldExport}
-use Rattle.export_tables.specs.Words.{exportWords}
+use Rattle.export_tables.specs.Calls.{exportWords}
 use Rattle.export_tables.proofs.export_words.Statement.{statement}
 use Rattle.export_tables.proofs.export_words.Tie as tie
 

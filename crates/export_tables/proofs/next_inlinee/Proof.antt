@@ -9,7 +9,7 @@ use Rattle.answer_words.specs.Given.{stepGiven}
 use Rattle.answer_words.specs.GivenLaws.{gives-as, gives-none}
 use Rattle.answer_words.specs.TableWords.{tableStateSize, tableWords}
 use Rattle.answer_words.specs.TableWordsLaws.{gives-table}
-use Rattle.export_tables.specs.Words.{inlineeWords}
+use Rattle.export_tables.specs.Calls.{inlineeWords}
 use Rattle.export_tables.proofs.next_inlinee.Statement.{statement}
 use Rattle.export_tables.proofs.next_inlinee.Tie as tie
 

@@ -5,7 +5,7 @@ use mathlib.Core.Path.{sym, ap}
 use Rattle.imports.specs.Told.{toldResolved}
 use Rattle.answer_words.specs.Given.{replyGiven}
 use Rattle.answer_words.specs.GivenLaws.{gives-as}
-use Rattle.export_tables.specs.Words.{refWords}
+use Rattle.export_tables.specs.Calls.{refWords}
 use Rattle.export_tables.proofs.put_ref.Statement.{statement}
 use Rattle.export_tables.proofs.put_ref.Tie as tie
 

@@ -3,7 +3,7 @@
 use borrow.Author.Needs.{needs}
 use Rattle.answer_words.specs.Given.{replyGiven}
 use Rattle.answer_words.specs.GivenLaws.{gives-as}
-use Rattle.export_tables.specs.Words.{refWords}
+use Rattle.export_tables.specs.Calls.{refWords}
 use Rattle.export_tables.proofs.resolve_import.Statement.{statement}
 use Rattle.export_tables.proofs.resolve_import.Tie as tie
 

@@ -4,7 +4,7 @@ use borrow.Author.Needs.{needs}
 use native.Mathlib.Omega.{arith}
 use Rattle.answer_words.specs.Given.{replyGiven}
 use Rattle.answer_words.specs.GivenLaws.{gives-as}
-use Rattle.export_tables.specs.Words.{refWords}
+use Rattle.export_tables.specs.Calls.{refWords}
 use Rattle.export_tables.specs.CallsLaws.{listed-short}
 use Rattle.export_tables.proofs.resolve_listed.Statement.{statement}
 use Rattle.export_tables.proofs.resolve_listed.Tie as tie

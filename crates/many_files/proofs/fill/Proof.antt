@@ -11,7 +11,7 @@ use Rattle.files.specs.Files.{fileStep}
 use Rattle.files.specs.FilesLaws.{file-leads}
 use Rattle.files.specs.Told.{toldFile}
 use Rattle.answer_words.specs.FillLaws.{fill-start, fill-full, fill-stop, fill-none}
-use Rattle.many_files.specs.FileWords.{fileSize, fileWords}
+use Rattle.many_files.specs.Files.{fileSize, fileWords}
 use Rattle.many_files.specs.FileWordsLaws.{file-length, file-words}
 use Rattle.many_files.specs.FilesLaws.{Put, put-file}
 use Rattle.many_files.proofs.fill.Statement.{statement}

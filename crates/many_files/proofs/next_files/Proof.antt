@@ -6,7 +6,7 @@ use mathlib.Core.Path.{_∙_}
 use Rattle.area.specs.Kind.{crateRule}
 use Rattle.files.specs.Files.{fileStep}
 use Rattle.answer_words.specs.FillLaws.{fill-no-room}
-use Rattle.many_files.specs.FileWords.{fileSize, fileWords}
+use Rattle.many_files.specs.Files.{fileSize, fileWords}
 use Rattle.many_files.specs.FileWordsLaws.{file-length}
 use Rattle.many_files.proofs.next_files.Statement.{statement}
 use Rattle.many_files.proofs.next_files.Tie as tie
