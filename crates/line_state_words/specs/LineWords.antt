@@ -8,8 +8,10 @@
 use Prim.Native.Nat.{ℕ, _+_, _%_}
 use mathlib.Core.List.{List, [], _∷_, _++_}
 use mathlib.Core.Bool.{cond}
+use mathlib.Core.Option.{Option, none, some}
 use lib.ListN.{getD, replicate}
 use lib.Dec.{eqb}
+use Rattle.line_record.specs.Told.{toldLength, toldColumn, toldLineKind}
 use Rattle.line_record.specs.declared.Length.{Length}
 use Rattle.line_record.specs.declared.Length.the-variants as length
 use Rattle.line_record.specs.declared.Column.{Column}
@@ -46,28 +48,20 @@ stateSize = restSize + placeSize
 
 -- ---- a record
 
--- a length, and a column: 0 and 0 without one, else 1 and the number
-abbrev pub lengthWords : Length → List ℕ
-lengthWords length.Unset = 0 ∷ 0 ∷ []
-lengthWords (length.Is n) = 1 ∷ n ∷ []
-
-abbrev pub columnWords : Column → List ℕ
-columnWords column.None = 0 ∷ 0 ∷ []
-columnWords (column.At n) = 1 ∷ n ∷ []
-
-abbrev pub kindWord : LineKind → ℕ
-kindWord kind.Expression = 0
-kindWord kind.Statement = 1
+-- a number that may be missing: 0 and 0 without it, else 1 and the number
+abbrev pub optionWords : Option ℕ → List ℕ
+optionWords none = 0 ∷ 0 ∷ []
+optionWords (some n) = 1 ∷ n ∷ []
 
 abbrev pub recordWords : LineRecord → List ℕ
 recordWords r =
     r .section
     ∷ r .offset
-    ∷ (lengthWords (r .length)
+    ∷ (optionWords (toldLength (r .length))
     ++ (r .file
     ∷ r .«start_line»
     ∷ r .«end_line»
-    ∷ (columnWords (r .«column_start») ++ (columnWords (r .«column_end») ++ (kindWord (r .kind) ∷ [])))))
+    ∷ (optionWords (toldColumn (r .«column_start»)) ++ (optionWords (toldColumn (r .«column_end»)) ++ (toldLineKind (r .kind) ∷ [])))))
 
 -- ---- read back
 

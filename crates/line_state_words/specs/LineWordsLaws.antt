@@ -5,6 +5,7 @@ use mathlib.Core.List.{List, [], _∷_, _++_}
 use native.Mathlib.Omega.{arith}
 use lib.ListN.{length, getD, length-append}
 use borrow.Author.Tests.{eq-eqb, ne-eqb}
+use Rattle.line_record.specs.Told.{toldLength, toldColumn, toldLineKind}
 use Rattle.line_record.specs.declared.Length.{Length}
 use Rattle.line_record.specs.declared.Length.the-variants as len
 use Rattle.line_record.specs.declared.Column.{Column}
@@ -21,7 +22,7 @@ use Rattle.word.specs.WordLaws.{put-length, store-put}
 use Rattle.answer_words.specs.Given.{given, Gives}
 use Rattle.answer_words.specs.PiecesLaws.{two-pieces, gives-pieces}
 use Rattle.line_state_words.specs.LineWords.{recordSize, heldAt, restSize, stateSize}
-use Rattle.line_state_words.specs.LineWords.{lengthWords, columnWords, kindWord, recordWords, heldWords, restWords, lineWalkWords}
+use Rattle.line_state_words.specs.LineWords.{optionWords, recordWords, heldWords, restWords, lineWalkWords}
 use Rattle.line_state_words.specs.LineWords.{recordIn, heldIn, restIn, placeIn, lineWalkIn}
 
 -- ---- read back
@@ -51,11 +52,11 @@ module _ (o : List ℕ) (n : ℕ) (e : n ≡ getD o 0 0) where
 
 -- ---- how many words
 
-two-length : (l : Length) → length (lengthWords l) ≡ 2
+two-length : (l : Length) → length (optionWords (toldLength l)) ≡ 2
 two-length len.Unset = refl
 two-length (len.Is n) = refl
 
-two-column : (l : Column) → length (columnWords l) ≡ 2
+two-column : (l : Column) → length (optionWords (toldColumn l)) ≡ 2
 two-column col.None = refl
 two-column (col.At n) = refl
 
@@ -78,8 +79,8 @@ walk-length (walk.Inside p t) = simp length-append (omega (arith, held-length (t
 -- ---- put
 
 -- the words of a record from those of its parts
-pub record-words : (r : LineRecord) {l₀ l₁ s₀ s₁ e₀ e₁ k : ℕ} → lengthWords (r .length) ≡ l₀ ∷ l₁ ∷ [] → columnWords (r .«column_start») ≡ s₀ ∷ s₁ ∷ []
-    → columnWords (r .«column_end») ≡ e₀ ∷ e₁ ∷ [] → kindWord (r .kind) ≡ k
+pub record-words : (r : LineRecord) {l₀ l₁ s₀ s₁ e₀ e₁ k : ℕ} → optionWords (toldLength (r .length)) ≡ l₀ ∷ l₁ ∷ [] → optionWords (toldColumn (r .«column_start»)) ≡ s₀ ∷ s₁ ∷ []
+    → optionWords (toldColumn (r .«column_end»)) ≡ e₀ ∷ e₁ ∷ [] → toldLineKind (r .kind) ≡ k
     → recordWords r ≡ r .section ∷ r .offset ∷ l₀ ∷ l₁ ∷ r .file ∷ r .«start_line» ∷ r .«end_line» ∷ s₀ ∷ s₁ ∷ e₀ ∷ e₁ ∷ k ∷ []
 record-words r l s e k =
     λ i. r .section ∷ r .offset ∷ (l i ++ (r .file ∷ r .«start_line» ∷ r .«end_line» ∷ (s i ++ (e i ++ (k i ∷ [])))))

@@ -6,6 +6,7 @@ use mathlib.Core.List.{List, [], _∷_, _++_, append-assoc}
 use native.Mathlib.Omega.{arith}
 use lib.ListN.{getD}
 use lib.Seq.{getD-append-add}
+use Rattle.line_record.specs.Told.{toldLength, toldColumn, toldLineKind}
 use Rattle.line_record.specs.declared.Length.{Length}
 use Rattle.line_record.specs.declared.Length.the-variants as len
 use Rattle.line_record.specs.declared.Column.{Column}
@@ -19,7 +20,7 @@ use Rattle.line_step.specs.declared.Rest.{Rest}
 use Rattle.line_step.specs.declared.Place.{Place}
 use Rattle.line_step.specs.declared.LineWalk.{LineWalk}
 use Rattle.line_step.specs.declared.LineWalk.the-variants as walk
-use Rattle.line_state_words.specs.LineWords.{restSize, lengthWords, columnWords, kindWord, recordWords, u16Of, u32Of, lengthOf, columnOf, kindIn, recordIn, heldIn, restIn, placeIn, lineWalkIn, heldWords, restWords, placeWords, noPlace, lineWalkWords}
+use Rattle.line_state_words.specs.LineWords.{restSize, optionWords, recordWords, u16Of, u32Of, lengthOf, columnOf, kindIn, recordIn, heldIn, restIn, placeIn, lineWalkIn, heldWords, restWords, placeWords, noPlace, lineWalkWords}
 use Rattle.line_state_words.specs.LineWordsLaws.{record-words, rest-length}
 
 -- ---- what fits
@@ -78,15 +79,15 @@ record TwoWords {A : Type 0} (words : A → List ℕ) (back : ℕ → ℕ → A)
   is : words x ≡ first ∷ second ∷ []
   read : back first second ≡ x
 
-two-length : (l : Length) → FitsLength l → TwoWords lengthWords lengthOf l
+two-length : (l : Length) → FitsLength l → TwoWords (λ l. optionWords (toldLength l)) lengthOf l
 two-length len.Unset h = record { first = 0; second = 0; is = refl; read = refl }
 two-length (len.Is n) h = record { first = 1; second = n; is = refl; read = ap len.Is (u32-same n h) }
 
-two-column : (c : Column) → FitsColumn c → TwoWords columnWords columnOf c
+two-column : (c : Column) → FitsColumn c → TwoWords (λ c. optionWords (toldColumn c)) columnOf c
 two-column col.None h = record { first = 0; second = 0; is = refl; read = refl }
 two-column (col.At n) h = record { first = 1; second = n; is = refl; read = ap col.At (u32-same n h) }
 
-kind-same : (k : LineKind) → kindIn (kindWord k) ≡ k
+kind-same : (k : LineKind) → kindIn (toldLineKind k) ≡ k
 kind-same kind.Expression = refl
 kind-same kind.Statement = refl
 

@@ -5,9 +5,10 @@ ghost use Prim.Native.Nat.{_≤_};
 ghost use lib.ListN.{length, getD};
 ghost use Rattle.word.specs.Word.{put, store};
 ghost use Rattle.answer_words.specs.Given.{given, Gives};
+ghost use Rattle.line_record.specs.Told.{toldLength, toldColumn, toldLineKind};
 ghost use Rattle.line_state_words.specs.LineWords.{heldAt, restSize, stateSize};
 ghost use Rattle.line_state_words.specs.LineWords.{u16Of, u32Of, lengthOf, columnOf, kindIn, recordIn, heldIn, restIn, headIn, placeIn, lineWalkIn};
-ghost use Rattle.line_state_words.specs.LineWords.{lengthWords, columnWords, kindWord, recordWords};
+ghost use Rattle.line_state_words.specs.LineWords.{optionWords, recordWords};
 ghost use Rattle.line_state_words.specs.LineWords.{heldWords, restWords, placeWords, lineWalkWords};
 use answer_words::GIVEN;
 use answer_words::TOO_SHORT;
@@ -169,7 +170,7 @@ pub fn line_walk_in(out: &[u64]) -> LineWalk
 struct Pair(u32, u32);
 
 fn length_words(l: Length) -> Pair
-    ensures { λ r. ⌜ lengthWords l ≡ r .0 ∷ r .1 ∷ [] ⌝ }
+    ensures { λ r. ⌜ optionWords (toldLength l) ≡ r .0 ∷ r .1 ∷ [] ⌝ }
 {
     match l {
         Length::Unset => Pair(0, 0),
@@ -178,7 +179,7 @@ fn length_words(l: Length) -> Pair
 }
 
 fn column_words(l: Column) -> Pair
-    ensures { λ r. ⌜ columnWords l ≡ r .0 ∷ r .1 ∷ [] ⌝ }
+    ensures { λ r. ⌜ optionWords (toldColumn l) ≡ r .0 ∷ r .1 ∷ [] ⌝ }
 {
     match l {
         Column::None => Pair(0, 0),
@@ -187,7 +188,7 @@ fn column_words(l: Column) -> Pair
 }
 
 fn kind_word(k: LineKind) -> u32
-    ensures { λ r. ⌜ kindWord k ≡ r ⌝ }
+    ensures { λ r. ⌜ toldLineKind k ≡ r ⌝ }
 {
     match k {
         LineKind::Expression => 0,

@@ -1,8 +1,9 @@
--- `line_state_words::column_words` meets its contract: each arm is a case of `columnWords`.
+-- `line_state_words::column_words` meets its contract: each arm is a case of `toldColumn`.
 -- Assumes nothing.
 use borrow.Author.Needs.{needs}
 use mathlib.Core.Path.{ap}
-use Rattle.line_state_words.specs.LineWords.{columnWords}
+use Rattle.line_record.specs.Told.{toldColumn}
+use Rattle.line_state_words.specs.LineWords.{optionWords}
 use Rattle.line_state_words.proofs.column_words.Statement.{statement}
 use Rattle.line_state_words.proofs.column_words.Tie as tie
 
@@ -12,5 +13,5 @@ column-words-spec =
     (tie.spec
     (λ c. search needs)
     (λ c. search needs)
-    (λ c. ap columnWords (c .enum-told .given .1))
-    (λ c. ap columnWords (c .before .l .given .1)))
+    (λ c. ap (λ l. optionWords (toldColumn l)) (c .enum-told .given .1))
+    (λ c. ap (λ l. optionWords (toldColumn l)) (c .before .l .given .1)))

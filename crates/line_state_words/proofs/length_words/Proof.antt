@@ -1,8 +1,9 @@
--- `line_state_words::length_words` meets its contract: each arm is a case of `lengthWords`.
+-- `line_state_words::length_words` meets its contract: each arm is a case of `toldLength`.
 -- Assumes nothing.
 use borrow.Author.Needs.{needs}
 use mathlib.Core.Path.{ap}
-use Rattle.line_state_words.specs.LineWords.{lengthWords}
+use Rattle.line_record.specs.Told.{toldLength}
+use Rattle.line_state_words.specs.LineWords.{optionWords}
 use Rattle.line_state_words.proofs.length_words.Statement.{statement}
 use Rattle.line_state_words.proofs.length_words.Tie as tie
 
@@ -12,5 +13,5 @@ length-words-spec =
     (tie.spec
     (λ c. search needs)
     (λ c. search needs)
-    (λ c. ap lengthWords (c .enum-told .given .1))
-    (λ c. ap lengthWords (c .before .l .given .1)))
+    (λ c. ap (λ l. optionWords (toldLength l)) (c .enum-told .given .1))
+    (λ c. ap (λ l. optionWords (toldLength l)) (c .before .l .given .1)))
