@@ -7,9 +7,9 @@ use mathlib.Core.List.{List, [], _∷_}
 use lib.ListN.{getD}
 use Rattle.area.specs.Kind.{Sort}
 use Rattle.area.specs.Subs.{stepAt, Sub}
-use Rattle.strings.specs.Strings.{namesOf, nameAt, Outcome, part, refused}
+use Rattle.strings.specs.Strings.{namesOf, nameAt}
 use Rattle.modi.specs.Modi.{moduleSymbols, linesSpan, tablesSpan}
-use Rattle.answer_words.specs.Given.{Given, stepGiven, replyGiven, spanWords, given, refusalGiven}
+use Rattle.answer_words.specs.Given.{Given, stepGiven, replyGiven, spanWords}
 
 -- the state of a walk over subsections is a place
 abbrev pub subStateSize : ℕ
@@ -23,19 +23,14 @@ subWords b next = next ∷ b .kind ∷ b .start ∷ b .len ∷ []
 abbrev pub yes : Unit {0} → List ℕ
 yes u = []
 
--- a part of a string table's stream: its start and its length
-abbrev pub outcomeGiven : Outcome → Given
-outcomeGiven (part start len) = given 1 0 (start ∷ len ∷ [])
-outcomeGiven (refused t) = refusalGiven 0 t
-
 abbrev pub subGiven : (ℕ → Sort) → List ℕ → List ℕ → Given
 subGiven rule s o = stepGiven subStateSize subWords (stepAt rule s (getD o 0 0))
 
 abbrev pub namesGiven : List ℕ → Given
-namesGiven s = outcomeGiven (namesOf s)
+namesGiven s = replyGiven spanWords (namesOf s)
 
 abbrev pub nameGiven : List ℕ → ℕ → Given
-nameGiven s offset = outcomeGiven (nameAt s offset)
+nameGiven s offset = replyGiven spanWords (nameAt s offset)
 
 -- a module's sizes: of its symbols, of its C11 lines and of its area
 abbrev pub symbolsGiven : List ℕ → ℕ → ℕ → ℕ → Given

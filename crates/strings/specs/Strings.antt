@@ -6,10 +6,12 @@ use mathlib.Core.List.{List, [], _∷_}
 use mathlib.Core.Bool.{cond, _||_}
 use lib.ListN.{length, take, drop}
 use lib.Dec.{ltb, eqb}
-use denote.Ref.{RefT}
-use Rattle.word.specs.Word.{u32At, HandsBack}
+use Rattle.word.specs.Word.{u32At}
+use Rattle.walk.specs.Listing.{Reply, gave, refused}
 use Rattle.refusal.specs.Told.{Told, told, longest}
 use Rattle.refusal.specs.declared.Refusal.the-variants as why
+use Rattle.find.specs.Find.{Span}
+use Rattle.table.specs.Collect.{onGave}
 
 -- the header's three words
 abbrev pub signature : List ℕ → ℕ
@@ -21,19 +23,14 @@ version s = u32At s 4
 abbrev pub namesSize : List ℕ → ℕ
 namesSize s = u32At s 8
 
--- an answer: a part of the stream by its start and length, or a refusal
-pub data Outcome : Type 0 where
-  part : ℕ → ℕ → Outcome
-  refused : Told → Outcome
-
 -- where the names stand in a stream
-unfoldable pub namesOf : List ℕ → Outcome
+unfoldable pub namesOf : List ℕ → Reply Span Told
 namesOf s =
     cond (ltb longest (length s)) (refused (told why.TooLong))
     (cond (ltb (length s) 12) (refused (told why.Cut))
     (cond (eqb (signature s) 0xEFFE_EFFE)
     (cond (ltb (length s) (24 + namesSize s)) (refused (told why.Cut))
-    (cond (eqb (version s) 1 || eqb (version s) 2) (part 12 (namesSize s)) (refused (told why.HashVersion))))
+    (cond (eqb (version s) 1 || eqb (version s) 2) (gave (record { start = 12; len = namesSize s })) (refused (told why.HashVersion))))
     (refused (told why.NoStringTable))))
 
 -- the bytes before the first zero
@@ -49,30 +46,14 @@ abbrev pub namesFrom : List ℕ → ℕ → List ℕ
 namesFrom s offset = drop offset (names s)
 
 -- where the name at an offset stands, if the table passes: the offset is below the size of the names, and a zero follows in the names
-unfoldable pub nameIn : List ℕ → ℕ → Outcome
+unfoldable pub nameIn : List ℕ → ℕ → Reply Span Told
 nameIn s offset =
     cond (ltb offset (namesSize s))
     (cond (ltb (length (untilZero (namesFrom s offset))) (length (namesFrom s offset)))
-    (part (12 + offset) (length (untilZero (namesFrom s offset))))
+    (gave (record { start = 12 + offset; len = length (untilZero (namesFrom s offset)) }))
     (refused (told why.Cut)))
     (refused (told why.Cut))
 
-abbrev pub ifTable : Outcome → Outcome → Outcome
-ifTable (part start len) x = x
-ifTable (refused t) x = refused t
-
 -- THE NAME at an offset
-abbrev pub nameAt : List ℕ → ℕ → Outcome
-nameAt s offset = ifTable (namesOf s) (nameIn s offset)
-
--- what is handed back of a stream. A refusal hands back the empty part at the start
-abbrev pub outcomeStart : Outcome → ℕ
-outcomeStart (part start len) = start
-outcomeStart (refused t) = 0
-
-abbrev pub lenOf : Outcome → ℕ
-lenOf (part start len) = len
-lenOf (refused t) = 0
-
-abbrev pub HandsName : RefT (List ℕ) → Outcome → RefT (List ℕ) → Type 0
-HandsName s o r = HandsBack s (outcomeStart o) (lenOf o) r
+abbrev pub nameAt : List ℕ → ℕ → Reply Span Told
+nameAt s offset = onGave (λ (a : Span). nameIn s offset) (namesOf s)

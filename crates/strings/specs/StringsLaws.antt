@@ -13,9 +13,16 @@ use denote.Ref.{RefT, ptr, now}
 use borrow.Author.Tests.{eqb-true, eqb-false, ltb-true, ltb-false, lt-ltb, ne-eqb, eq-eqb}
 use Rattle.word.specs.PartLaws.{part-bytes}
 use Rattle.walk.specs.Cases.{by-cases, tests}
+use Rattle.walk.specs.Listing.{Reply, gave, nothing, refused}
 use Rattle.refusal.specs.Told.{Told, told, longest}
 use Rattle.refusal.specs.declared.Refusal.the-variants as why
-use Rattle.strings.specs.Strings.{signature, version, namesSize, Outcome, part, refused, namesOf, untilZero, names, namesFrom, nameIn, ifTable, nameAt, outcomeStart, lenOf, HandsName}
+use Rattle.find.specs.Find.{Span, heldSpan, HandsSpan}
+use Rattle.table.specs.Collect.{onGave}
+use Rattle.strings.specs.Strings.{signature, version, namesSize, namesOf, untilZero, names, namesFrom, nameIn, nameAt}
+
+-- a part of the stream
+abbrev part : ℕ → ℕ → Reply Span Told
+part start len = gave (record { start = start; len = len })
 
 -- ---- the tests of `string_table`
 
@@ -57,8 +64,9 @@ module _ (s : List ℕ) where
 
 -- ---- what a table that passes says of the stream
 
-abbrev pub Stands : List ℕ → Outcome → Type 0
-Stands s (part start len) = (start ≡ 12) × (len ≡ namesSize s) × (24 + len ≤ length s)
+abbrev pub Stands : List ℕ → Reply Span Told → Type 0
+Stands s (gave a) = (a .start ≡ 12) × (a .len ≡ namesSize s) × (24 + a .len ≤ length s)
+Stands s nothing = Unit {0}
 Stands s (refused t) = Unit {0}
 
 pub names-stand : (s : List ℕ) → Stands s (namesOf s)
@@ -106,7 +114,7 @@ module _ (s : List ℕ) (offset start len k end : ℕ) (table : part start len �
       ends ∙ (λ i. offset + length (untilZero (drop offset (take ((all ∙ w .1) i) (drop (w .0 i) s)))))
 
   in-table : nameIn s offset ≡ nameAt s offset
-  in-table = ap (λ (o : Outcome). ifTable o (nameIn s offset)) table
+  in-table = ap (onGave (λ (a : Span). nameIn s offset)) table
 
   pub name-found : end < len → part (start + offset) (end - offset) ≡ nameAt s offset
   unfolding nameIn
@@ -124,15 +132,15 @@ module _ (s : List ℕ) (offset start len k end : ℕ) (table : part start len �
   unfolding nameIn
   name-cut h =
       let w = names-part s start len table in
-      by-cases (λ (o : Outcome). refused (told why.Cut) ≡ o) (ltb offset (namesSize s))
-      (λ d. by-cases (λ (o : Outcome). refused (told why.Cut) ≡ o) (ltb (length (untilZero (namesFrom s offset))) (length (namesFrom s offset)))
+      by-cases (λ (o : Reply Span Told). refused (told why.Cut) ≡ o) (ltb offset (namesSize s))
+      (λ d. by-cases (λ (o : Reply Span Told). refused (told why.Cut) ≡ o) (ltb (length (untilZero (namesFrom s offset))) (length (namesFrom s offset)))
       (λ e. let u = until in let l = left in absurd (omega (arith, ltb-true)))
       (λ e. refl))
       (λ d. refl)
       ∙ in-table
 
 pub name-refused : (s : List ℕ) (offset : ℕ) (t : Told) → refused t ≡ namesOf s → refused t ≡ nameAt s offset
-name-refused s offset t e = ap (λ (o : Outcome). ifTable o (nameIn s offset)) e
+name-refused s offset t e = ap (onGave (λ (a : Span). nameIn s offset)) e
 
 -- ---- the bytes before the first zero
 
@@ -162,10 +170,11 @@ until-free (b ∷ l) i h e = by (eqb b 0) refl i h e (until-free l)
 -- ---- where a name lies, and what it is
 
 -- a name stands at its offset in the names, and its zero too; its bytes are those before the first zero
-abbrev pub Named : List ℕ → ℕ → Outcome → Type 0
-Named s offset (part start len) =
-    (start ≡ 12 + offset) × (offset + len < namesSize s) × (24 + namesSize s ≤ length s)
-    × (take len (drop start s) ≡ untilZero (namesFrom s offset)) × (getD s (start + len) 0 ≡ 0)
+abbrev pub Named : List ℕ → ℕ → Reply Span Told → Type 0
+Named s offset (gave a) =
+    (a .start ≡ 12 + offset) × (offset + a .len < namesSize s) × (24 + namesSize s ≤ length s)
+    × (take (a .len) (drop (a .start) s) ≡ untilZero (namesFrom s offset)) × (getD s (a .start + a .len) 0 ≡ 0)
+Named s offset nothing = Unit {0}
 Named s offset (refused t) = Unit {0}
 
 name-stands : (s : List ℕ) (offset : ℕ) → 24 + namesSize s ≤ length s → Named s offset (nameIn s offset)
@@ -193,20 +202,21 @@ name-stands s offset h =
 pub name-is : (s : List ℕ) (offset : ℕ) → Named s offset (nameAt s offset)
 name-is s offset = by (namesOf s) (names-stand s)
   where
-    by : (o : Outcome) → Stands s o → Named s offset (ifTable o (nameIn s offset))
-    by (part start len) w = name-stands s offset (omega arith)
+    by : (o : Reply Span Told) → Stands s o → Named s offset (onGave (λ (a : Span). nameIn s offset) o)
+    by (gave a) w = name-stands s offset (omega arith)
+    by nothing w = tt
     by (refused t) w = tt
 
 pub name-part : (s : List ℕ) (offset start len : ℕ) → part start len ≡ nameAt s offset → Named s offset (part start len)
 name-part s offset start len e = subst⁻¹ (Named s offset) e (name-is s offset)
 
 -- the two calls agree: what is handed back stands where the name is told to stand, is as long, and is the bytes before the first zero
-pub agree : (s r : RefT (List ℕ)) (offset start len : ℕ) → part start len ≡ nameAt (now s) offset → HandsName s (nameAt (now s) offset) r
+pub agree : (s r : RefT (List ℕ)) (offset start len : ℕ) → part start len ≡ nameAt (now s) offset → HandsSpan s (heldSpan (nameAt (now s) offset)) r
     → (ptr r .1 ≡ ptr s .1 + start) × (length (now r) ≡ len) × (now r ≡ untilZero (namesFrom (now s) offset))
 agree s r offset start len e h =
     let w = name-part (now s) offset start len e in
-    let b : now r ≡ take len (drop start (now s)) = h .2 ∙ (λ i. take (lenOf (sym e i)) (drop (outcomeStart (sym e i)) (now s))) in (
-      h .1 ∙ ap (λ (o : Outcome). ptr s .1 + outcomeStart o) (sym e),
+    let b : now r ≡ take len (drop start (now s)) = h .2 ∙ (λ i. take (heldSpan (sym e i) .len) (drop (heldSpan (sym e i) .start) (now s))) in (
+      h .1 ∙ ap (λ (o : Reply Span Told). ptr s .1 + heldSpan o .start) (sym e),
       ap length b ∙ length-take-le len (drop start (now s)) (simp length-drop (omega arith)),
       b ∙ w .3,
     )

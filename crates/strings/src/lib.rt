@@ -4,7 +4,8 @@
 ghost use mathlib.Core.Path.{_≡_};
 ghost use Prim.Native.Nat.{_+_};
 ghost use lib.ListN.{length, drop};
-ghost use Rattle.strings.specs.Strings.{namesOf, untilZero, nameAt, HandsName};
+ghost use Rattle.find.specs.Find.{heldSpan, HandsSpan};
+ghost use Rattle.strings.specs.Strings.{namesOf, untilZero, nameAt};
 ghost use Rattle.strings.specs.Told.{toldTable, toldName};
 use refusal::LONGEST;
 use refusal::Refusal;
@@ -86,7 +87,7 @@ pub fn name_at(stream: &[u8], offset: u32) -> NameAnswer
 
 // The name itself: the part of the stream that `name_at` tells. Where that refuses it is the empty part at the stream's start.
 pub fn name_bytes(stream: &[u8], offset: u32) -> &[u8]
-    ensures { λ r. ⌜ HandsName (stream .entry) (nameAt (now (stream .entry)) offset) r ⌝ }
+    ensures { λ r. ⌜ HandsSpan (stream .entry) (heldSpan (nameAt (now (stream .entry)) offset)) r ⌝ }
 {
     match name_at(stream, offset) {
         NameAnswer::At { start, len } => &stream[start..start + len],
