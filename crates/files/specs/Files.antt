@@ -14,6 +14,7 @@ use Rattle.refusal.specs.Told.{Told, told, longest}
 use Rattle.refusal.specs.declared.Refusal.the-variants as why
 use Rattle.area.specs.Kind.{Sort}
 use Rattle.find.specs.Find.{same, Span, lastSub, bytesAt, heldSpan}
+use Rattle.table.specs.Collect.{onGave}
 use Rattle.table.specs.Table.{Place, spotIn, tableStep, tableOf}
 use Rattle.table.specs.declared.TableWalk.{TableWalk}
 use Rattle.body.specs.Checksums.{Checksum}
@@ -33,15 +34,9 @@ entryMoved start e = record { name = e .name; kind = e .kind; start = start + e 
 abbrev pub fileOf : ℕ → Entry → File
 fileOf start e = record { index = e .start - 6; info = entryMoved start e }
 
--- f, if the tests before it pass
-abbrev pub ifPassed : Reply ℕ Told → Reply Span Told → Reply Span Told
-ifPassed (gave n) f = f
-ifPassed nothing f = f
-ifPassed (refused t) f = refused t
-
--- the checksum body
+-- the checksum body, if the tests over the area that come before it pass
 unfoldable pub filesSub : (ℕ → Sort) → List ℕ → Reply Span Told
-filesSub rule s = ifPassed (countLines rule s) (lastSub rule 0xf4 s)
+filesSub rule s = onGave (λ (n : ℕ). lastSub rule 0xf4 s) (countLines rule s)
 
 -- one step of a walk over the files of an area
 unfoldable pub fileStep : (ℕ → Sort) → List ℕ → TableWalk → Answer TableWalk File Told

@@ -15,6 +15,7 @@ use Rattle.refusal.specs.Told.{Told, told, longest}
 use Rattle.refusal.specs.declared.Refusal.the-variants as why
 use Rattle.area.specs.Kind.{Sort}
 use Rattle.find.specs.Find.{same, Span, lastSub, bytesAt}
+use Rattle.table.specs.Collect.{onGave}
 use Rattle.table.specs.Table.{Place, spotIn, spotOf, shifted, readAt, tableOf, ofBody}
 use Rattle.table.specs.StepLaws.{Steps, steps}
 use Rattle.table.specs.TableLaws.{Finds, Inside, in-inside, spot-lies, spot-inside, last-finds, table-walk}
@@ -27,7 +28,7 @@ use Rattle.checksums.specs.Entry as entry
 use Rattle.checksums.specs.Told.{toldEntry}
 use Rattle.checksums.specs.EntryLaws.{EntryWithin, entry-within, entry-none, entry-lies, entries-step, entries-mean, In, entries-in, Stands, entries-stand}
 use Rattle.lines.specs.Lines.{countLines}
-use Rattle.files.specs.Files.{File, entryMoved, fileOf, ifPassed, filesSub, fileStep, filesIn}
+use Rattle.files.specs.Files.{File, entryMoved, fileOf, filesSub, fileStep, filesIn}
 use Rattle.files.specs.Files.{atIndex, fileIn, orEmpty, checksumPart, fileInPart, fileAt, held, partOf, fileSpelt}
 
 -- ---- the checksum body
@@ -35,20 +36,20 @@ use Rattle.files.specs.Files.{atIndex, fileIn, orEmpty, checksumPart, fi
 module _ (rule : ℕ → Sort) (s : List ℕ) where
   pub body-passed : (n : ℕ) → gave n ≡ countLines rule s → lastSub rule 0xf4 s ≡ filesSub rule s
   unfolding filesSub
-  body-passed n e = ap (λ (x : Reply ℕ Told). ifPassed x (lastSub rule 0xf4 s)) e
+  body-passed n e = ap (onGave (λ (n : ℕ). lastSub rule 0xf4 s)) e
 
   pub body-refused : (t : Told) → refused t ≡ countLines rule s → refused t ≡ filesSub rule s
   unfolding filesSub
-  body-refused t e = ap (λ (x : Reply ℕ Told). ifPassed x (lastSub rule 0xf4 s)) e
+  body-refused t e = ap (onGave (λ (n : ℕ). lastSub rule 0xf4 s)) e
 
   -- what is found lies in the area
   pub files-finds : Finds s (filesSub rule s)
   unfolding filesSub
   files-finds = by (countLines rule s)
     where
-      by : (x : Reply ℕ Told) → Finds s (ifPassed x (lastSub rule 0xf4 s))
+      by : (x : Reply ℕ Told) → Finds s (onGave (λ (n : ℕ). lastSub rule 0xf4 s) x)
       by (gave n) = last-finds rule 0xf4 s
-      by nothing = last-finds rule 0xf4 s
+      by nothing = tt
       by (refused t) = tt
 
   pub body-in : (a : Span) → gave a ≡ filesSub rule s → a .start + a .len ≤ length s

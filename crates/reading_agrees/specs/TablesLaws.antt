@@ -20,6 +20,7 @@ use Rattle.area.specs.Subs.{Sub, subsFrom}
 use Rattle.area.specs.SubsLaws.{Inside, subs-inside}
 use Rattle.find.specs.Find.{same, Span, is, spanOf, firstSub, lastSub, bytesAt, firstBytes, lastBytes}
 use Rattle.table.specs.Table.{tableOf, ofBody}
+use Rattle.table.specs.Collect.{onGave}
 use Rattle.table.specs.CollectLaws.{mapped-same, mapped-mapped}
 use Rattle.body.specs.Lines.{lineHeadSize, lineHead, columned, blocks}
 use Rattle.body.specs.Checksums.{checksums}
@@ -31,7 +32,7 @@ use Rattle.imports.specs.ImportsLaws.{imports-words}
 use Rattle.inlinees.specs.Inlinees.{inlineeSpelt, inlineesIn, inlineesOf}
 use Rattle.inlinees.specs.InlineesLaws.{inlinees-mean}
 use Rattle.checksums.specs.Entry.{shown}
-use Rattle.files.specs.Files.{ifPassed, filesSub, filesIn}
+use Rattle.files.specs.Files.{filesSub, filesIn}
 use Rattle.files.specs.Files as file
 use Rattle.files.specs.FilesLaws.{files-mean}
 use Rattle.lines.specs.Lines.{Body, headed, linesFrom, plus, countOf}
@@ -241,11 +242,11 @@ module _ (rule : ℕ → Sort) (s : List ℕ) (h : Whole (reading rule s)) where
   pub lines-pass : failure (linesFrom rule s 0) ≡ nothing
   lines-pass = ap failure lines-are ∙ lines-whole
 
-  passes : {B : Type 0} (l : Listing B Told) (f : Reply Span Told) → failure l ≡ nothing → ifPassed (countOf l) f ≡ f
+  passes : {B : Type 0} (l : Listing B Told) (f : Reply Span Told) → failure l ≡ nothing → onGave (λ (n : ℕ). f) (countOf l) ≡ f
   unfolding failure countOf
   passes (more b l) f q = one (countOf l) ∙ passes l f q
     where
-      one : (x : Reply ℕ Told) → ifPassed (plus 1 x) f ≡ ifPassed x f
+      one : (x : Reply ℕ Told) → onGave (λ (n : ℕ). f) (plus 1 x) ≡ onGave (λ (n : ℕ). f) x
       one (gave n) = refl
       one nothing = refl
       one (refused t) = refl
