@@ -1,7 +1,7 @@
 //! Lines and files.
 
 use crate::calls::{self, RecordWord, FILE_RECORD, LINE_STATE, RECORD, TABLE_STATE};
-use crate::words::{answer, one, optional, part, size, within, word, word32, Many, Walk};
+use crate::words::{one, optional, part, size, within, word, word32, Many, Walk};
 use crate::{Refusal, StringRef};
 use std::fmt;
 use std::iter::FusedIterator;
@@ -305,8 +305,7 @@ impl<'a> LineProgram<'a> {
     #[inline]
     pub fn get_file_info(&self, index: FileIndex) -> Result<FileInfo<'a>, Refusal> {
         let data = self.checksums.of(self.area)?;
-        let mut out = [0; 4];
-        answer(calls::c13_file_in(data, index.0, &mut out), &out, 0)?;
+        let out: [u64; 4] = one(|out| calls::c13_file_in(data, index.0, out))?;
         Ok(FileInfo::of(data, &out, 0))
     }
 }

@@ -1,7 +1,7 @@
 //! Inlinees, imports and exports.
 
 use crate::calls::{self, TABLE_STATE};
-use crate::words::{answer, one, part, size, word, word32, Walk};
+use crate::words::{found, one, part, size, word, word32, Walk};
 use crate::{FileIndex, Refusal, StringRef};
 use std::iter::FusedIterator;
 
@@ -23,7 +23,7 @@ impl<'a> Words<'a> {
     pub fn get(&self, i: usize) -> Option<u32> {
         let mut out = [0; 2];
         let status = calls::c13_word(self.area, self.place, self.count, i, &mut out);
-        answer(status, &out, 0).ok().flatten().map(|w| word32(w, 0))
+        found(status, &out, |w| word32(w, 0)).ok().flatten()
     }
 
     /// How many there are in all, those that the iterator gave among them.
@@ -143,6 +143,7 @@ impl<'a> CrossModuleImports<'a> {
     ///
     /// [`Refusal::NotACrossModuleRef`] where bit 31 is clear; [`Refusal::CrossModuleRefNotFound`] where there is no such module or index. The whole table
     /// was read first, and its refusals come before these.
+    #[inline]
     pub fn resolve_import(&self, index: u32) -> Result<CrossModuleRef, Refusal> {
         let places = self.places.as_ref().map_err(|why| *why)?;
         let out: [u64; 2] = one(|out| calls::c13_resolve_listed(self.area, places, index, out))?;
@@ -236,10 +237,11 @@ impl<'a> CrossModuleExports<'a> {
     /// # Errors
     ///
     /// [`Refusal::UnsortedExports`] where the local indices do not strictly ascend: a search in them would answer by chance.
+    #[inline]
     pub fn resolve_import(&self, local: u32) -> Result<Option<u32>, Refusal> {
         let mut out = [0; 2];
         let status = calls::c13_export_in(self.body?, local, &mut out);
-        Ok(answer(status, &out, 0)?.map(|w| word32(w, 0)))
+        found(status, &out, |w| word32(w, 0))
     }
 }
 

@@ -45,7 +45,7 @@ fn empty<'a>() -> &'a [u8] {
 fn refused(status: u32, words: &[u64]) -> Refusal {
     match status {
         REFUSED => Refusal::of(word(words, 0), word(words, 1)),
-        // The words lent are always enough, so this is not answered.
+        // The words lent are always enough, and "none" or the last of many is told before, so this is not answered.
         _ => Refusal::of(0, u64::from(status)),
     }
 }
@@ -61,13 +61,33 @@ pub(crate) fn answer(status: u32, out: &[u64], state: usize) -> Result<Option<&[
     }
 }
 
+/// What a lookup whose status this is found, as `told` takes it out of the words; or nothing. No lookup answers `LAST`.
+#[inline]
+pub(crate) fn found<T>(status: u32, out: &[u64], told: impl FnOnce(&[u64]) -> T) -> Result<Option<T>, Refusal> {
+    if status == GIVEN {
+        return Ok(Some(told(out)));
+    }
+    nothing(status, out)?;
+    Ok(None)
+}
+
+/// That a lookup found nothing, or why it is refused.
+#[cold]
+fn nothing(status: u32, out: &[u64]) -> Result<(), Refusal> {
+    match status {
+        NONE => Ok(()),
+        _ => Err(refused(status, out)),
+    }
+}
+
 /// The answer of a call that is no walk and never answers "none".
 #[inline]
 pub(crate) fn one<const N: usize>(call: impl FnOnce(&mut [u64]) -> u32) -> Result<[u64; N], Refusal> {
     let mut out = [0; N];
-    let status = call(&mut out);
-    answer(status, &out, 0)?;
-    Ok(out)
+    match call(&mut out) {
+        GIVEN => Ok(out),
+        status => Err(refused(status, &out)),
+    }
 }
 
 /// A walk: the words that are lent to its steps, and whether it is over.
