@@ -101,10 +101,10 @@ pub fn entry_at(body: &[u8], at: usize) -> EntryStep
         return EntryStep::Refused(Refusal::Cut);
     }
     let left = body.len() - at;
-    if left == 0 {
-        return EntryStep::None;
-    }
     if left < 6 {
+        if left == 0 {
+            return EntryStep::None;
+        }
         return EntryStep::Refused(Refusal::Cut);
     }
     let name = u32_at(body, at);

@@ -282,7 +282,7 @@ fn halved(body: &[u8], local: u32) -> Lookup
     let mut from: usize = 0;
     let mut to = body.len() / 8;
     while from < to {
-        let mid = from + (to - from) / 2;
+        let mid = (from + to) / 2;
         let at = 8 * mid;
         let found = word_at(body, at);
         if found == local {

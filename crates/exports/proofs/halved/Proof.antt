@@ -2,7 +2,7 @@
 -- length of the span.
 -- Assumes nothing.
 use borrow.Author.Needs.{needs}
-use Prim.Native.Nat.{_-_, _/_, _≤_}
+use Prim.Native.Nat.{_+_, _-_, _/_, _≤_}
 use mathlib.Core.Path.{_≡_, refl, _∙_}
 use native.Mathlib.Omega.{arith}
 use lib.ListN.{length}
@@ -21,20 +21,26 @@ abbrev μ-loop : tie.MeasureT-loop
 returns : tie.Need-returns Inv-loop μ-loop
 returns c =
     let w = c .before .before in
-    half-here _ _ _ _ (w .before .loop-test .taken) _ refl _ (w .word-at .ensures) (c .before .if1 .taken) _ (c .word-at2 .ensures)
-    ∙ w .before .before .loop .inv .1
+    let at = w .before .before .loop in
+    let mid = (at .from + at .to) / 2 in
+    half-here _ _ _ _ (w .before .loop-test .taken) mid (omega arith) _ (w .word-at .ensures) (c .before .if1 .taken) _ (c .word-at2 .ensures)
+    ∙ at .inv .1
 
 loop-again : tie.Need-loop-again Inv-loop μ-loop
 loop-again c =
     let w = c .before .before in
-    let e = half-back _ _ _ _ (w .before .loop-test .taken) _ refl _ (w .word-at .ensures) (c .before .if1 .left) (c .if2 .taken) in
-    (omega arith, e ∙ w .before .before .loop .inv .1)
+    let at = w .before .before .loop in
+    let mid = (at .from + at .to) / 2 in
+    let e = half-back _ _ _ _ (w .before .loop-test .taken) mid (omega arith) _ (w .word-at .ensures) (c .before .if1 .left) (c .if2 .taken) in
+    (omega arith, e ∙ at .inv .1)
 
 loop-again-2 : tie.Need-loop-again-2 Inv-loop μ-loop
 loop-again-2 c =
     let w = c .before .before in
-    let e = half-front _ _ _ _ (w .before .loop-test .taken) _ refl _ (w .word-at .ensures) (c .before .if1 .left) (c .if2 .left) in
-    (omega arith, e ∙ w .before .before .loop .inv .1)
+    let at = w .before .before .loop in
+    let mid = (at .from + at .to) / 2 in
+    let e = half-front _ _ _ _ (w .before .loop-test .taken) mid (omega arith) _ (w .word-at .ensures) (c .before .if1 .left) (c .if2 .left) in
+    (omega arith, e ∙ at .inv .1)
 
 pub halved-spec : {M : Type 1} → statement M
 halved-spec =
@@ -43,7 +49,6 @@ halved-spec =
     Inv-loop
     μ-loop
     (λ c. (omega arith, refl))
-    (λ c. search needs)
     (λ c. search needs)
     (λ c. search needs)
     (λ c κs. omega arith)
