@@ -53,7 +53,7 @@ pub mod calls_side {
         given(calls::c13_order_list(black_box(&i.bytes), slots, &mut out));
         black_box(&out);
     }
-    /// Where the slots ascend they are the body list, and the calls are lent them twice.
+    /// Where the slots ascend they are the body list: `bodies` holds the same numbers from before.
     pub fn lists(i: &Input, lists: &mut Lists) {
         let mut out = [0; 2];
         list(i, &mut lists.slots);

@@ -3,7 +3,8 @@
  * The functions are those of the static library that `scripts/x86-64 library` makes (x86-64, System V calling convention). Each is proved to meet its
  * contract in crates/; this header says the same in words. "Document 01" is docs/01-scope.md. They call one function that is not theirs, memcpy of
  * the C library, and nothing else; that it copies is trusted, and not proved. The library that `scripts/windows library` makes has the same functions for
- * Windows, in its calling convention, and a memcpy inside.
+ * Windows, in its calling convention, and a memcpy inside; there one thing more is asked: that nothing writes below the stack pointer of a thread inside a
+ * call (the head of scripts/windows says what might).
  *
  * At the end of this header stand inline functions over these calls: walks, records and refusals as structs. They are easier to use, and no part of
  * what is proved.
@@ -119,8 +120,8 @@ uint32_t c13_body_list(const uint8_t *area, size_t area_len, uint32_t *bodies, s
  * c13_body_list made of the same area a call costs at most some n log n steps, whatever area and slots are: n are the bytes of both, and a body that
  * several slots name counts for each of them. Without it, or with another list, a call over slots that go back in the area often costs up to n squared:
  * each slot that lies before the last one is searched from the area's start. With it, at the first such slot of a call, the list is held against the area,
- * in one pass, and then each slot is found in it by halving. Where the slots that c13_order_list made ascend they are the body list themselves: they may be
- * lent in both places, and no call for it is needed. */
+ * in one pass, and then each slot is found in it by halving. Where the out[0] slots that c13_order_list wrote ascend they are the body list
+ * themselves: just these may be lent in both places, and no call for it is needed. */
 
 /* The words of a line record, counted from its first. An optional number is 1 and the number, or 0 and 0. */
 enum c13_line_word {

@@ -227,7 +227,7 @@ impl Clone for ChecksumPart {
 pub struct LineProgram<'a> {
     area: &'a [u8],
     slots: Vec<u32>,
-    /// The second list. Empty where the first ascends, and so is the second, too.
+    /// The second list; empty where the first ascends, which then is the second as well.
     bodies: Vec<u32>,
     checksums: ChecksumPart,
 }

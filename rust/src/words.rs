@@ -45,7 +45,7 @@ fn empty<'a>() -> &'a [u8] {
 fn refused(status: u32, words: &[u64]) -> Refusal {
     match status {
         REFUSED => Refusal::of(word(words, 0), word(words, 1)),
-        // The words lent are always enough, and "none" or the last of many is told before, so this is not answered.
+        // The words lent are always enough; "none" and the last of many are told before, and calls that `one` asks do not answer them. So this does not come.
         _ => Refusal::of(0, u64::from(status)),
     }
 }

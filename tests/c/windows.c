@@ -4,9 +4,9 @@
  *   windows AREA    the file examples/table.c13
  *
  * Made with RECORDED it is linked with the library's thunks alone. Behind each of them stands a function that writes down what it was given, and then
- * destroys every register that System V lets it destroy: each parameter must have arrived in its place, in its own width, with zeros above it though the
- * caller had none there, and the stack pointer as System V has it. Without RECORDED it is linked with the whole library: the answer and all lent memory
- * must be those of the same call without its thunk; and its memcpy must copy.
+ * destroys every register that System V lets it destroy: each parameter must have arrived in its place, in its own width, with zeros above it, up to 32
+ * bits, though the caller had none there, and the stack pointer as System V has it. Without RECORDED it is linked with the whole library: the answer and
+ * all lent memory must be those of the same call without its thunk; and its memcpy must copy.
  *
  * calls.inc, which tests/windows makes, has CALL(number, name, "parameters") for each call, in the words of `scripts/windows calls`. */
 #include "c13.h"

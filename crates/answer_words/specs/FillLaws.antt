@@ -12,7 +12,7 @@ use Rattle.word.specs.Word.{put, store}
 use Rattle.word.specs.WordLaws.{put-length, store-put}
 use Rattle.walk.specs.Cases.{tests}
 use Rattle.walk.specs.Listing.{Answer, gives, none, refuses}
-use Rattle.walk.specs.Many.{Many, noMore, thenMany, asMany, many, manyOf}
+use Rattle.walk.specs.Many.{noMore, thenMany, asMany, many, manyOf}
 use Rattle.walk.specs.ManyLaws.{NoRecord, many-step, many-none, many-zero, many-some}
 use Rattle.refusal.specs.Told.{Told}
 use Rattle.answer_words.specs.PiecesLaws.{put-nothing, put-join}

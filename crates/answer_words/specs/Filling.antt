@@ -1,5 +1,6 @@
--- Names for the proofs of a loop that puts records into lent words one by one, over any walk and any records of k words each, which f has: what the loop keeps,
--- and what it ends in. FillLaws has the laws. Definitions only; no public contract cites them.
+-- Names for the proofs of a loop that puts records into lent words one by one, over any walk and any records of k words each, which f has: what the loop
+-- keeps, and what it ends in. FillLaws has the laws. Source: docs/DECISIONS.md, 36.
+-- Definitions only; contracts of inner calls alone cite them.
 use Prim.Native.Nat.{ℕ, _+_, _-_, _*_, _/_, _≤_}
 use mathlib.Core.Path.{_≡_}
 use mathlib.Core.List.{List, [], _∷_}

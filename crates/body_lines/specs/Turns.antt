@@ -1,6 +1,6 @@
--- Names for the proofs of the lines of a body: what a call keeps that puts the records of a line walk into lent words, and many turns of the walk at once by what
--- they do to every such call. No second meaning of a walk is made: each is a turn of `turnOf`, one behind the other. FillLaws and TurnsLaws have the laws.
--- Definitions only; no public contract cites them.
+-- Names for the proofs of the lines of a body: what a call keeps that puts the records of a line walk into lent words, and many turns of the walk at once
+-- by what they do to every such call. No second meaning of a walk is made: each is a turn of `turnOf`, one behind the other. FillLaws and TurnsLaws have
+-- the laws. Definitions only; of public contracts that of `body_lines` alone cites them, through `BodyPut`.
 use Prim.Native.Nat.{ℕ, _/_, _≤_}
 use mathlib.Core.Path.{_≡_}
 use mathlib.Core.List.{List}

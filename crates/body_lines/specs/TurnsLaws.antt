@@ -11,7 +11,6 @@ use Rattle.line_record.specs.declared.LineRecord.{LineRecord}
 use Rattle.line_state_words.specs.LineWords.{recordSize, recordWords}
 use Rattle.line_step.specs.declared.LineWalk.{LineWalk}
 use Rattle.line_step.specs.Turn.{turnOf}
-use Rattle.line_walk.specs.Next.{todo}
 use Rattle.line_walk.specs.NextLaws.{next-falls}
 use Rattle.body_lines.specs.Turns.{UnderWay, TurnsPut}
 use Rattle.body_lines.specs.FillLaws.{turns-pass, turns-record, record-falls}

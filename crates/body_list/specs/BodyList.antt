@@ -37,7 +37,7 @@ inRoom m (refused t) = refused t
 abbrev pub bodyList : (ℕ → Sort) → List ℕ → ℕ → Reply ℕ Told
 bodyList rule s m = inRoom m (countLines rule s)
 
--- the slots behind an answer, which held xs before: the numbers ys of a list at their start if it takes n of them, else as they were
+-- the slots after an answer; they held xs before. With the answer n they are the list ys, and then xs without its first n; else xs
 abbrev pub slotsHolding : List ℕ → List ℕ → Reply ℕ Told → List ℕ
 slotsHolding ys xs (gave n) = ys ++ drop n xs
 slotsHolding ys xs nothing = xs

@@ -79,7 +79,7 @@ foundBody rule s v b k i p =
     cond (leb (length v) i) (record { reply = refused (told why.WrongSlot); known = k })
     (foundFrom rule s v i (beginOf rule s b k (getD v i 0) p))
 
--- what is known is true of the list b, and of the place p at which a search may begin
+-- what is known is true of the list b, and of the place p at which a search may begin (proofs alone cite it)
 abbrev pub Right : (ℕ → Sort) → List ℕ → List ℕ → Known → ℕ → Type 0
 Right rule s b Nothing p = Unit {0}
 Right rule s b Bodies p = Scans rule s p × (b ≡ startsFrom rule s 0)

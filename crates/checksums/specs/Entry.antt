@@ -14,7 +14,7 @@ use Rattle.refusal.specs.Told.{Told, told}
 use Rattle.refusal.specs.declared.Refusal.the-variants as why
 use Rattle.body.specs.Checksums.{Checksum, up4}
 
--- an entry as an answer tells it: name, kind, and where the checksum's bytes stand in the body
+-- an entry as an answer tells it: name, kind, and where the checksum's bytes stand: in the body or, of a file of an area (files Files), in the area
 pub record Entry : Type 0 where
   pub name : ℕ
   pub kind : ℕ

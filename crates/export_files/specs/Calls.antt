@@ -2,7 +2,7 @@
 -- walk's state. Source: docs/DECISIONS.md, 32.
 -- Definitions only; a reader must believe them.
 use Prim.Native.Nat.{ℕ}
-use mathlib.Core.List.{List, [], _∷_}
+use mathlib.Core.List.{List}
 use lib.ListN.{length}
 use Rattle.area.specs.Kind.{Sort}
 use Rattle.files.specs.Files.{fileStep, fileAt, checksumPart, fileIn}

@@ -9,6 +9,7 @@ use mathlib.Core.Bool.{Bool, true, cond, _&&_}
 use lib.ListN.{length}
 use lib.Dec.{ltb, eqb}
 use Rattle.walk.specs.Listing.{Listing, fails, mapped, Answer, refuses, Reply, gave, nothing, refused}
+use Rattle.walk.specs.Pick.{onGave}
 use Rattle.refusal.specs.Told.{Told, told}
 use Rattle.refusal.specs.declared.Refusal.the-variants as why
 use Rattle.area.specs.Kind.{Sort}
@@ -17,7 +18,7 @@ use Rattle.body.specs.Exports.{Pair, pairBite, pairs}
 use Rattle.table.specs.declared.TableWalk.{TableWalk}
 use Rattle.table.specs.Table.{shifted, tableStep, tableOf}
 use Rattle.table.specs.Rows.{rowAt, rowsFrom}
-use Rattle.table.specs.Collect.{onGave, collected, listingCount}
+use Rattle.table.specs.Collect.{collected, listingCount}
 
 -- an export, local and global index
 pub data Export : Type 0 where

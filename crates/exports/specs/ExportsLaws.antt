@@ -13,6 +13,7 @@ use Rattle.word.specs.Word.{u32At}
 use Rattle.word.specs.WordLaws.{u32-drop}
 use Rattle.walk.specs.Cases.{tests, by-cases}
 use Rattle.walk.specs.Listing.{item, over, Listing, more, ends, fails, mapped, onMove, moved, all, Answer, gives, none, refuses, Reply, gave, nothing, refused, calls, replies}
+use Rattle.walk.specs.Pick.{onGave}
 use Rattle.refusal.specs.Told.{Told, told}
 use Rattle.refusal.specs.declared.Refusal.the-variants as why
 use Rattle.area.specs.Kind.{Sort}
@@ -25,7 +26,7 @@ use Rattle.table.specs.StepLaws.{Steps, steps}
 use Rattle.table.specs.TableLaws.{table-walk, first-finds}
 use Rattle.table.specs.Rows.{rowsPlaced, rowAt, rowsFrom}
 use Rattle.table.specs.RowsLaws.{Bitten, bites-step, rows-step, rows-in}
-use Rattle.table.specs.Collect.{onGave, collected, listingCount}
+use Rattle.table.specs.Collect.{collected, listingCount}
 use Rattle.table.specs.CollectLaws.{mapped-same, collected-length}
 use Rattle.exports.specs.Told.{toldPair}
 use Rattle.exports.specs.Exports.{Export, aType, anId, exportOf, pairSize, unplaced, exportIn, pairsOf, exportsOf, exportCount, above, ascends, globalOf, lookup, pairAt, exportShown, exportStep, pairsFrom}

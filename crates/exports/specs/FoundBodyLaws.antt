@@ -13,12 +13,13 @@ use Rattle.walk.specs.Listing.{Reply, gave, nothing, refused}
 use Rattle.refusal.specs.Told.{Told, told, longest}
 use Rattle.refusal.specs.declared.Refusal.the-variants as why
 use Rattle.word.specs.Word.{u32At}
+use Rattle.walk.specs.Pick.{onGave}
 use Rattle.area.specs.Kind.{Sort}
 use Rattle.find.specs.Find.{Span, firstSub, bytesAt}
 use Rattle.body.specs.Exports.{Pair, pairs}
 use Rattle.table.specs.Table.{tableOf}
 use Rattle.table.specs.TableLaws.{Finds, first-finds}
-use Rattle.table.specs.Collect.{onGave, collected, ofNth}
+use Rattle.table.specs.Collect.{collected, ofNth}
 use Rattle.table.specs.CollectLaws.{mapped-same, collected-map}
 use Rattle.exports.specs.Exports.{Export, exportOf, unplaced, pairsOf, exportsOf, exportCount, above, ascends, globalOf, lookup, resolveExport}
 use Rattle.exports.specs.ExportsLaws.{pairOf, pairsBehind, pairs-whole, pairs-odd, behind-more, behind-none, count-whole, global-end, global-hit, global-miss}

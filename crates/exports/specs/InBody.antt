@@ -11,10 +11,11 @@ use Rattle.walk.specs.Listing.{Reply, gave, nothing, refused}
 use Rattle.refusal.specs.Told.{Told, told, longest}
 use Rattle.refusal.specs.declared.Refusal.the-variants as why
 use Rattle.word.specs.Word.{u32At}
+use Rattle.walk.specs.Pick.{onGave}
 use Rattle.area.specs.Kind.{Sort}
 use Rattle.find.specs.Find.{Span, firstSub, bytesAt}
 use Rattle.body.specs.Exports.{Pair, pairs}
-use Rattle.table.specs.Collect.{onGave, collected, ofNth}
+use Rattle.table.specs.Collect.{collected, ofNth}
 use Rattle.exports.specs.Exports.{Export, exportOf, ascends}
 
 -- a place, if the body there has the tests of a lookup behind it: else 4, then 9

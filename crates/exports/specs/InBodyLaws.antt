@@ -16,9 +16,10 @@ use Rattle.refusal.specs.Told.{Told, told, longest}
 use Rattle.refusal.specs.declared.Refusal.the-variants as why
 use Rattle.word.specs.Word.{u32At}
 use Rattle.word.specs.WordLaws.{u32-drop, u32-take}
+use Rattle.walk.specs.Pick.{onGave}
 use Rattle.find.specs.Find.{Span, bytesAt}
 use Rattle.body.specs.Exports.{Pair, pairs}
-use Rattle.table.specs.Collect.{onGave, collected, ofNth}
+use Rattle.table.specs.Collect.{collected, ofNth}
 use Rattle.exports.specs.Exports.{Export, exportOf, ascends}
 use Rattle.exports.specs.ExportsLaws.{pairOf, pairsBehind, behind-more, behind-none, pairs-whole, pairs-odd}
 use Rattle.exports.specs.InBody.{ifAscending, lookupBody, ifShort, exportAt, middlePair, lookPair, pairHalvedIn, pairHalved, globalIn}

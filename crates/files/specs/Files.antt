@@ -9,12 +9,11 @@ use mathlib.Core.Bool.{cond}
 use lib.ListN.{length}
 use lib.Dec.{ltb}
 use Rattle.walk.specs.Listing.{Listing, Answer, gives, none, refuses, Reply, gave, nothing, refused}
-use Rattle.walk.specs.Pick.{mapReply}
+use Rattle.walk.specs.Pick.{mapReply, onGave}
 use Rattle.refusal.specs.Told.{Told, told, longest}
 use Rattle.refusal.specs.declared.Refusal.the-variants as why
 use Rattle.area.specs.Kind.{Sort}
 use Rattle.find.specs.Find.{same, Span, lastSub, bytesAt, heldSpan}
-use Rattle.table.specs.Collect.{onGave}
 use Rattle.table.specs.Table.{Place, spotIn, tableStep, tableOf}
 use Rattle.table.specs.declared.TableWalk.{TableWalk}
 use Rattle.body.specs.Checksums.{Checksum}
@@ -65,7 +64,7 @@ orEmpty (refused t) = refused t
 unfoldable pub checksumPart : (ℕ → Sort) → List ℕ → Reply Span Told
 checksumPart rule s = orEmpty (filesSub rule s)
 
--- THE FILE at an index of the body that is a part of an area
+-- THE FILE at an index of the body that is a part of an area, the place of its bytes counted from the area's start
 abbrev pub fileInPart : List ℕ → ℕ → Reply Span Told → Reply Entry Told
 fileInPart s i (gave a) = mapReply (entryMoved (a .start)) same (fileIn (bytesAt s a) i)
 fileInPart s i nothing = nothing

@@ -10,12 +10,11 @@ use Rattle.word.specs.PartLaws.{part-bytes}
 use Rattle.walk.specs.Cases.{tests, by-cases}
 use Rattle.walk.specs.Listing.{Listing, mapped, Answer, gives, none, refuses, Reply, gave, nothing, refused, calls, replies}
 use Rattle.walk.specs.ListingLaws.{Every}
-use Rattle.walk.specs.Pick.{mapReply}
+use Rattle.walk.specs.Pick.{mapReply, onGave}
 use Rattle.refusal.specs.Told.{Told, told, longest}
 use Rattle.refusal.specs.declared.Refusal.the-variants as why
 use Rattle.area.specs.Kind.{Sort}
 use Rattle.find.specs.Find.{same, Span, lastSub, bytesAt}
-use Rattle.table.specs.Collect.{onGave}
 use Rattle.table.specs.Table.{Place, spotIn, spotOf, shifted, readAt, tableOf, ofBody}
 use Rattle.table.specs.StepLaws.{Steps, steps}
 use Rattle.table.specs.TableLaws.{Finds, Inside, in-inside, spot-lies, spot-inside, last-finds, table-walk}

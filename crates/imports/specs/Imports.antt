@@ -9,6 +9,7 @@ use mathlib.Core.Bool.{cond}
 use lib.ListN.{length, drop}
 use lib.Dec.{eqb}
 use Rattle.walk.specs.Listing.{Listing, Answer, Reply, gave, refused}
+use Rattle.walk.specs.Pick.{onGave}
 use Rattle.refusal.specs.Told.{Told, told}
 use Rattle.refusal.specs.declared.Refusal.the-variants as why
 use Rattle.area.specs.Kind.{Sort}
@@ -18,7 +19,7 @@ use Rattle.body.specs.Imports.{Module, moduleBite, modules}
 use Rattle.table.specs.declared.TableWalk.{TableWalk}
 use Rattle.table.specs.Table.{tableStep, tableOf}
 use Rattle.table.specs.Rows.{rowsPlaced, rowAt, rowsFrom}
-use Rattle.table.specs.Collect.{onGave, collected, ofNth}
+use Rattle.table.specs.Collect.{collected, ofNth}
 
 -- THE MODULES of an area
 abbrev pub modulesOf : (ℕ → Sort) → List ℕ → Listing Module Told

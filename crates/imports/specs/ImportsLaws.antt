@@ -13,6 +13,7 @@ use Rattle.word.specs.Word.{u32At}
 use Rattle.word.specs.WordLaws.{u32-drop}
 use Rattle.walk.specs.Cases.{tests, by-cases}
 use Rattle.walk.specs.Listing.{Move, item, pass, over, fail, more, ends, fails, mapped, onMove, moved, all, gives, none, refuses, Reply, gave, nothing, refused, calls, replies}
+use Rattle.walk.specs.Pick.{onGave}
 use Rattle.refusal.specs.Told.{Told, told}
 use Rattle.refusal.specs.declared.Refusal.the-variants as why
 use Rattle.area.specs.Kind.{Sort}
@@ -27,7 +28,7 @@ use Rattle.table.specs.StepLaws.{Steps, steps}
 use Rattle.table.specs.TableLaws.{table-walk, first-finds}
 use Rattle.table.specs.Rows.{rowsPlaced, rowAt}
 use Rattle.table.specs.RowsLaws.{Bitten, rows-step, rows-in, row-next, row-end, row-refused, rows-back}
-use Rattle.table.specs.Collect.{onGave, collected, ofNth}
+use Rattle.table.specs.Collect.{collected, ofNth}
 use Rattle.table.specs.CollectLaws.{mapped-same, mapped-mapped, sought, sought-is}
 use Rattle.table.specs.WordsLaws.{words-nth, words-none, words-part}
 use Rattle.imports.specs.Told.{toldModule}

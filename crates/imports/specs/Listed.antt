@@ -8,6 +8,7 @@ use mathlib.Core.Bool.{cond}
 use lib.ListN.{length, drop}
 use lib.Dec.{ltb}
 use Rattle.walk.specs.Listing.{Listing, Answer, gives, none, refuses, Reply, gave, nothing, refused}
+use Rattle.walk.specs.Pick.{onGave}
 use Rattle.refusal.specs.Told.{Told, told, longest}
 use Rattle.refusal.specs.declared.Refusal.the-variants as why
 use Rattle.area.specs.Kind.{Sort}
@@ -15,7 +16,7 @@ use Rattle.find.specs.Find.{firstSub}
 use Rattle.body.specs.Imports.{Module, modules}
 use Rattle.table.specs.Table.{tableOf}
 use Rattle.table.specs.Rows.{rowsPlaced}
-use Rattle.table.specs.Collect.{onGave, collected, ofNth}
+use Rattle.table.specs.Collect.{collected, ofNth}
 use Rattle.imports.specs.Imports.{Ref, ModuleAt, moduleOf, moduleSize, moduleAt, scopeOf, ifRef, refIn}
 
 -- a module at place p of a body, told by its place alone

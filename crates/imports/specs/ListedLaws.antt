@@ -12,13 +12,14 @@ use Rattle.refusal.specs.Told.{Told, told, longest}
 use Rattle.refusal.specs.declared.Refusal.the-variants as why
 use Rattle.word.specs.Word.{u32At}
 use Rattle.word.specs.WordLaws.{u32-drop, u32-take}
+use Rattle.walk.specs.Pick.{onGave}
 use Rattle.area.specs.Kind.{Sort}
 use Rattle.find.specs.Find.{same, Span, firstSub}
 use Rattle.body.specs.Imports.{Module, modules}
 use Rattle.table.specs.Table.{tableOf}
 use Rattle.table.specs.Rows.{rowsPlaced}
 use Rattle.table.specs.TableLaws.{Finds, first-finds}
-use Rattle.table.specs.Collect.{onGave, collected, listingCount, ofNth}
+use Rattle.table.specs.Collect.{collected, listingCount, ofNth}
 use Rattle.imports.specs.Imports.{Ref, scopeOf, idOf, ifRef, ModuleAt, moduleOf, moduleSize, moduleAt}
 use Rattle.imports.specs.ImportsLaws.{module-past, module-end, module-short, module-cut, module-whole, ref-none, ref-word, ref-is, ref-not, module-next, modules-end, modules-refused}
 use Rattle.imports.specs.Listed.{modulePlace, ifSlots, slotsUsed, slotsWith, refOn, refAt, resolveListed}

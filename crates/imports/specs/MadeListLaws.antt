@@ -12,7 +12,7 @@ use lib.Dec.{ltb, eqb}
 use Rattle.walk.specs.Cases.{by-cases, le-or-gt}
 use Rattle.walk.specs.Listing.{Move, item, pass, over, fail, Listing, more, mapped, onMove, all, gives, Reply, gave, nothing, refused}
 use Rattle.walk.specs.ListingLaws.{To, all-ind}
-use Rattle.walk.specs.Pick.{firstBy, mapReply}
+use Rattle.walk.specs.Pick.{firstBy, mapReply, onGave}
 use Rattle.refusal.specs.Told.{Told, told, longest}
 use Rattle.refusal.specs.declared.Refusal.the-variants as why
 use Rattle.word.specs.Word.{u32At}
@@ -27,7 +27,7 @@ use Rattle.table.specs.Table.{tableOf}
 use Rattle.table.specs.TableLaws.{Finds, first-finds}
 use Rattle.table.specs.Rows.{rowsPlaced}
 use Rattle.table.specs.RowsLaws.{Bitten, falls}
-use Rattle.table.specs.Collect.{onGave, collected, ofNth}
+use Rattle.table.specs.Collect.{collected, ofNth}
 use Rattle.table.specs.CollectLaws.{mapped-same, collected-map}
 use Rattle.imports.specs.Imports.{modulesOf, Ref, scopeOf, ifRef, refIn, refOf, resolveImport, moduleOf, moduleSize, moduleAt}
 use Rattle.imports.specs.ImportsLaws.{module-whole, bitten, in-area}

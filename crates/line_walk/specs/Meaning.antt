@@ -1,7 +1,8 @@
 -- What the line walk means: the line bodies that the list names, one after the other, as events; and the records that these events settle. There
 -- is no state in it, and no place but where each body starts, which is handed on with its bytes. Source: document 01, "Line subsections": markers
--- give no record but use up their column entry; one record is held back until its end is known; the ends are the next non-marker line's offset, then section offset plus code size when a subsection's
--- blocks are done, this also when a later subsection had no line; 8 at a subsection's end only if a record is held.
+-- give no record but use up their column entry; one record is held back until its end is known; the ends are the next non-marker line's offset, then
+-- section offset plus code size when a subsection's blocks are done, this also when a later subsection had no line; 8 at a subsection's end only if a
+-- record is held.
 -- Definitions only; a reader must believe them.
 use Prim.Native.Nat.{ℕ, _+_}
 use mathlib.Core.List.{List, [], _∷_}

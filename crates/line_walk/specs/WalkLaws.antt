@@ -12,7 +12,7 @@ use borrow.Author.Tests.{ltb-true, ltb-false, eqb-true, eqb-false}
 use Rattle.word.specs.Word.{u32At}
 use Rattle.word.specs.WordLaws.{u32-drop}
 use Rattle.walk.specs.Cases.{by-cases}
-use Rattle.walk.specs.Listing.{pass, fail, more, ends, fails, onMove, all, Answer, gives, none, refuses, moved, Reply, gave, nothing, refused, calls, replies}
+use Rattle.walk.specs.Listing.{more, ends, fails, onMove, all, Answer, gives, none, refuses, moved, Reply, gave, nothing, refused, calls, replies}
 use Rattle.walk.specs.ListingLaws.{To, calls-are}
 use Rattle.walk.specs.First.{first}
 use Rattle.walk.specs.FirstLaws.{all-first, all-kept, first-less, first-kept}

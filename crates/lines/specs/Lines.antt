@@ -1,5 +1,6 @@
--- The line subsections of an area, after the tests over all of it. Source: cvinfo.h, `DEBUG_S_SUBSECTION_TYPE` (LINES f2); document 01, "Line
--- subsections": refusals 1 and 2 over the whole area in its order, a short line header giving 1 before what is behind it; the first slots hold body positions.
+-- The line subsections of an area, after the tests over all of it, and a line body with its start. Source: cvinfo.h, `DEBUG_S_SUBSECTION_TYPE` (LINES
+-- f2); document 01, "Line subsections": refusals 1 and 2 over the whole area in its order, a short line header giving 1 before what is behind it; slots
+-- hold body positions.
 -- Definitions only; a reader must believe them.
 use Prim.Native.Nat.{ℕ, _+_}
 use mathlib.Core.List.{List}

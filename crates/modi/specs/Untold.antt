@@ -10,7 +10,7 @@ use Rattle.modi.specs.declared.Part.{Part}
 use Rattle.modi.specs.declared.Part.the-variants as part
 use Rattle.modi.specs.Told.{toldSymbols, toldPart}
 
--- the answer is never `nothing`
+-- no answer tells `nothing`
 abbrev pub untoldSymbols : Reply (Unit {0}) Told → SymbolsAnswer
 untoldSymbols (gave u) = symbols.Yes
 untoldSymbols nothing = symbols.Yes
@@ -20,7 +20,7 @@ pub untold-symbols : (h : SymbolsAnswer) → untoldSymbols (toldSymbols h) ≡ h
 untold-symbols symbols.Yes = refl
 untold-symbols (symbols.Refused r) = ap symbols.Refused (untold-told r)
 
--- the answer is never `nothing`
+-- no answer tells `nothing`
 abbrev pub untoldPart : Reply Span Told → Part
 untoldPart (gave a) = part.At (a .start) (a .len)
 untoldPart nothing = part.At 0 0

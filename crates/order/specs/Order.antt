@@ -25,7 +25,7 @@ orderOf rule s = sortBy (rank s) (startsFrom rule s 0)
 abbrev pub ordered : (ℕ → Sort) → List ℕ → ℕ → Reply ℕ Told
 ordered rule s m = bodyList rule s m
 
--- the slots behind the order list, which held xs before
+-- the slots after a call for the order list; they held xs before
 abbrev pub slotsAfter : (ℕ → Sort) → List ℕ → List ℕ → List ℕ
 slotsAfter rule s xs = slotsHolding (orderOf rule s) xs (ordered rule s (length xs))
 

@@ -12,7 +12,7 @@ use Rattle.word.specs.Word.{Bytes}
 use Rattle.walk.specs.Cases.{by-cases}
 use Rattle.walk.specs.Listing.{Listing, more, ends, fails, mapped, before, Reply, gave, nothing, refused}
 use Rattle.walk.specs.ListingLaws.{Every}
-use Rattle.walk.specs.Pick.{failure, firstBy, lastBy, orElse, mapReply}
+use Rattle.walk.specs.Pick.{failure, firstBy, lastBy, orElse, mapReply, onGave}
 use Rattle.walk.specs.PickLaws.{Gives, first-holds}
 use Rattle.refusal.specs.Told.{Told, told, longest, numberOf}
 use Rattle.refusal.specs.declared.Refusal.the-variants as why
@@ -24,7 +24,7 @@ use Rattle.find.specs.Find.{same, is, spanOf}
 use Rattle.table.specs.Table.{tableOf}
 use Rattle.body.specs.Exports.{Pair, pairs}
 use Rattle.body.specs.RunLaws.{Each}
-use Rattle.table.specs.Collect.{onGave, collected}
+use Rattle.table.specs.Collect.{collected}
 use Rattle.table.specs.CollectLaws.{mapped-same}
 use Rattle.lines.specs.Lines.{countOf, plus, linesFrom, countLines}
 use Rattle.files.specs.Files as file

@@ -12,7 +12,7 @@ use borrow.Author.Tests.{eqb-true, ltb-false, le-ltb}
 use Rattle.walk.specs.Cases.{by-cases, both-ways}
 use Rattle.walk.specs.Listing.{Listing, more, ends, fails, mapped, before, Reply, gave, nothing, refused, spread}
 use Rattle.walk.specs.ListingLaws.{Every}
-use Rattle.walk.specs.Pick.{failure, firstBy, lastBy, only, orElse, mapReply}
+use Rattle.walk.specs.Pick.{failure, firstBy, lastBy, only, orElse, mapReply, onGave}
 use Rattle.walk.specs.PickLaws.{Gives, failure-only}
 use Rattle.refusal.specs.Told.{Told}
 use Rattle.area.specs.Kind.{Sort}
@@ -20,7 +20,6 @@ use Rattle.area.specs.Subs.{Sub, subsFrom}
 use Rattle.area.specs.SubsLaws.{Inside, subs-inside}
 use Rattle.find.specs.Find.{same, Span, is, spanOf, firstSub, lastSub, bytesAt, firstBytes, lastBytes}
 use Rattle.table.specs.Table.{tableOf, ofBody}
-use Rattle.table.specs.Collect.{onGave}
 use Rattle.table.specs.CollectLaws.{mapped-same, mapped-mapped}
 use Rattle.body.specs.Lines.{lineHeadSize, lineHead, columned, blocks}
 use Rattle.body.specs.Checksums.{checksums}

@@ -8,10 +8,10 @@ use lib.ListN.{length, take, drop}
 use lib.Dec.{ltb, eqb}
 use Rattle.word.specs.Word.{u32At}
 use Rattle.walk.specs.Listing.{Reply, gave, refused}
+use Rattle.walk.specs.Pick.{onGave}
 use Rattle.refusal.specs.Told.{Told, told, longest}
 use Rattle.refusal.specs.declared.Refusal.the-variants as why
 use Rattle.find.specs.Find.{Span}
-use Rattle.table.specs.Collect.{onGave}
 
 -- the header's three words
 abbrev pub signature : List ℕ → ℕ

@@ -14,10 +14,10 @@ use borrow.Author.Tests.{eqb-true, eqb-false, ltb-true, ltb-false, lt-ltb, ne-eq
 use Rattle.word.specs.PartLaws.{part-bytes}
 use Rattle.walk.specs.Cases.{by-cases, tests}
 use Rattle.walk.specs.Listing.{Reply, gave, nothing, refused}
+use Rattle.walk.specs.Pick.{onGave}
 use Rattle.refusal.specs.Told.{Told, told, longest}
 use Rattle.refusal.specs.declared.Refusal.the-variants as why
 use Rattle.find.specs.Find.{Span, heldSpan, HandsSpan}
-use Rattle.table.specs.Collect.{onGave}
 use Rattle.strings.specs.Strings.{signature, version, namesSize, namesOf, untilZero, names, namesFrom, nameIn, nameAt}
 
 -- a part of the stream

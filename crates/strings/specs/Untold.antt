@@ -10,7 +10,7 @@ use Rattle.strings.specs.declared.NameAnswer.{NameAnswer}
 use Rattle.strings.specs.declared.NameAnswer.the-variants as name
 use Rattle.strings.specs.Told.{toldTable, toldName}
 
--- the answer is never `nothing`
+-- no answer tells `nothing`
 abbrev pub untoldTable : Reply Span Told → TableAnswer
 untoldTable (gave a) = table.Names (a .start) (a .len)
 untoldTable nothing = table.Names 0 0
@@ -20,7 +20,7 @@ pub untold-table : (a : TableAnswer) → untoldTable (toldTable a) ≡ a
 untold-table (table.Names start len) = refl
 untold-table (table.Refused r) = ap table.Refused (untold-told r)
 
--- the answer is never `nothing`
+-- no answer tells `nothing`
 abbrev pub untoldName : Reply Span Told → NameAnswer
 untoldName (gave a) = name.At (a .start) (a .len)
 untoldName nothing = name.At 0 0

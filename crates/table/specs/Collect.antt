@@ -4,13 +4,8 @@
 use Prim.Native.Nat.{ℕ, zero, suc}
 use mathlib.Core.List.{List, [], _∷_}
 use lib.ListN.{length}
-use Rattle.walk.specs.Listing.{Listing, more, ends, fails, Reply, gave, nothing, refused}
-
--- f of what a reply gave
-abbrev pub onGave : {B C R : Type 0} → (B → Reply C R) → Reply B R → Reply C R
-onGave f (gave b) = f b
-onGave f nothing = nothing
-onGave f (refused r) = refused r
+use Rattle.walk.specs.Listing.{Listing, more, ends, fails, Reply, gave, refused}
+use Rattle.walk.specs.Pick.{onGave}
 
 unfoldable pub collected : {B R : Type 0} → Listing B R → Reply (List B) R
 collected (more b l) = onGave (λ bs. gave (b ∷ bs)) (collected l)

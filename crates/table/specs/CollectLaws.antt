@@ -8,10 +8,11 @@ use mathlib.Core.Path.{_≡_, refl, sym, ap, _∙_}
 use mathlib.Core.List.{List, [], _∷_, map}
 use lib.ListN.{length, take, drop, length-map}
 use Rattle.walk.specs.Listing.{Listing, more, ends, fails, mapped, Reply, gave, nothing, refused}
+use Rattle.walk.specs.Pick.{onGave}
 use Rattle.refusal.specs.Told.{Told}
 use Rattle.find.specs.Find.{Span}
 use Rattle.table.specs.Table.{tableOf}
-use Rattle.table.specs.Collect.{onGave, collected, listingCount, ofNth}
+use Rattle.table.specs.Collect.{collected, listingCount, ofNth}
 
 pub mapped-same : {B R : Type 0} (l : Listing B R) → mapped (λ (b : B). b) (λ (r : R). r) l ≡ l
 mapped-same (more b l) = ap (more b) (mapped-same l)

@@ -1,6 +1,6 @@
--- A table of an area, and a walk over its records: the body of one subsection, which a finder gives, read by a step of its own. One definition
--- for every table. Source: document 01, "Area and subsections" (without such a subsection the answer is empty), "A walk that ended answers none
--- again", number 11, and "a place past the lent bytes is 1".
+-- A table of an area, a walk over its records, and a word of a record that tells its words by place and number. A table is the body of one subsection,
+-- which a finder gives, read by a step of its own: one definition for every table. Source: document 01, "Area and subsections" (without such a
+-- subsection the answer is empty), "A walk that ended answers none again", number 11, and "a place past the lent bytes is 1".
 -- Definitions only; a reader must believe them, but for `spotNew`, `spotOf` to `tableStep`: `table-walk` (table TableLaws) says what these mean.
 use Prim.Native.Nat.{ℕ, _+_, _*_}
 use mathlib.Core.List.{List}
