@@ -301,24 +301,25 @@ module _ (rule : ℕ → Sort) (s v : List ℕ) (n₀ : ℕ) (w₀ : LineWalk) (
           }
 
       -- a turn that tells an end
-      pub turning-stops : (u : LineMove) (k : End) → u ≡ turnOf rule s v w → toldEnd k ≡ onFirst (nextOf rule s v) u
-          → StopsAt rule s v n₀ w₀ o₀ (record { n = n; walk = w; exact = exact; end = k }) o
-      turning-stops u k e q = record {
+      pub turning-stops : (u : LineMove) (k : End) (r : Stopped) → u ≡ turnOf rule s v w → toldEnd k ≡ onFirst (nextOf rule s v) u
+          → r ≡ record { n = n; walk = w; exact = exact; end = k } → StopsAt rule s v n₀ w₀ o₀ r o
+      turning-stops u k r e q er = subst⁻¹ (λ y. StopsAt rule s v n₀ w₀ o₀ y o) er (record {
         size = h .size;
         turns = h .turns;
         exactly = λ x _. h .exactly x;
         stops = λ _. q ∙ next-is rule s v w u e;
         inexact = λ _. l;
-      }
+      })
 
-    pub turning-full : length o₀ / recordSize ≤ n → StopsAt rule s v n₀ w₀ o₀ (record { n = n; walk = w; exact = true; end = end.None }) o
-    turning-full l = record {
+    pub turning-full : length o₀ / recordSize ≤ n → (r : Stopped) → r ≡ record { n = n; walk = w; exact = true; end = end.None }
+        → StopsAt rule s v n₀ w₀ o₀ r o
+    turning-full l r er = subst⁻¹ (λ y. StopsAt rule s v n₀ w₀ o₀ y o) er (record {
       size = h .size;
       turns = h .turns;
       exactly = λ _ z. absurd (omega arith);
       stops = λ z. absurd (omega arith);
       inexact = λ z. not-so (sym z);
-    }
+    })
 
 end-no-record : (k : End) → NoRecord (toldEnd k)
 end-no-record end.None = tt

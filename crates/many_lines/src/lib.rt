@@ -349,6 +349,17 @@ struct Stopped {
     end: End,
 }
 
+fn stopped_at(n: usize, walk: LineWalk, exact: bool, end: End) -> Stopped
+    ensures { λ r. ⌜ r ≡ record { n = n; walk = walk; exact = exact; end = end } ⌝ }
+{
+    Stopped {
+        n,
+        walk,
+        exact,
+        end,
+    }
+}
+
 // Turn by turn what turns made at once left. A turn that passes on may have left what stopped them, so they are tried again behind it; behind one that gave
 // a record they are not, since a forged place, which stopped them, stops them again until its block is done.
 fn turns(area: &[u8], slots: &[u32], bodies: &[u32], from: Reached, out: &mut [u32]) -> Stopped
@@ -373,29 +384,14 @@ fn turns(area: &[u8], slots: &[u32], bodies: &[u32], from: Reached, out: &mut [u
                 exact = false;
             }
             Turn::Over => {
-                return Stopped {
-                    n,
-                    walk,
-                    exact,
-                    end: End::None,
-                };
+                return stopped_at(n, walk, exact, End::None);
             }
             Turn::Refused(why) => {
-                return Stopped {
-                    n,
-                    walk,
-                    exact,
-                    end: End::Refused(why),
-                };
+                return stopped_at(n, walk, exact, End::Refused(why));
             }
         }
     }
-    Stopped {
-        n,
-        walk,
-        exact: true,
-        end: End::None,
-    }
+    stopped_at(n, walk, true, End::None)
 }
 
 // The records once more: where they fill the room, the walk behind the last.

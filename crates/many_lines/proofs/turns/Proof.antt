@@ -64,20 +64,20 @@ loop-again-2 c =
 
 returns : tie.Need-returns Inv-loop μ-loop
 returns c =
-    let k = c .before .before in
+    let k = c .before .before .before in
     let l = k .before .before .loop in
-    turning-stops crateRule _ _ _ _ _ _ _ _ _ (l .inv .0) (omega (arith, l .inv .1)) _ _ (ap toldTurn (sym (c .enum-told .given .1)) ∙ k .take-turn .ensures) refl
+    turning-stops crateRule _ _ _ _ _ _ _ _ _ (l .inv .0) (omega (arith, l .inv .1)) _ _ _ (ap toldTurn (sym (c .before .enum-told .given .1)) ∙ k .take-turn .ensures) refl (c .stopped-at .ensures)
 
 returns-2 : tie.Need-returns-2 Inv-loop μ-loop
 returns-2 c =
-    let k = c .before .before .before in
+    let k = c .before .before .before .before in
     let l = k .before .before .loop in
-    turning-stops crateRule _ _ _ _ _ _ _ _ _ (l .inv .0) (omega (arith, l .inv .1)) _ _ (ap toldTurn (sym (c .before .why .given .1)) ∙ k .take-turn .ensures) refl
+    turning-stops crateRule _ _ _ _ _ _ _ _ _ (l .inv .0) (omega (arith, l .inv .1)) _ _ _ (ap toldTurn (sym (c .before .before .why .given .1)) ∙ k .take-turn .ensures) refl (c .stopped-at2 .ensures)
 
 returns-3 : tie.Need-returns-3 Inv-loop μ-loop
 returns-3 c =
-    let l = c .before .loop in
-    turning-full crateRule _ _ _ _ _ _ _ _ _ (l .inv .0) (omega (arith, l .inv .1))
+    let l = c .before .before .loop in
+    turning-full crateRule _ _ _ _ _ _ _ _ _ (l .inv .0) (omega (arith, l .inv .1)) _ (c .stopped-at3 .ensures)
 
 pub turns-spec : {M : Type 1} → statement M
 turns-spec =
@@ -97,10 +97,13 @@ turns-spec =
     loop-less-2
     loop-again-2
     (λ c. search needs)
+    (λ c κs. search needs)
     (λ c. search needs)
     returns
     (λ c. search needs)
+    (λ c κs. search needs)
     (λ c. search needs)
     returns-2
+    (λ c κs. search needs)
     (λ c. search needs)
     returns-3)
