@@ -1,7 +1,8 @@
 -- Laws of many files at once: a turn of the loop that puts a file, that the files given, and the steps behind them, are the files of the area, and that
 -- behind a walk that is over there is none.
-use Prim.Native.Nat.{ℕ, _+_, _-_, _*_, _/_, _<_}
-use mathlib.Core.Path.{_≡_, refl, sym, ap, _∙_}
+use Prim.Native.Nat.{ℕ, _+_, _-_, _*_, _/_, _<_, _≤_}
+use mathlib.Core.Path.{_≡_, refl, sym, ap, _∙_, subst⁻¹}
+use mathlib.Core.Logic.{⊎-elim}
 use mathlib.Core.List.{List}
 use mathlib.Core.Bool.{true}
 use native.Mathlib.Omega.{arith}
@@ -9,17 +10,19 @@ use lib.ListN.{length, take, drop}
 use borrow.Author.Tests.{eqb-true}
 use borrow.Rule.Slice.PartMut.{putMid}
 use Rattle.word.specs.Word.{store}
+use Rattle.walk.specs.Cases.{eq-or-ne}
 use Rattle.walk.specs.Listing.{Answer, gives, none, refuses, calls, replies}
 use Rattle.walk.specs.Many.{many}
-use Rattle.walk.specs.ManyLaws.{gaveAll, many-calls}
+use Rattle.walk.specs.ManyLaws.{NoRecord, gaveAll, many-calls}
 use Rattle.refusal.specs.Told.{Told}
 use Rattle.area.specs.Kind.{Sort}
 use Rattle.table.specs.declared.TableWalk.{TableWalk}
 use Rattle.table.specs.declared.TableWalk.the-variants as walk
 use Rattle.files.specs.Files.{File, fileStep, filesIn}
 use Rattle.files.specs.FilesLaws.{files-walk, Leads, file-leads, file-over}
-use Rattle.answer_words.specs.Filling.{Filling}
-use Rattle.answer_words.specs.FillLaws.{fill-stored}
+use Rattle.answer_words.specs.Fill.{noRoom, counted}
+use Rattle.answer_words.specs.Filling.{Filled, Filling}
+use Rattle.answer_words.specs.FillLaws.{fill-stored, fill-stop, fill-none}
 use Rattle.answer_words.specs.FillGivenLaws.{Behind, fill-behind-each}
 use Rattle.answer_words.specs.PiecesLaws.{put-part}
 use Rattle.answer_words.specs.TableWords.{overTable}
@@ -40,6 +43,17 @@ module _ (rule : ℕ → Sort) (s : List ℕ) (w₀ : TableWalk) (o₀ : List �
       let at = fileSize * n in
       fill-stored fileSize fileWords file-length (fileStep rule s) w₀ o₀ h f t (putMid at (at + fileSize - at) o y) e l
       (put-part o y ws at fileSize (ap length (sym q) ∙ file-length f) (omega (arith, h .size)) g ∙ ap (store o at) (sym q))
+
+  abbrev Ends : Answer TableWalk ℕ Told → List ℕ → Type 0
+  Ends = Filled fileSize fileWords (fileStep rule s) w₀ o₀
+
+  -- it stops: a is what a step from here answers, and r is told, which is that answer where no file is put
+  pub put-ended : {n : ℕ} {w : TableWalk} {o : List ℕ} → Put n w o → fileSize ≤ length o₀ → (a : Answer TableWalk File Told) → a ≡ fileStep rule s w → NoRecord a
+      → {r : Answer TableWalk ℕ Told} → (n ≡ 0 → r ≡ counted (noRoom a)) × ((n ≡ 0 → ⊥) → r ≡ gives n w) → Ends r o
+  put-ended {n} {w} {o} h fits a e g {r} q = ⊎-elim
+      (λ (z : n ≡ 0). subst⁻¹ (λ x. Ends x o) (q .0 z) (fill-none fileSize fileWords file-length (fileStep rule s) w₀ o₀ h fits a e g z))
+      (λ (z : n ≡ 0 → ⊥). subst⁻¹ (λ x. Ends x o) (q .1 z) (fill-stop fileSize fileWords file-length (fileStep rule s) w₀ o₀ h fits a e g z))
+      (eq-or-ne n 0)
 
 -- THE LAW: k files at once, and j steps behind them, answer what the files of the area ask
 pub many-files : (rule : ℕ → Sort) (s : List ℕ) (k j : ℕ)

@@ -8,6 +8,7 @@ ghost use Prim.Native.Nat.{_≤_};
 ghost use lib.ListN.{length};
 ghost use Rattle.area.specs.Kind.{crateRule};
 ghost use Rattle.files.specs.Told.{toldFile};
+ghost use Rattle.walk.specs.Listing.{gives};
 ghost use Rattle.answer_words.specs.Fill.{noRoom, counted, filled};
 ghost use Rattle.many_files.specs.Files.{fileSize, fileWords, filesOf};
 ghost use Rattle.many_files.specs.Told.{toldFiles};
@@ -45,6 +46,16 @@ fn no_room(step: FileStep) -> FilesStep
     }
 }
 
+// What there is to answer where no other file comes: the files that are put, or `end` where there is none.
+fn ended(n: usize, w: TableWalk, end: FilesStep) -> FilesStep
+    ensures { λ r. ⌜ (n ≡ 0 → toldFiles r ≡ toldFiles end) × ((n ≡ 0 → ⊥) → toldFiles r ≡ gives n w) ⌝ }
+{
+    if n == 0 {
+        return end;
+    }
+    FilesStep::Files { count: n, next: w }
+}
+
 // The files from a walk on, put step after step; `w` is the walk behind the last of them.
 fn fill(area: &[u8], walk: TableWalk, out: &mut [u32]) -> FilesStep
     requires { ⌜ fileSize ≤ length (now out) ⌝ }
@@ -75,16 +86,10 @@ fn fill(area: &[u8], walk: TableWalk, out: &mut [u32]) -> FilesStep
                 w = next;
             }
             FileStep::None => {
-                if n == 0 {
-                    return FilesStep::None;
-                }
-                return FilesStep::Files { count: n, next: w };
+                return ended(n, w, FilesStep::None);
             }
             FileStep::Refused(why) => {
-                if n == 0 {
-                    return FilesStep::Refused(why);
-                }
-                return FilesStep::Files { count: n, next: w };
+                return ended(n, w, FilesStep::Refused(why));
             }
         }
     }

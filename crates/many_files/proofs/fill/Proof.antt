@@ -10,10 +10,10 @@ use Rattle.walk.specs.Listing.{none, refuses}
 use Rattle.files.specs.Files.{fileStep}
 use Rattle.files.specs.FilesLaws.{file-leads}
 use Rattle.files.specs.Told.{toldFile}
-use Rattle.answer_words.specs.FillLaws.{fill-start, fill-full, fill-stop, fill-none}
+use Rattle.answer_words.specs.FillLaws.{fill-start, fill-full}
 use Rattle.many_files.specs.Files.{fileSize, fileWords}
 use Rattle.many_files.specs.FileWordsLaws.{file-length, file-words}
-use Rattle.many_files.specs.FilesLaws.{Put, put-file}
+use Rattle.many_files.specs.FilesLaws.{Put, put-file, put-ended}
 use Rattle.many_files.proofs.fill.Statement.{statement}
 use Rattle.many_files.proofs.fill.Tie as tie
 
@@ -61,28 +61,16 @@ returns : tie.Need-returns Inv-loop μ-loop
 returns c =
     let h = c .before .before .before in
     let e = ap toldFile (sym (c .before .enum-told .given .1)) ∙ h .next-file .ensures in
-    fill-none fileSize fileWords file-length (fileStep crateRule _) _ _ (h .before .before .loop .inv .0) (omega arith) none e tt (c .if1 .taken)
+    put-ended crateRule _ _ _ (h .before .before .loop .inv .0) (omega arith) none e tt (c .ended .ensures)
 
 returns-2 : tie.Need-returns-2 Inv-loop μ-loop
 returns-2 c =
-    let h = c .before .before .before in
-    let e = ap toldFile (sym (c .before .enum-told .given .1)) ∙ h .next-file .ensures in
-    fill-stop fileSize fileWords file-length (fileStep crateRule _) _ _ (h .before .before .loop .inv .0) (omega arith) none e tt (c .if1 .left)
+    let h = c .before .before .before .before in
+    let e = ap toldFile (sym (c .before .before .why .given .1)) ∙ h .next-file .ensures in
+    put-ended crateRule _ _ _ (h .before .before .loop .inv .0) (omega arith) (refuses _) e tt (c .ended2 .ensures)
 
 returns-3 : tie.Need-returns-3 Inv-loop μ-loop
-returns-3 c =
-    let h = c .before .before .before .before in
-    let e = ap toldFile (sym (c .before .before .why .given .1)) ∙ h .next-file .ensures in
-    fill-none fileSize fileWords file-length (fileStep crateRule _) _ _ (h .before .before .loop .inv .0) (omega arith) (refuses _) e tt (c .if2 .taken)
-
-returns-4 : tie.Need-returns-4 Inv-loop μ-loop
-returns-4 c =
-    let h = c .before .before .before .before in
-    let e = ap toldFile (sym (c .before .before .why .given .1)) ∙ h .next-file .ensures in
-    fill-stop fileSize fileWords file-length (fileStep crateRule _) _ _ (h .before .before .loop .inv .0) (omega arith) (refuses _) e tt (c .if2 .left)
-
-returns-5 : tie.Need-returns-5 Inv-loop μ-loop
-returns-5 c = fill-full fileSize fileWords file-length (fileStep crateRule _) _ _ (c .before .loop .inv .0) (omega arith) (omega arith) (omega arith)
+returns-3 c = fill-full fileSize fileWords file-length (fileStep crateRule _) _ _ (c .before .loop .inv .0) (omega arith) (omega arith) (omega arith)
 
 pub fill-spec : {M : Type 1} → statement M
 fill-spec =
@@ -109,14 +97,12 @@ fill-spec =
     loop-less
     loop-again
     (λ c. search needs)
+    (λ c κs. search needs)
     (λ c. search needs)
     returns
     (λ c. search needs)
+    (λ c κs. search needs)
+    (λ c. search needs)
     returns-2
     (λ c. search needs)
-    (λ c. search needs)
-    returns-3
-    (λ c. search needs)
-    returns-4
-    (λ c. search needs)
-    returns-5)
+    returns-3)
