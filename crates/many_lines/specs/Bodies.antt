@@ -26,6 +26,7 @@ use Rattle.line_step.specs.declared.Place.{Place}
 use Rattle.line_step.specs.declared.LineWalk.{LineWalk}
 use Rattle.line_step.specs.declared.LineWalk.the-variants.{New, Between, Inside}
 use Rattle.line_walk.specs.Next.{nextOf}
+use Rattle.body_lines.specs.declared.InBody.{InBody}
 use Rattle.body_lines.specs.Turns.{Filled, UnderWay, TurnsPut}
 use Rattle.many_lines.specs.Told.{toldLines}
 use Rattle.many_lines.specs.declared.Looked.{Looked}
@@ -83,19 +84,26 @@ walkAt false p t = Between t
 abbrev pub standsAt : Stand → LineWalk
 standsAt x = walkAt (x .inside) (x .place) (x .rest)
 
--- x is where the walk w stands: it is w, or the turn from w leads there
-pub record StandOf (rule : ℕ → Sort) (s v b : List ℕ) (w : LineWalk) (x : Stand) : Type 0 where
+-- from a place of a body, with a held record or none and n records put, over the body's end if the walk is not stuck, and then there is room for another record
+pub record BodyPassed (rule : ℕ → Sort) (s : List ℕ) (p : Place) (held : Held) (n : ℕ) (o : List ℕ) (r : InBody) (o′ : List ℕ) : Type 0 where
+  pub size : length o′ ≡ length o
+  pub turns : (v : List ℕ) (t : Rest)
+      → TurnsPut rule s v (length o / recordSize) n (Inside p (withHeld t held)) o (r .n) (walkAt (r .stuck) (r .place) (withHeld t (r .held))) o′
+  pub room : r .stuck ≡ false → r .n < length o / recordSize
+
+-- x is where the walk w stands, n records being put: it is w, or the turn from w leads there
+pub record StandOf (rule : ℕ → Sort) (s v : List ℕ) (n : ℕ) (w : LineWalk) (x : Stand) : Type 0 where
   pub short : length s ≤ longest
-  pub known : Knows rule s b (x .known) (x .rest .scan)
-  pub turns : (room n : ℕ) (o : List ℕ) → n < room → TurnsPut rule s v room n w o n (standsAt x) o
+  pub count : x .n ≡ n
+  pub turns : (room : ℕ) (o : List ℕ) → n < room → TurnsPut rule s v room n w o (x .n) (standsAt x) o
 
-abbrev pub StandingIs : (ℕ → Sort) → List ℕ → List ℕ → List ℕ → LineWalk → Standing → Type 0
-StandingIs rule s v b w (standing.At x) = StandOf rule s v b w x
-StandingIs rule s v b w standing.No = Unit {0}
+abbrev pub StandingIs : (ℕ → Sort) → List ℕ → List ℕ → ℕ → LineWalk → Standing → Type 0
+StandingIs rule s v n w (standing.At x) = StandOf rule s v n w x
+StandingIs rule s v n w standing.No = Unit {0}
 
--- over all slots and lists of bodies
-pub record StandsFor (rule : ℕ → Sort) (s : List ℕ) (w : LineWalk) (r : Standing) : Type 0 where
-  pub each : (v b : List ℕ) → StandingIs rule s v b w r
+-- over all slots
+pub record StandsFor (rule : ℕ → Sort) (s : List ℕ) (n : ℕ) (w : LineWalk) (r : Standing) : Type 0 where
+  pub each : (v : List ℕ) → StandingIs rule s v n w r
 
 -- from n records and the walk w to r, the lent words o being o′ then
 pub record BodiesPut (rule : ℕ → Sort) (s v : List ℕ) (n : ℕ) (w : LineWalk) (o : List ℕ) (r : Reached) (o′ : List ℕ) : Type 0 where

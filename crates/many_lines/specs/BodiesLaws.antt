@@ -49,7 +49,7 @@ use Rattle.body_lines.specs.Turns.{Filled, UnderWay, TurnsPut}
 use Rattle.body_lines.specs.TurnsLaws.{turns-put-same, turns-put-pass, turns-put-record, turns-put-on, turns-put-both, turns-put-last}
 use Rattle.answer_words.specs.FillLaws as fill
 use Rattle.body_lines.specs.FillLaws.{turns-start, turns-full}
-use Rattle.many_lines.specs.Bodies.{Look, Knows, LocatedIs, LastAs, LastIs, walkAt, standsAt, StandOf, StandsFor, BodiesPut, toldEnd, StopsAt, FilledBy, Answers, Refilled, withoutRoom}
+use Rattle.many_lines.specs.Bodies.{Look, Knows, LocatedIs, LastAs, LastIs, walkAt, standsAt, BodyPassed, StandOf, StandsFor, BodiesPut, toldEnd, StopsAt, FilledBy, Answers, Refilled, withoutRoom}
 use Rattle.many_lines.specs.AgainLaws.{same-count, same-state, lines-again}
 use Rattle.many_lines.specs.declared.Stand.{Stand}
 use Rattle.many_lines.specs.declared.Standing.{Standing}
@@ -170,26 +170,49 @@ module _ (rule : ℕ → Sort) (s v : List ℕ) where
 
   -- ---- where a walk stands
 
-  module _ (b : List ℕ) where
-    pub stand-same : (w : LineWalk) (x : Stand) → length s ≤ longest → Knows rule s b (x .known) (x .rest .scan) → w ≡ standsAt x → StandOf rule s v b w x
-    stand-same w x f g e =
-        record { short = f; known = g; turns = λ room n o l. subst (λ y. TurnsPut rule s v room n w o n y o) e (turns-put-same rule s v room) }
+  module _ (n : ℕ) where
+    pub stand-same : (w : LineWalk) (b : Bool) (p : Place) (t : Rest) → length s ≤ longest → w ≡ walkAt b p t
+        → StandOf rule s v n w (record { n = n; inside = b; place = p; rest = t })
+    stand-same w b p t f e =
+        record { short = f; count = refl; turns = λ room o l. subst (λ y. TurnsPut rule s v room n w o n y o) e (turns-put-same rule s v room) }
 
     -- a new walk; k is how many line subsections there are
     pub stand-new : (w : LineWalk) (k : ℕ) (p : Place) (t : Rest) → w ≡ New → gave k ≡ countLines rule s → t ≡ freshRest 0 k
-        → StandOf rule s v b w (record { inside = false; place = p; rest = t; known = known.Nothing })
+        → StandOf rule s v n w (record { n = n; inside = false; place = p; rest = t })
     stand-new w k p t ew e et =
         let f = counted-short rule s k e in
         let q : pass (Between t) ≡ turnOf rule s v w = ap (λ x. pass (Between x)) et ∙ ap openOf e ∙ turn-is rule s v w f New ew in
-        record {
-          short = f;
-          known = knows-nothing rule s b (t .scan);
-          turns = λ room n o l. turns-put-pass rule s v room l (Between t) q;
-        }
+        record { short = f; count = refl; turns = λ room o l. turns-put-pass rule s v room l (Between t) q }
 
 -- w is x
-pub stands-as : (rule : ℕ → Sort) (s : List ℕ) (w x : LineWalk) (r : Standing) → w ≡ x → StandsFor rule s x r → StandsFor rule s w r
-stands-as rule s w x r e = subst⁻¹ (λ y. StandsFor rule s y r) e
+pub stands-as : (rule : ℕ → Sort) (s : List ℕ) (n : ℕ) (w x : LineWalk) (r : Standing) → w ≡ x → StandsFor rule s n x r → StandsFor rule s n w r
+stands-as rule s n w x r e = subst⁻¹ (λ y. StandsFor rule s n y r) e
+
+-- ---- the lines of a body, r being how far they came, and its end
+
+module _ (rule : ℕ → Sort) (s : List ℕ) (p : Place) (held : Held) (n : ℕ) (o : List ℕ) (r : InBody) (o′ : List ℕ)
+    (h : BodyPut rule s (length o / recordSize) p held n o r o′) where
+  abbrev Passed : InBody → Type 0
+  Passed x = BodyPassed rule s p held n o x o′
+
+  pub passed-stays : Passed (record { n = r .n; place = r .place; held = r .held; stuck = true })
+  passed-stays = record { size = h .size; turns = h .turns; room = λ z. not-so (sym z) }
+
+  pub passed-stuck : r .stuck ≡ true → Passed r
+  passed-stuck e = subst⁻¹ (λ (b : Bool). Passed (record { n = r .n; place = r .place; held = r .held; stuck = b })) e passed-stays
+
+  -- q is the record that is held behind the end
+  pub passed-end : r .stuck ≡ false → (q : Held) → gave q ≡ endHeld (r .place .head) (r .held)
+      → Passed (record { n = r .n; place = r .place; held = q; stuck = false })
+  passed-end e q eq =
+      let k = h .used e in
+      let room = length o / recordSize in
+      record {
+        size = h .size;
+        turns = λ v t. turns-put-on rule s v room (h .turns v t)
+            (turns-put-pass rule s v room (k .1) (Between (withHeld t q)) (pass-end rule s v (r .place) (withHeld t (r .held)) (withHeld t q) q (k .0) eq refl));
+        room = λ _. k .1;
+      }
 
 -- ---- many turns at once
 
@@ -210,13 +233,13 @@ module _ (rule : ℕ → Sort) (s v : List ℕ) (n : ℕ) (w : LineWalk) (o : Li
     pub comes-pass : (x y : LineWalk) → Comes m x o′ → m < length o / recordSize → pass y ≡ turnOf rule s v x → Comes m y o′
     comes-pass x y h l e = record { size = h .size; turns = turns-put-on rule s v (length o / recordSize) (h .turns) (turns-put-pass rule s v (length o / recordSize) l y e) }
 
-    -- the lines of a body, u being what is behind them
-    pub comes-lines : (p : Place) (t : Rest) (r : InBody) (o″ : List ℕ) (u : Rest) → Comes m (Inside p t) o′
-        → BodyPut rule s (length o′ / recordSize) p (t .held) m o′ r o″ → u ≡ withHeld t (r .held) → Comes (r .n) (Inside (r .place) u) o″
-    comes-lines p t r o″ u h k e =
+    -- a body, u being what is behind it
+    pub comes-body : (p : Place) (t : Rest) (r : InBody) (o″ : List ℕ) (u : Rest) → Comes m (Inside p t) o′ → BodyPassed rule s p (t .held) m o′ r o″
+        → u ≡ withHeld t (r .held) → Comes (r .n) (walkAt (r .stuck) (r .place) u) o″
+    comes-body p t r o″ u h k e =
         let er : length o′ / recordSize ≡ length o / recordSize = ap (λ (x : ℕ). x / recordSize) (h .size) in
-        let g = subst (λ (x : ℕ). TurnsPut rule s v x m (Inside p t) o′ (r .n) (Inside (r .place) (withHeld t (r .held))) o″) er (k .turns v t) in
-        subst (λ x. Comes (r .n) (Inside (r .place) x) o″) (sym e)
+        let g = subst (λ (x : ℕ). TurnsPut rule s v x m (Inside p t) o′ (r .n) (walkAt (r .stuck) (r .place) (withHeld t (r .held))) o″) er (k .turns v t) in
+        subst (λ x. Comes (r .n) (walkAt (r .stuck) (r .place) x) o″) (sym e)
         (record { size = k .size ∙ h .size; turns = turns-put-on rule s v (length o / recordSize) (h .turns) g })
 
   -- ---- how they end
@@ -229,11 +252,11 @@ module _ (rule : ℕ → Sort) (s v : List ℕ) (n : ℕ) (w : LineWalk) (o : Li
   bodies-at m x o′ r h e = subst⁻¹ (λ y. BodiesPut rule s v n w o y o′) e (bodies-stuck m x o′ h)
 
   -- behind a walk that stands at x
-  pub bodies-behind : (x : Stand) (b : List ℕ) (r : Reached) (o′ : List ℕ) → StandOf rule s v b w x → n < length o / recordSize → BodiesPut rule s v n (standsAt x) o r o′
+  pub bodies-behind : (x : Stand) (r : Reached) (o′ : List ℕ) → StandOf rule s v n w x → n < length o / recordSize → BodiesPut rule s v (x .n) (standsAt x) o r o′
       → BodiesPut rule s v n w o r o′
-  bodies-behind x b r o′ h l k =
+  bodies-behind x r o′ h l k =
       let room = length o / recordSize in
-      let f = h .turns room n o l in
+      let f = h .turns room o l in
       record {
         size = k .size;
         turns = turns-put-on rule s v room f (k .turns);

@@ -17,8 +17,9 @@ ghost use Rattle.line_state_words.specs.LineWords.{recordSize, recordWords};
 ghost use Rattle.line_step.specs.declared.LineWalk.the-variants.{New};
 ghost use Rattle.many_lines.specs.Lines.{linesOf, linesCounted, linesFilled};
 ghost use Rattle.many_lines.specs.Told.{toldLines};
-ghost use Rattle.many_lines.specs.Bodies.{LookedIs, Knows, LocatedIs, OnwardIs, LastIs, standsAt, StandsFor};
+ghost use Rattle.many_lines.specs.Bodies.{LookedIs, Knows, LocatedIs, OnwardIs, LastIs, BodyPassed, standsAt, StandsFor};
 ghost use Rattle.many_lines.specs.Bodies.{BodiesPut, toldEnd, StopsAt, FilledBy, Answers, Refilled, withoutRoom};
+use body_lines::InBody;
 use body_lines::body_lines;
 use body_list::Known;
 use body_list::Located;
@@ -195,57 +196,63 @@ fn last_record(n: usize, t: Rest, out: &mut [u32]) -> Reached
     }
 }
 
-// Where a call stands: inside a body at `place`, or between two; what comes behind, and what is known.
+// The lines of a body from a place on, and its end where the walk comes there: the record that is held behind it. `stuck`: the walk is inside the body yet.
+fn body_on(area: &[u8], place: Place, held: Held, n: usize, out: &mut [u32]) -> InBody
+    ensures { λ r. ⌜ BodyPassed crateRule (now (area .entry)) place held n (now (out .entry)) r (now (out .exit)) ⌝ }
+{
+    let mut x = body_lines(area, place, held, n, out);
+    if x.stuck {
+        return x;
+    }
+    let p = x.place;
+    let last = x.held;
+    match end_body(p.head, last) {
+        EndBody::On(closing) => InBody {
+            n: x.n,
+            place: p,
+            held: closing,
+            stuck: false,
+        },
+        EndBody::Refused(_) => {
+            x.stuck = true;
+            x
+        }
+    }
+}
+
+// Where a call stands: how many records are put; inside a body at `place`, or between two; what comes behind.
 struct Stand {
+    n: usize,
     inside: bool,
     place: Place,
     rest: Rest,
-    known: Known,
 }
 
 // Body after body, as many turns at once as can be.
-fn bodies_on(
-    area: &[u8],
-    slots: &[u32],
-    bodies: &[u32],
-    from: Stand,
-    n0: usize,
-    out: &mut [u32],
-) -> Reached
-    requires { ⌜ Knows crateRule (now area) (now bodies) (from .known) (from .rest .scan) ⌝ }
-    requires { ⌜ (length (now area) ≤ longest) × (n0 < length (now out) / recordSize) ⌝ }
-    ensures { λ r. ⌜ BodiesPut crateRule (now (area .entry)) (now (slots .entry)) n0 (standsAt from) (now (out .entry)) r (now (out .exit)) ⌝ }
+fn bodies_on(area: &[u8], slots: &[u32], bodies: &[u32], from: Stand, out: &mut [u32]) -> Reached
+    requires { ⌜ (length (now area) ≤ longest) × (from .n < length (now out) / recordSize) ⌝ }
+    ensures { λ r. ⌜ BodiesPut crateRule (now (area .entry)) (now (slots .entry)) (from .n) (standsAt from) (now (out .entry)) r (now (out .exit)) ⌝ }
 {
-    let mut n = n0;
-    let mut known = from.known;
+    let mut n = from.n;
+    let mut known = Known::Nothing;
     let mut inside = from.inside;
     let mut p = from.place;
     let mut t = from.rest;
     loop {
         if inside {
             let held = t.held;
-            let x = body_lines(area, p, held, n, out);
+            let x = body_on(area, p, held, n, out);
             let last = x.held;
             n = x.n;
             p = x.place;
             t = with_held(t, last);
             if x.stuck {
-                return Reached { n, walk: LineWalk::Inside(p, t), over: false };
+                return stuck(n, LineWalk::Inside(p, t));
             }
-            let head = p.head;
-            match end_body(head, last) {
-                EndBody::On(closing) => {
-                    inside = false;
-                    t = with_held(t, closing);
-                }
-                EndBody::Refused(_) => {
-                    return Reached { n, walk: LineWalk::Inside(p, t), over: false };
-                }
-            }
+            inside = false;
+        } else if t.left == 0 {
+            return last_record(n, t, out);
         } else {
-            if t.left == 0 {
-                return last_record(n, t, out);
-            }
             match next_body(area, slots, bodies, known, t) {
                 Onward::In(q, u, after) => {
                     inside = true;
@@ -254,7 +261,7 @@ fn bodies_on(
                     known = after;
                 }
                 Onward::Stays => {
-                    return Reached { n, walk: LineWalk::Between(t), over: false };
+                    return stuck(n, LineWalk::Between(t));
                 }
             }
         }
@@ -273,46 +280,46 @@ enum Standing {
 }
 
 // A new walk counts the line subsections first.
-fn stand_new(area: &[u8]) -> Standing
-    ensures { λ r. ⌜ StandsFor crateRule (now (area .entry)) New r ⌝ }
+fn stand_new(area: &[u8], n: usize) -> Standing
+    ensures { λ r. ⌜ StandsFor crateRule (now (area .entry)) n New r ⌝ }
 {
     match count_lines(area) {
         Counted::Lines(left) => {
             let rest = fresh_rest(0, left);
             let place = nowhere();
             Standing::At(Stand {
+                n,
                 inside: false,
                 place,
                 rest,
-                known: Known::Nothing,
             })
         }
         Counted::Refused(_) => Standing::No,
     }
 }
 
-fn stand_of(area: &[u8], w: LineWalk) -> Standing
-    ensures { λ r. ⌜ StandsFor crateRule (now (area .entry)) w r ⌝ }
+fn stand_of(area: &[u8], n: usize, w: LineWalk) -> Standing
+    ensures { λ r. ⌜ StandsFor crateRule (now (area .entry)) n w r ⌝ }
 {
     if LONGEST < area.len() {
         return Standing::No;
     }
     match w {
-        LineWalk::New => stand_new(area),
+        LineWalk::New => stand_new(area, n),
         LineWalk::Between(rest) => {
             let place = nowhere();
             Standing::At(Stand {
+                n,
                 inside: false,
                 place,
                 rest,
-                known: Known::Nothing,
             })
         }
         LineWalk::Inside(place, rest) => Standing::At(Stand {
+            n,
             inside: true,
             place,
             rest,
-            known: Known::Nothing,
         }),
     }
 }
@@ -329,8 +336,8 @@ fn bodies_from(
     requires { ⌜ n < length (now out) / recordSize ⌝ }
     ensures { λ r. ⌜ BodiesPut crateRule (now (area .entry)) (now (slots .entry)) n w (now (out .entry)) r (now (out .exit)) ⌝ }
 {
-    match stand_of(area, w) {
-        Standing::At(from) => bodies_on(area, slots, bodies, from, n, out),
+    match stand_of(area, n, w) {
+        Standing::At(from) => bodies_on(area, slots, bodies, from, out),
         Standing::No => stuck(n, w),
     }
 }

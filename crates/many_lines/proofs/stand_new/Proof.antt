@@ -12,7 +12,7 @@ use Rattle.many_lines.proofs.stand_new.Tie as tie
 returns : tie.Need-returns
 returns c =
     let k = c .before .before .before in
-    record { each = λ v b. stand-new crateRule _ v b New _ _ _ refl (ap toldCounted (sym (k .left .given .1)) ∙ k .before .before .count-lines .ensures) (c .before .fresh-rest .ensures) }
+    record { each = λ v. stand-new crateRule _ v _ New _ _ _ refl (ap toldCounted (sym (k .left .given .1)) ∙ k .before .before .count-lines .ensures) (c .before .fresh-rest .ensures) }
 
 pub stand-new-spec : {M : Type 1} → statement M
 stand-new-spec =
@@ -24,4 +24,4 @@ stand-new-spec =
     (λ c κs. search needs)
     (λ c. search needs)
     returns
-    (λ c. record { each = λ v b. tt }))
+    (λ c. record { each = λ v. tt }))

@@ -8,19 +8,19 @@ use Rattle.many_lines.proofs.stand_of.Statement.{statement}
 use Rattle.many_lines.proofs.stand_of.Tie as tie
 
 returns-2 : tie.Need-returns-2
-returns-2 c = stands-as crateRule _ _ _ _ (c .before .enum-told .given .1) (c .stand-new .ensures)
+returns-2 c = stands-as crateRule _ _ _ _ _ (c .before .enum-told .given .1) (c .stand-new .ensures)
 
 returns-3 : tie.Need-returns-3
-returns-3 c = record { each = λ v b. stand-same crateRule _ v b _ _ (omega arith) (record { so = tt }) (c .before .before .w .given .1) }
+returns-3 c = record { each = λ v. stand-same crateRule _ v _ _ _ _ _ (omega arith) (c .before .before .w .given .1) }
 
 returns-4 : tie.Need-returns-4
-returns-4 c = record { each = λ v b. stand-same crateRule _ v b _ _ (omega arith) (record { so = tt }) (c .before .w2 .given .1) }
+returns-4 c = record { each = λ v. stand-same crateRule _ v _ _ _ _ _ (omega arith) (c .before .w2 .given .1) }
 
 pub stand-of-spec : {M : Type 1} → statement M
 stand-of-spec =
     tie.close
     (tie.spec
-    (λ c. record { each = λ v b. tt })
+    (λ c. record { each = λ v. tt })
     (λ c. search needs)
     (λ c κs. search needs)
     (λ c. search needs)
