@@ -228,7 +228,8 @@ struct Stand {
     rest: Rest,
 }
 
-// Body after body, as many turns at once as can be.
+// Body after body, as many turns at once as can be. Where the walk is stuck inside a body the answer is made in place: by `stuck` each call would take some
+// fifty instructions more.
 fn bodies_on(area: &[u8], slots: &[u32], bodies: &[u32], from: Stand, out: &mut [u32]) -> Reached
     requires { ⌜ (length (now area) ≤ longest) × (from .n < length (now out) / recordSize) ⌝ }
     ensures { λ r. ⌜ BodiesPut crateRule (now (area .entry)) (now (slots .entry)) (from .n) (standsAt from) (now (out .entry)) r (now (out .exit)) ⌝ }
@@ -247,23 +248,23 @@ fn bodies_on(area: &[u8], slots: &[u32], bodies: &[u32], from: Stand, out: &mut 
             p = x.place;
             t = with_held(t, last);
             if x.stuck {
-                return stuck(n, LineWalk::Inside(p, t));
+                return Reached {
+                    n,
+                    walk: LineWalk::Inside(p, t),
+                    over: false,
+                };
             }
             inside = false;
         } else if t.left == 0 {
             return last_record(n, t, out);
         } else {
-            match next_body(area, slots, bodies, known, t) {
-                Onward::In(q, u, after) => {
-                    inside = true;
-                    p = q;
-                    t = u;
-                    known = after;
-                }
-                Onward::Stays => {
-                    return stuck(n, LineWalk::Between(t));
-                }
-            }
+            let Onward::In(q, u, after) = next_body(area, slots, bodies, known, t) else {
+                return stuck(n, LineWalk::Between(t));
+            };
+            inside = true;
+            p = q;
+            t = u;
+            known = after;
         }
     }
 }

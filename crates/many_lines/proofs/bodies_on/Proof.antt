@@ -12,7 +12,7 @@ use Rattle.area.specs.Kind.{crateRule}
 use Rattle.line_state_words.specs.LineWords.{recordSize}
 use Rattle.line_step.specs.declared.Rest.{Rest}
 use Rattle.many_lines.specs.Bodies.{Knows, walkAt, OnwardIs}
-use Rattle.many_lines.specs.BodiesLaws.{knows-nothing, knows-at, toGo, go-first, go-turn, Comes, comes-first, comes-at, comes-pass, comes-body, bodies-at, bodies-finish}
+use Rattle.many_lines.specs.BodiesLaws.{knows-nothing, knows-at, toGo, go-first, go-turn, Comes, comes-first, comes-at, comes-pass, comes-body, bodies-stuck, bodies-at, bodies-finish}
 use Rattle.many_lines.proofs.bodies_on.Statement.{statement}
 use Rattle.many_lines.proofs.bodies_on.Tie as tie
 
@@ -31,11 +31,11 @@ loop-holds c =
 
 returns : tie.Need-returns Inv-loop μ-loop
 returns c =
-    let k = c .before .before .before .before .before .before in
+    let k = c .before .before .before .before .before in
     let l = k .before .before .before .loop in
     let h = comes-at crateRule _ _ _ _ _ _ true (k .before .before .if1 .taken) (l .n) (l .p) (l .t) (l .out) (l .inv .0) in
-    let g = comes-body crateRule _ _ _ _ _ (l .n) (l .out) (l .p) (l .t) _ _ _ h (k .body-on .ensures) (c .before .before .with-held .ensures) in
-    bodies-at crateRule _ _ _ _ _ _ _ _ _ (comes-at crateRule _ _ _ _ _ _ true (c .before .if2 .taken) _ _ _ _ g) (c .stuck .ensures)
+    let g = comes-body crateRule _ _ _ _ _ (l .n) (l .out) (l .p) (l .t) _ _ _ h (k .body-on .ensures) (c .before .with-held .ensures) in
+    bodies-stuck crateRule _ _ _ _ _ _ _ _ (comes-at crateRule _ _ _ _ _ _ true (c .if2 .taken) _ _ _ _ g)
 
 loop-less : tie.Need-loop-less Inv-loop μ-loop
 loop-less c =
@@ -66,6 +66,12 @@ returns-2 c =
 next-body-requires : tie.Need-next-body-requires Inv-loop μ-loop
 next-body-requires c κs = let l = c .before .before .before .loop in (l .inv .1, (l .inv .3, omega (arith, c .if3 .left)))
 
+returns-3 : tie.Need-returns-3 Inv-loop μ-loop
+returns-3 c =
+    let l = c .before .before .before .before .before .before .before .loop in
+    bodies-at crateRule _ _ _ _ _ _ _ _ _
+    (comes-at crateRule _ _ _ _ _ _ false (c .before .before .before .before .before .before .if1 .left) (l .n) (l .p) (l .t) (l .out) (l .inv .0)) (c .stuck .ensures)
+
 loop-less-2 : tie.Need-loop-less-2 Inv-loop μ-loop
 loop-less-2 c =
     let k = c .before .before .before in
@@ -80,12 +86,6 @@ loop-again-2 c =
     let h = comes-at crateRule _ _ _ _ _ _ false (k .before .before .before .if1 .left) (l .n) (l .p) (l .t) (l .out) (l .inv .0) in
     (comes-pass crateRule _ _ _ _ _ _ _ _ _ h (l .inv .2) (z .0), z .1, l .inv .2, l .inv .3)
 
-returns-3 : tie.Need-returns-3 Inv-loop μ-loop
-returns-3 c =
-    let l = c .before .before .before .before .before .before .before .loop in
-    bodies-at crateRule _ _ _ _ _ _ _ _ _
-    (comes-at crateRule _ _ _ _ _ _ false (c .before .before .before .before .before .before .if1 .left) (l .n) (l .p) (l .t) (l .out) (l .inv .0)) (c .stuck2 .ensures)
-
 pub bodies-on-spec : {M : Type 1} → statement M
 bodies-on-spec =
     tie.close
@@ -93,7 +93,6 @@ bodies-on-spec =
     Inv-loop
     μ-loop
     loop-holds
-    (λ c κs. search needs)
     (λ c κs. search needs)
     (λ c κs. search needs)
     (λ c. search needs)
@@ -105,9 +104,9 @@ bodies-on-spec =
     returns-2
     next-body-requires
     (λ c. search needs)
-    loop-less-2
-    loop-again-2
     (λ c. search needs)
     (λ c κs. search needs)
     (λ c. search needs)
-    returns-3)
+    returns-3
+    loop-less-2
+    loop-again-2)
