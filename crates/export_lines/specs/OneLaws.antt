@@ -17,7 +17,7 @@ use Rattle.line_step.specs.declared.LineWalk.{LineWalk}
 use Rattle.line_walk.specs.Next.{nextOf}
 use Rattle.answer_words.specs.Given.{Gives, given, stepGiven}
 use Rattle.answer_words.specs.Fill.{wordsOf, counted, filled, fillOf}
-use Rattle.many_lines.specs.Lines.{linesOf, linesCounted, linesFilled}
+use Rattle.many_lines.specs.Lines.{linesOf}
 
 -- an answer that is none, or a refusal, of many records is that of the step
 module _ (m : Many LineWalk LineRecord) where
@@ -53,10 +53,10 @@ module _ (rule : ℕ → Sort) (s v x : List ℕ) (size : length x ≡ recordSiz
   unfolding fillOf
   one-is = ap (λ (n : ℕ). linesOf rule s v n w) size
 
-  pub one-none : none ≡ linesCounted (linesOf rule s v (length x) w) → none ≡ nextOf rule s v u
+  pub one-none : none ≡ counted (linesOf rule s v (length x) w) → none ≡ nextOf rule s v u
   one-none e = step-none first (nextOf rule s v w) (e ∙ ap counted one-is) ∙ ap (nextOf rule s v) eu
 
-  pub one-refused : (t : Told) → refuses t ≡ linesCounted (linesOf rule s v (length x) w) → refuses t ≡ nextOf rule s v u
+  pub one-refused : (t : Told) → refuses t ≡ counted (linesOf rule s v (length x) w) → refuses t ≡ nextOf rule s v u
   one-refused t e = step-refused first t (nextOf rule s v w) (e ∙ ap counted one-is) ∙ ap (nextOf rule s v) eu
 
   whole : (ws : List ℕ) → length ws ≡ recordSize → put x 0 (ws ++ []) ≡ ws
@@ -65,7 +65,7 @@ module _ (rule : ℕ → Sort) (s v x : List ℕ) (size : length x ≡ recordSiz
       ap (λ k. put x 0 k) (append-nil ws) ∙ ap (λ k. ws ++ k) (drop-of-length-le x h) ∙ append-nil ws
 
   -- the state t and the words y behind it are those of the step
-  pub one-line : (n : ℕ) (t : LineWalk) (y : List ℕ) → gives n t ≡ linesCounted (linesOf rule s v (length x) w) → y ≡ linesFilled x (linesOf rule s v (length x) w)
+  pub one-line : (n : ℕ) (t : LineWalk) (y : List ℕ) → gives n t ≡ counted (linesOf rule s v (length x) w) → y ≡ filled recordWords x (linesOf rule s v (length x) w)
       → (o : List ℕ) (r : ℕ) (left : List ℕ) → Gives o (given 1 0 (lineWalkWords t ++ y)) r left → Gives o (stepGiven stateSize lineWords (nextOf rule s v u)) r left
   one-line n t y e q o r left g =
       subst (λ k. Gives o (stepGiven stateSize lineWords k) r left) (ap (nextOf rule s v) eu) (on (nextOf rule s v w) refl)

@@ -9,7 +9,7 @@ use lib.Seq.{take-at}
 use Rattle.word.specs.Word.{put}
 use Rattle.walk.specs.Cases.{tests}
 use Rattle.walk.specs.Listing.{Answer, gives, none, refuses}
-use Rattle.walk.specs.Many.{Many, thenMany, asMany, many, manyOf}
+use Rattle.walk.specs.Many.{asMany, many, manyOf}
 use Rattle.walk.specs.ManyLaws.{many-step, many-most}
 use Rattle.refusal.specs.Told.{Told}
 use Rattle.area.specs.Kind.{Sort}

@@ -6,7 +6,7 @@ use mathlib.Core.List.{List}
 use mathlib.Core.Bool.{Bool, true, false}
 use lib.ListN.{length}
 use Rattle.word.specs.Word.{u32At, store}
-use Rattle.walk.specs.Listing.{pass, over, Answer, gives, none, refuses, Reply, gave}
+use Rattle.walk.specs.Listing.{pass, over, Answer, gives, none, refuses, gave}
 use Rattle.refusal.specs.Told.{Told, told, longest}
 use Rattle.refusal.specs.declared.Refusal.the-variants as why
 use Rattle.area.specs.Kind.{Sort}
@@ -24,7 +24,7 @@ use Rattle.line_step.specs.declared.Held.the-variants.{Nothing, One}
 use Rattle.line_step.specs.declared.Rest.{Rest}
 use Rattle.line_step.specs.declared.Place.{Place}
 use Rattle.line_step.specs.declared.LineWalk.{LineWalk}
-use Rattle.line_step.specs.declared.LineWalk.the-variants.{New, Between, Inside}
+use Rattle.line_step.specs.declared.LineWalk.the-variants.{Between, Inside}
 use Rattle.line_walk.specs.Next.{nextOf}
 use Rattle.body_lines.specs.declared.InBody.{InBody}
 use Rattle.body_lines.specs.Turns.{Filled, UnderWay, TurnsPut}

@@ -1,5 +1,5 @@
 -- Laws of many turns at once, of the loop that makes turns one by one, and of how a call stops.
-use Prim.Native.Nat.{ℕ, suc, _+_, _-_, _*_, _/_, _^_, _≤_, _<_}
+use Prim.Native.Nat.{ℕ, _+_, _-_, _*_, _/_, _^_, _≤_, _<_}
 use mathlib.Core.Path.{_≡_, refl, sym, ap, _∙_, subst, subst⁻¹}
 use mathlib.Core.Logic.{⊎-elim}
 use mathlib.Core.List.{List, _++_}
@@ -9,11 +9,10 @@ use lib.ListN.{length, getD, take, drop, take-append-drop}
 use lib.Seq.{length-take-le}
 use Rattle.word.specs.Word.{store}
 use Rattle.walk.specs.Cases.{le-or-gt, eq-or-ne}
-use Rattle.walk.specs.Listing.{item, pass, over, Answer, gives, none, refuses, Reply, gave, nothing}
+use Rattle.walk.specs.Listing.{item, pass, over, Answer, gives, none, refuses, gave, nothing}
 use Rattle.walk.specs.First.{onFirst}
 use Rattle.walk.specs.ManyLaws.{NoRecord}
-use Rattle.refusal.specs.Told.{Told, told, longest}
-use Rattle.refusal.specs.declared.Refusal.the-variants as why
+use Rattle.refusal.specs.Told.{Told, longest}
 use Rattle.area.specs.Kind.{Sort, known, crateRule}
 use Rattle.area.specs.Subs.{stepAt}
 use Rattle.area.specs.SubsLaws.{wholeAs, head-whole, step-gives}
@@ -24,7 +23,7 @@ use Rattle.line_state_words.specs.LineWordsLaws.{record-length}
 use Rattle.lines.specs.Lines.{countLines}
 use Rattle.lines.specs.LinesLaws.{counted-short}
 use Rattle.lines.specs.Slots.{slotAt}
-use Rattle.lines.specs.SlotsLaws.{seek-hit, scan-on, slot-is, slot-missing, slot-scans}
+use Rattle.lines.specs.SlotsLaws.{seek-hit, scan-on, slot-is, slot-scans}
 use Rattle.lines.specs.Told.{toldNamed}
 use Rattle.lines.specs.declared.Named.{Named}
 use Rattle.body_list.specs.Search.{Right}

@@ -8,22 +8,11 @@ use Rattle.walk.specs.Listing.{Answer}
 use Rattle.refusal.specs.Told.{Told}
 use Rattle.area.specs.Kind.{Sort}
 use Rattle.line_record.specs.declared.LineRecord.{LineRecord}
-use Rattle.line_state_words.specs.LineWords.{recordSize, recordWords}
+use Rattle.line_state_words.specs.LineWords.{recordSize}
 use Rattle.line_step.specs.declared.LineWalk.{LineWalk}
 use Rattle.line_walk.specs.Next.{nextOf}
-use Rattle.answer_words.specs.Fill as fill
+use Rattle.answer_words.specs.Fill.{fillOf}
 
-abbrev pub Lines : Type 0
-Lines = Answer LineWalk (List LineRecord) Told
-
--- with n words lent
-abbrev pub linesOf : (ℕ → Sort) → List ℕ → List ℕ → ℕ → LineWalk → Lines
-linesOf rule s v n w = fill.fillOf recordSize (nextOf rule s v) n w
-
--- what is answered: how many records, and the state behind the last
-abbrev pub linesCounted : Lines → Answer LineWalk ℕ Told
-linesCounted a = fill.counted a
-
--- what the lent words o then are
-abbrev pub linesFilled : List ℕ → Lines → List ℕ
-linesFilled o a = fill.filled recordWords o a
+-- the records of the walk from w on, over the area s and the slots v, with n words lent
+abbrev pub linesOf : (ℕ → Sort) → List ℕ → List ℕ → ℕ → LineWalk → Answer LineWalk (List LineRecord) Told
+linesOf rule s v n w = fillOf recordSize (nextOf rule s v) n w

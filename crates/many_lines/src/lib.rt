@@ -12,10 +12,10 @@ ghost use lib.ListN.{length};
 ghost use Rattle.word.specs.Word.{store};
 ghost use Rattle.refusal.specs.Told.{longest};
 ghost use Rattle.area.specs.Kind.{crateRule};
-ghost use Rattle.answer_words.specs.Fill.{noRoom, counted};
+ghost use Rattle.answer_words.specs.Fill.{noRoom, counted, filled};
 ghost use Rattle.line_state_words.specs.LineWords.{recordSize, recordWords};
 ghost use Rattle.line_step.specs.declared.LineWalk.the-variants.{New};
-ghost use Rattle.many_lines.specs.Lines.{linesOf, linesCounted, linesFilled};
+ghost use Rattle.many_lines.specs.Lines.{linesOf};
 ghost use Rattle.many_lines.specs.Told.{toldLines};
 ghost use Rattle.many_lines.specs.Bodies.{LookedIs, Knows, LocatedIs, OnwardIs, LastIs, BodyPassed, standsAt, StandsFor};
 ghost use Rattle.many_lines.specs.Bodies.{BodiesPut, toldEnd, StopsAt, FilledBy, Answers, Refilled, withoutRoom};
@@ -486,8 +486,9 @@ pub fn next_lines(
     walk: LineWalk,
     out: &mut [u32],
 ) -> LinesStep
-    ensures { λ r. ⌜ toldLines r ≡ linesCounted (linesOf crateRule (now (area .entry)) (now (slots .entry)) (length (now (out .entry))) walk) ⌝ }
-    ensures { λ _. ⌜ now (out .exit) ≡ linesFilled (now (out .entry)) (linesOf crateRule (now (area .entry)) (now (slots .entry)) (length (now (out .entry))) walk) ⌝ }
+    ensures { λ r. ⌜ toldLines r ≡ counted (linesOf crateRule (now (area .entry)) (now (slots .entry)) (length (now (out .entry))) walk) ⌝ }
+    ensures { λ _. ⌜ now (out .exit)
+        ≡ filled recordWords (now (out .entry)) (linesOf crateRule (now (area .entry)) (now (slots .entry)) (length (now (out .entry))) walk) ⌝ }
 {
     if out.len() < RECORD_WORDS {
         let mut row = [0u32; RECORD_WORDS];
