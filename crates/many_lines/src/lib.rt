@@ -228,8 +228,8 @@ struct Stand {
     rest: Rest,
 }
 
-// Body after body, as many turns at once as can be. Where the walk is stuck inside a body the answer is made in place: by `stuck` each call would take some
-// fifty instructions more.
+// Body after body, as many turns at once as can be. Where the walk is stuck inside a body the answer is made in place: by `stuck` a walk would take some
+// hundred instructions more (docs/SPEED.md, 49).
 fn bodies_on(area: &[u8], slots: &[u32], bodies: &[u32], from: Stand, out: &mut [u32]) -> Reached
     requires { ⌜ (length (now area) ≤ longest) × (from .n < length (now out) / recordSize) ⌝ }
     ensures { λ r. ⌜ BodiesPut crateRule (now (area .entry)) (now (slots .entry)) (from .n) (standsAt from) (now (out .entry)) r (now (out .exit)) ⌝ }
