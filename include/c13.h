@@ -326,7 +326,8 @@ uint32_t c13_add_module(uint8_t *buf, size_t buf_len, size_t place, uint32_t nam
 uint32_t c13_open_exports(uint8_t *buf, size_t buf_len, size_t place, uint64_t *out, size_t out_len);
 uint32_t c13_add_pair(uint8_t *buf, size_t buf_len, size_t place, uint32_t local, uint32_t global, uint64_t *out, size_t out_len);
 
-/* A subsection of kind 0xf1, 0xf3, 0xf5 or 0xf9 to 0xfd, whose body is given whole; its length is divisible by 4. */
+/* A subsection whose body is given whole: of kind C13_KIND_SYMBOLS, _STRING_TABLE, _FRAME_DATA, _IL_LINES, _FUNC_MDTOKEN_MAP, _TYPE_MDTOKEN_MAP,
+ * _MERGED_ASSEMBLY_INPUT or _COFF_SYMBOL_RVA. Its length is divisible by 4. */
 uint32_t c13_add_opaque(uint8_t *buf, size_t buf_len, size_t place, uint32_t kind, const uint8_t *body, size_t body_len, uint64_t *out, size_t out_len);
 
 /* ---- the same calls with structs, inline

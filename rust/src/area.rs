@@ -41,7 +41,7 @@ impl<'a> Area<'a> {
         self.bytes
     }
 
-    /// Its subsections, in the order in which they stand. Those of kind 0x80000000, which readers are told to ignore, are left out. The walk is refused
+    /// Its subsections, in the order in which they stand. Those of kind [`SubsectionKind::Ignore`] are left out. The walk is refused
     /// where a header or a body is cut, and at a kind that document 01 does not know.
     pub fn subsections(&self) -> Subsections<'a> {
         Subsections { area: self.bytes, walk: Walk::new() }

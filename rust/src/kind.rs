@@ -32,12 +32,14 @@ pub enum SubsectionKind {
     MergedAssemblyInput,
     /// 0xfd: relative addresses of symbols.
     CoffSymbolRva,
+    /// 0x80000000: to be ignored. No reading gives one, as it is passed over with its body.
+    Ignore,
     /// None of these: its number. No reading gives one, as a kind that document 01 does not know is refused.
     Other(u32),
 }
 
 /// Each kind that has a name, with its number.
-const NAMED: [(u32, SubsectionKind, &str); 13] = [
+const NAMED: [(u32, SubsectionKind, &str); 14] = [
     (0xf1, SubsectionKind::Symbols, "Symbols"),
     (0xf2, SubsectionKind::Lines, "Lines"),
     (0xf3, SubsectionKind::StringTable, "StringTable"),
@@ -51,6 +53,7 @@ const NAMED: [(u32, SubsectionKind, &str); 13] = [
     (0xfb, SubsectionKind::TypeMdTokenMap, "TypeMdTokenMap"),
     (0xfc, SubsectionKind::MergedAssemblyInput, "MergedAssemblyInput"),
     (0xfd, SubsectionKind::CoffSymbolRva, "CoffSymbolRva"),
+    (0x8000_0000, SubsectionKind::Ignore, "Ignore"),
 ];
 
 impl SubsectionKind {

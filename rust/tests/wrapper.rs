@@ -166,14 +166,17 @@ fn a_checksum_matches_its_own_digest_alone() {
 fn kinds_have_names_and_numbers() {
     for number in (0..0x200).chain([0x8000_0000, u32::MAX]) {
         let kind = SubsectionKind::from(number);
-        let named = (0xf1..=0xfd).contains(&number);
+        let named = (0xf1..=0xfd).contains(&number) || number == 0x8000_0000;
         assert_eq!((kind.number(), kind.name().is_some(), kind == SubsectionKind::Other(number)), (number, named, !named));
         assert_eq!(kind.to_string(), kind.name().map_or(format!("{number:#x}"), String::from));
         // what is read is what was named
         let area = subsection(number, &[0; 5]);
-        if named {
-            assert_eq!(Area::new(&area).subsections().next(), Some(Ok(Subsection { kind, data: &[0; 20] })));
-        }
+        let read = match kind {
+            SubsectionKind::Ignore => None,
+            SubsectionKind::Other(number) => Some(Err(Refusal::UnknownKind(number))),
+            kind => Some(Ok(Subsection { kind, data: &[0; 20] })),
+        };
+        assert_eq!(Area::new(&area).subsections().next(), read);
     }
     assert_eq!((SubsectionKind::Symbols.number(), SubsectionKind::CoffSymbolRva.number()), (0xf1, 0xfd));
     assert_eq!((SubsectionKind::from(0xf7), SubsectionKind::from(0xf8)), (SubsectionKind::CrossScopeImports, SubsectionKind::CrossScopeExports));

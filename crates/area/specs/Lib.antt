@@ -3,7 +3,6 @@ pub mod PartsLaws
 pub mod Join
 pub mod JoinLaws
 pub mod RestLaws
-pub mod Kind
 pub mod Subs
 pub mod SubsLaws
 pub mod Told

@@ -11,7 +11,7 @@ use Rattle.walk.specs.Listing.{Listing, more, ends, fails, Answer, gives, none,
 use Rattle.refusal.specs.Told.{Told, told, longest}
 use Rattle.refusal.specs.declared.Refusal.the-variants as why
 use Rattle.area.specs.Parts.{Raw, Parts, parts}
-use Rattle.area.specs.Kind.{Sort, onSort, crateRule}
+use Rattle.kinds.specs.Kind.{Sort, onSort, crateRule}
 
 -- a subsection as an answer tells it: its kind, and where its body stands
 pub record Sub : Type 0 where

@@ -19,7 +19,8 @@ use Rattle.refusal.specs.Told.{Told, told, longest, numberOf}
 use Rattle.refusal.specs.declared.Refusal.the-variants as why
 use Rattle.area.specs.Parts.{Raw, Lack, Parts, bite, parts}
 use Rattle.area.specs.PartsLaws.{parts-step, parts-ind, Bitten, bitten}
-use Rattle.area.specs.Kind.{Sort, known, skipped, unknown, onSort, crateRule}
+use Rattle.kinds.specs.Kind.{SYMBOLS, «COFF_SYMBOL_RVA», IGNORE, Sort, known, skipped, unknown, onSort, crateRule}
+use Rattle.kinds.specs.KindLaws.{rule-range}
 use Rattle.area.specs.Subs.{Sub, subOf, placed, subsFrom, firstOf, stepAt, bodiesIn, bodies, placeBehind, WalkStep, crateStep}
 use Rattle.area.specs.declared.SubStep.{SubStep}
 use Rattle.area.specs.Told.{toldStep}
@@ -45,23 +46,23 @@ headAt rule s p =
 -- ---- the tests of the code: a law for each way out of `whole` and of `head_at`
 
 module _ (k p n : ℕ) where
-  pub whole-low : k < 0xf1 → (k ≡ 0x8000_0000 → ⊥) → fail (told (why.UnknownKind k)) ≡ wholeAs crateRule k p n
-  unfolding wholeAs crateRule
-  whole-low h d = simp tests
+  pub whole-low : k < SYMBOLS → (k ≡ IGNORE → ⊥) → fail (told (why.UnknownKind k)) ≡ wholeAs crateRule k p n
+  unfolding wholeAs
+  whole-low h d = simp (rule-range, tests)
 
-  module _ (h₁ : 0xf1 ≤ k) where
-    pub whole-known : k ≤ 0xfd → item (record { kind = k; start = p + 8; len = n }) (p + 8 + n) ≡ wholeAs crateRule k p n
-    unfolding wholeAs crateRule
-    whole-known h = simp tests
+  module _ (h₁ : SYMBOLS ≤ k) where
+    pub whole-known : k ≤ «COFF_SYMBOL_RVA» → item (record { kind = k; start = p + 8; len = n }) (p + 8 + n) ≡ wholeAs crateRule k p n
+    unfolding wholeAs
+    whole-known h = simp (rule-range, tests)
 
-    module _ (h₂ : 0xfd < k) where
-      pub whole-skipped : k ≡ 0x8000_0000 → pass (p + 8 + n) ≡ wholeAs crateRule k p n
-      unfolding wholeAs crateRule
-      whole-skipped h = simp tests
+    module _ (h₂ : «COFF_SYMBOL_RVA» < k) where
+      pub whole-skipped : k ≡ IGNORE → pass (p + 8 + n) ≡ wholeAs crateRule k p n
+      unfolding wholeAs
+      whole-skipped h = simp (rule-range, tests)
 
-      pub whole-high : (k ≡ 0x8000_0000 → ⊥) → fail (told (why.UnknownKind k)) ≡ wholeAs crateRule k p n
-      unfolding wholeAs crateRule
-      whole-high h = simp tests
+      pub whole-high : (k ≡ IGNORE → ⊥) → fail (told (why.UnknownKind k)) ≡ wholeAs crateRule k p n
+      unfolding wholeAs
+      whole-high h = simp (rule-range, tests)
 
 module _ (rule : ℕ → Sort) (s : List ℕ) (p : ℕ) where
   pub head-long : longest < length s → fail (told why.TooLong) ≡ headAt rule s p

@@ -5,7 +5,7 @@ use mathlib.Core.Path.{_≡_, refl, ap, _∙_}
 use mathlib.Core.List.{List, [], _∷_}
 use Rattle.walk.specs.Listing.{Answer, gives, none, refuses, Reply, gave, nothing, refused, replied, calls, replies}
 use Rattle.refusal.specs.Told.{Told}
-use Rattle.area.specs.Kind.{crateRule}
+use Rattle.kinds.specs.Kind.{crateRule}
 use Rattle.area.specs.Subs.{Sub, subsFrom, stepAt, placeBehind, crateStep}
 use Rattle.area.specs.SubsLaws.{steps-are}
 

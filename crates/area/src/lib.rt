@@ -4,10 +4,24 @@
 // goes through `head_at`.
 ghost use mathlib.Core.Path.{_≡_};
 ghost use Prim.Native.Nat.{_+_, _<_, _^_};
-ghost use Rattle.area.specs.Kind.{crateRule};
+ghost use Rattle.kinds.specs.Kind.{crateRule};
 ghost use Rattle.area.specs.Subs.{stepAt, crateStep};
 ghost use Rattle.area.specs.SubsLaws.{wholeAs, headAt};
 ghost use Rattle.area.specs.Told.{toldHead, toldStep, toldStepped};
+use kinds::COFF_SYMBOL_RVA;
+use kinds::CROSS_SCOPE_EXPORTS;
+use kinds::CROSS_SCOPE_IMPORTS;
+use kinds::FILE_CHECKSUMS;
+use kinds::FRAME_DATA;
+use kinds::FUNC_MDTOKEN_MAP;
+use kinds::IGNORE;
+use kinds::IL_LINES;
+use kinds::INLINEE_LINES;
+use kinds::LINES;
+use kinds::MERGED_ASSEMBLY_INPUT;
+use kinds::STRING_TABLE;
+use kinds::SYMBOLS;
+use kinds::TYPE_MDTOKEN_MAP;
 use refusal::LONGEST;
 use refusal::Refusal;
 use word::u32_at;
@@ -33,13 +47,25 @@ fn whole(kind: u32, at: usize, len: usize) -> Head
     ensures { λ r. ⌜ toldHead r ≡ wholeAs crateRule kind at len ⌝ }
 {
     match kind {
-        0xf1..=0xfd => Head::Sub {
+        SYMBOLS
+        | LINES
+        | STRING_TABLE
+        | FILE_CHECKSUMS
+        | FRAME_DATA
+        | INLINEE_LINES
+        | CROSS_SCOPE_IMPORTS
+        | CROSS_SCOPE_EXPORTS
+        | IL_LINES
+        | FUNC_MDTOKEN_MAP
+        | TYPE_MDTOKEN_MAP
+        | MERGED_ASSEMBLY_INPUT
+        | COFF_SYMBOL_RVA => Head::Sub {
             kind,
             start: at + 8,
             len,
             next: at + 8 + len,
         },
-        0x8000_0000 => Head::Skip { next: at + 8 + len },
+        IGNORE => Head::Skip { next: at + 8 + len },
         _ => Head::Refused(Refusal::UnknownKind(kind)),
     }
 }

@@ -1,4 +1,4 @@
--- The body of a FILECHKSMS subsection (0xf4): entries one after the other, each padded to 4 from the start of the body. Source: cvinfo.h,
+-- The body of a FILE_CHECKSUMS subsection: entries one after the other, each padded to 4 from the start of the body. Source: cvinfo.h,
 -- checksum entry (name offset in the string table, size u8, kind u8, bytes, padding) and `CV_SourceChksum_t` (NONE 0, MD5 1, SHA1 2,
 -- SHA_256 3); document 01, "Checksums, inlinees": head or bytes 1, kind above 3 is 3, missing padding 1; any size is read.
 -- Definitions only; a reader must believe them, but for `zeros`, `checksumBytes`: `decided` (round_trip Decided) says what these mean.

@@ -1,4 +1,4 @@
--- The body of a CROSSSCOPEEXPORTS subsection (0xf8): pairs one after the other. Source: cvinfo.h, `LocalIdAndGlobalIdPair` (localId, globalId);
+-- The body of a CROSS_SCOPE_EXPORTS subsection: pairs one after the other. Source: cvinfo.h, `LocalIdAndGlobalIdPair` (localId, globalId);
 -- document 01, "Cross-module tables" and number 4: a body that is no multiple of 8 bytes has none.
 -- Definitions only; a reader must believe them, but for `pairBytes`: `decided` (round_trip Decided) says what it means.
 use Prim.Native.Nat.{ℕ, _%_}

@@ -1,4 +1,4 @@
--- The body of a CROSSSCOPEIMPORTS subsection (0xf7): modules one after the other. Source: cvinfo.h, `CrossScopeReferences` (externalScope, a name
+-- The body of a CROSS_SCOPE_IMPORTS subsection: modules one after the other. Source: cvinfo.h, `CrossScopeReferences` (externalScope, a name
 -- offset; countOfCrossReferences; that many ids); document 01, "Cross-module tables": until the body is filled, else 1.
 -- Definitions only; a reader must believe them, but for `moduleBytes`: `decided` (round_trip Decided) says what it means.
 use Prim.Native.Nat.{ℕ, _+_, _-_, _*_}

@@ -1,4 +1,4 @@
--- The body of an INLINEELINES subsection (0xf6): a signature, and entries one after the other. Source: cvinfo.h,
+-- The body of an INLINEE_LINES subsection: a signature, and entries one after the other. Source: cvinfo.h,
 -- `CV_INLINEE_SOURCE_LINE_SIGNATURE` 0 and `_EX` 1, `InlineeSourceLine` (inlinee, fileId, sourceLineNum), `InlineeSourceLineEx` (inlinee, fileId,
 -- sourceLineNum, countOfExtraFiles and that many fileIds); document 01, "Checksums, inlinees": whatever is cut is 1, and only the signature 1 has
 -- extra files.

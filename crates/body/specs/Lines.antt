@@ -1,4 +1,4 @@
--- The body of a LINES subsection (0xf2): a header, and blocks one after the other. Source: cvinfo.h, `CV_DebugSLinesHeader_t` (offCon, segCon
+-- The body of a LINES subsection: a header, and blocks one after the other. Source: cvinfo.h, `CV_DebugSLinesHeader_t` (offCon, segCon
 -- u16, flags u16, cbCon), `CV_LINES_HAVE_COLUMNS` (bit 0), `CV_DebugSLinesFileBlockHeader_t` (offFile, nLines, cbBlock, which counts this
 -- header; then nLines of `CV_Line_t`, then, with columns, nLines of `CV_Column_t`); document 01, "Line subsections", for the order of the
 -- tests: header whole 1, size at least 12 else 7, data present 1, lines and columns inside the data else 7; bytes over are ignored.

@@ -8,7 +8,7 @@ use lib.ListN.{length, take}
 use Rattle.walk.specs.Listing.{nothing}
 use Rattle.word.specs.Word.{u32At, store}
 use Rattle.refusal.specs.Told.{longest}
-use Rattle.area.specs.Kind.{Sort}
+use Rattle.kinds.specs.Kind.{Sort}
 use Rattle.body.specs.Lines.{columned}
 use Rattle.line_record.specs.Record.{columnIf, recordOf, closedAt, maxOffset}
 use Rattle.line_record.specs.Flags.{isMarker}

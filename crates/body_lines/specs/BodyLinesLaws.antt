@@ -10,7 +10,7 @@ use Rattle.word.specs.Word.{u32At, store}
 use Rattle.word.specs.WordLaws.{u32-drop, u32-take, put-length}
 use Rattle.walk.specs.Listing.{item, pass, gave, nothing}
 use Rattle.refusal.specs.Told.{longest}
-use Rattle.area.specs.Kind.{Sort}
+use Rattle.kinds.specs.Kind.{Sort}
 use Rattle.body.specs.Lines.{columned}
 use Rattle.line_record.specs.Flags.{isMarker}
 use Rattle.line_record.specs.Record.{maxOffset, columnIf, recordOf, entryOf, closedAt}

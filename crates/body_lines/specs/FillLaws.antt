@@ -10,7 +10,7 @@ use Rattle.walk.specs.First.{onFirst}
 use Rattle.walk.specs.Many.{many}
 use Rattle.walk.specs.ManyLaws.{NoRecord}
 use Rattle.refusal.specs.Told.{Told}
-use Rattle.area.specs.Kind.{Sort}
+use Rattle.kinds.specs.Kind.{Sort}
 use Rattle.line_record.specs.declared.LineRecord.{LineRecord}
 use Rattle.line_state_words.specs.LineWords.{recordSize, recordWords}
 use Rattle.line_state_words.specs.LineWordsLaws.{record-length}

@@ -7,7 +7,7 @@ use mathlib.Core.List.{List}
 use lib.ListN.{length}
 use Rattle.walk.specs.Listing.{Answer}
 use Rattle.refusal.specs.Told.{Told}
-use Rattle.area.specs.Kind.{Sort}
+use Rattle.kinds.specs.Kind.{Sort}
 use Rattle.line_state_words.specs.LineWords.{recordSize, recordWords}
 use Rattle.line_step.specs.declared.LineWalk.{LineWalk}
 use Rattle.line_walk.specs.Next.{todo, nextOf}

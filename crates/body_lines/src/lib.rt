@@ -7,7 +7,7 @@ ghost use Prim.Native.Nat.{_+_, _*_, _/_, _<_, _≤_};
 ghost use mathlib.Core.Bool.{true, false};
 ghost use lib.ListN.{length};
 ghost use Rattle.word.specs.Word.{u32At, store};
-ghost use Rattle.area.specs.Kind.{crateRule};
+ghost use Rattle.kinds.specs.Kind.{crateRule};
 ghost use Rattle.line_record.specs.Record.{columnIf, maxOffset};
 ghost use Rattle.line_state_words.specs.LineWords.{recordSize, recordWords};
 ghost use Rattle.body_lines.specs.BodyLines.{heldRecord, LinesFit, LinePut, LinesPut, HeldPut, FirstLine, BlockPut, BodyPut};

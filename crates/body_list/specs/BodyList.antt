@@ -10,7 +10,7 @@ use Rattle.walk.specs.Listing.{Listing, more, ends, fails, Reply, gave, nothing
 use Rattle.walk.specs.Pick.{only}
 use Rattle.refusal.specs.Told.{Told, told}
 use Rattle.refusal.specs.declared.Refusal.the-variants as why
-use Rattle.area.specs.Kind.{Sort}
+use Rattle.kinds.specs.Kind.{LINES, Sort}
 use Rattle.area.specs.Subs.{Sub, subsFrom}
 use Rattle.find.specs.Find.{is}
 use Rattle.lines.specs.Lines.{countLines}
@@ -26,7 +26,7 @@ abbrev pub subStart : Sub → ℕ
 subStart b = b .start
 
 abbrev pub startsFrom : (ℕ → Sort) → List ℕ → ℕ → List ℕ
-startsFrom rule s p = map subStart (listed (only (is 0xf2) (subsFrom rule s p)))
+startsFrom rule s p = map subStart (listed (only (is LINES) (subsFrom rule s p)))
 
 -- the answer for m slots: how many of them the list takes
 abbrev pub inRoom : ℕ → Reply ℕ Told → Reply ℕ Told

@@ -12,7 +12,7 @@ use Rattle.walk.specs.Listing.{Listing, more, ends, fails, Reply, gave, nothing
 use Rattle.walk.specs.Pick.{only}
 use Rattle.refusal.specs.Told.{Told, told, longest}
 use Rattle.refusal.specs.declared.Refusal.the-variants as why
-use Rattle.area.specs.Kind.{Sort}
+use Rattle.kinds.specs.Kind.{LINES, Sort}
 use Rattle.area.specs.Subs.{Sub, subsFrom, stepAt, firstOf}
 use Rattle.area.specs.SubsLaws.{sub-next, sub-end, sub-refused, subs-long}
 use Rattle.find.specs.Find.{is}
@@ -36,7 +36,7 @@ counts ends n = λ q. let z : 0 ≡ n = cc in z
 counts (fails t) n = λ q. let z : _≡_ {A = ℕ} 0 1 = cc in absurd (omega arith)
 
 pub counted-starts : (rule : ℕ → Sort) (s : List ℕ) (n : ℕ) → gave n ≡ countLines rule s → length (startsFrom rule s 0) ≡ n
-counted-starts rule s n e = counts (only (is 0xf2) (subsFrom rule s 0)) n e
+counted-starts rule s n e = counts (only (is LINES) (subsFrom rule s 0)) n e
 
 -- ---- stores one after the other, from index i on
 
@@ -68,13 +68,13 @@ module _ (rule : ℕ → Sort) (s : List ℕ) (p : ℕ) where
       (le-or-gt (length s) longest)
 
   module _ (b : Sub) (x : ℕ) (q : gives b x ≡ stepAt rule s p) where
-    pub starts-line : b .kind ≡ 0xf2 → b .start ∷ startsFrom rule s x ≡ startsFrom rule s p
+    pub starts-line : b .kind ≡ LINES → b .start ∷ startsFrom rule s x ≡ startsFrom rule s p
     unfolding only listed
-    starts-line h = rw (← sub-next rule s p b x q .is, eq-eqb (b .kind) 0xf2 h)
+    starts-line h = rw (← sub-next rule s p b x q .is, eq-eqb (b .kind) LINES h)
 
-    pub starts-other : (b .kind ≡ 0xf2 → ⊥) → startsFrom rule s x ≡ startsFrom rule s p
+    pub starts-other : (b .kind ≡ LINES → ⊥) → startsFrom rule s x ≡ startsFrom rule s p
     unfolding only listed
-    starts-other h = rw (← sub-next rule s p b x q .is, ne-eqb (b .kind) 0xf2 h)
+    starts-other h = rw (← sub-next rule s p b x q .is, ne-eqb (b .kind) LINES h)
 
   pub starts-end : none ≡ stepAt rule s p → [] ≡ startsFrom rule s p
   unfolding only listed

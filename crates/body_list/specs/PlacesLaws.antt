@@ -12,7 +12,7 @@ use Rattle.walk.specs.ListingLaws.{To}
 use Rattle.walk.specs.WithinLaws.{Within}
 use Rattle.walk.specs.Pick.{only}
 use Rattle.refusal.specs.Told.{Told}
-use Rattle.area.specs.Kind.{Sort}
+use Rattle.kinds.specs.Kind.{LINES, Sort}
 use Rattle.area.specs.Subs.{Sub, subsFrom}
 use Rattle.area.specs.SubsLaws.{SubLies, Chained, subs-ind, subs-chained}
 use Rattle.find.specs.Find.{is}
@@ -56,17 +56,17 @@ module _ (rule : ℕ → Sort) (s : List ℕ) where
   abbrev Begins : Listing Sub Told → ℕ → ℕ → Type 0
   Begins l p v = (p + 8 ≤ v) × Finds l (v - 8)
 
-  begins : (l : Listing Sub Told) (p : ℕ) → l ≡ subsFrom rule s p → (v : ℕ) → In v (map subStart (listed (only (is 0xf2) l))) → Begins l p v
+  begins : (l : Listing Sub Told) (p : ℕ) → l ≡ subsFrom rule s p → (v : ℕ) → In v (map subStart (listed (only (is LINES) l))) → Begins l p v
   unfolding only listed
   begins (more b l) p e v =
       let x = b .start + b .len in
       let c = chained p b l e in
       let g = begin p b l e in
-      let later : In v (map subStart (listed (only (is 0xf2) l))) → Begins (more b l) p v
+      let later : In v (map subStart (listed (only (is LINES) l))) → Begins (more b l) p v
       = λ m. let f = begins l x (c .0) v m in (omega arith, finds-passed b l (v - 8) (omega arith) (f .1)) in
       let here : v ≡ b .start → Begins (more b l) p v
       = λ q. (omega arith, λ u h. ap (λ k. bodyFrom rule s (k - 8) u) q ∙ ap (bodyIn u) (sym g)) in
-      by-cases (λ (k : Listing Sub Told). In v (map subStart (listed k)) → Begins (more b l) p v) (eqb (b .kind) 0xf2)
+      by-cases (λ (k : Listing Sub Told). In v (map subStart (listed k)) → Begins (more b l) p v) (eqb (b .kind) LINES)
       (λ t m. ⊎-elim here later m) (λ t. later)
   begins ends p e v = λ m. absurd m
   begins (fails t) p e v = λ m. absurd m

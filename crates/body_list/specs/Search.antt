@@ -11,7 +11,7 @@ use lib.Dec.{ltb, leb, eqb}
 use Rattle.walk.specs.Listing.{Reply, refused}
 use Rattle.refusal.specs.Told.{Told, told}
 use Rattle.refusal.specs.declared.Refusal.the-variants as why
-use Rattle.area.specs.Kind.{Sort}
+use Rattle.kinds.specs.Kind.{Sort}
 use Rattle.find.specs.Find.{Span}
 use Rattle.lines.specs.Slots.{slotAt, Scans}
 use Rattle.body_list.specs.BodyList.{startsFrom}

@@ -11,7 +11,7 @@ use Rattle.walk.specs.Cases.{by-cases, and-true}
 use Rattle.walk.specs.Listing.{gave, refused}
 use Rattle.refusal.specs.Told.{told}
 use Rattle.refusal.specs.declared.Refusal.the-variants as why
-use Rattle.area.specs.Kind.{Sort}
+use Rattle.kinds.specs.Kind.{Sort}
 use Rattle.find.specs.Find.{Span}
 use Rattle.lines.specs.Slots.{bodyFrom, scanFrom, nameOf, slotAt, Scans}
 use Rattle.lines.specs.SlotsLaws.{scans-start, scan-anew, slot-same, slot-missing, slot-scans}

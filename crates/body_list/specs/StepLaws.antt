@@ -14,7 +14,7 @@ use Rattle.walk.specs.Cases.{tests, by-cases, le-or-gt}
 use Rattle.walk.specs.Listing.{Reply, refused}
 use Rattle.refusal.specs.Told.{Told, told}
 use Rattle.refusal.specs.declared.Refusal.the-variants as why
-use Rattle.area.specs.Kind.{Sort}
+use Rattle.kinds.specs.Kind.{Sort}
 use Rattle.find.specs.Find.{Span}
 use Rattle.lines.specs.Slots.{slotAt}
 use Rattle.body_list.specs.Search.{halved, sameList, isAreas, beginIn, beginHeld, beginOf, foundFrom, foundBody}

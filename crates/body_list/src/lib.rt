@@ -7,7 +7,7 @@ ghost use mathlib.Core.Path.{_≡_};
 ghost use Prim.Native.Nat.{_≤_};
 ghost use mathlib.Core.List.{_++_};
 ghost use lib.ListN.{length, drop};
-ghost use Rattle.area.specs.Kind.{crateRule};
+ghost use Rattle.kinds.specs.Kind.{crateRule};
 ghost use Rattle.lines.specs.Told.{toldCounted};
 ghost use Rattle.body_list.specs.BodyList.{startsFrom, bodyList, bodiesAfter};
 ghost use Rattle.body_list.specs.Search.{halved, isAreas, beginIn, beginHeld, beginOf, foundBody};
@@ -15,6 +15,7 @@ ghost use Rattle.body_list.specs.Looks.{holds};
 ghost use Rattle.body_list.specs.Told.{toldLocated};
 use area::SubStep;
 use area::sub_at;
+use kinds::LINES;
 use lines::Counted;
 use lines::Named;
 use lines::count_lines;
@@ -37,7 +38,7 @@ fn fill(area: &[u8], bodies: &mut [u32])
                 len: _,
                 next,
             } => {
-                if kind == 0xf2 {
+                if kind == LINES {
                     bodies[n] = start as u32;
                     n += 1;
                 }
@@ -129,7 +130,7 @@ fn is_areas(area: &[u8], bodies: &[u32]) -> bool
                 len: _,
                 next,
             } => {
-                if kind == 0xf2 {
+                if kind == LINES {
                     if !holds(bodies, n, start) {
                         return false;
                     }

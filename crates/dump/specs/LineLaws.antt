@@ -12,7 +12,7 @@ use borrow.Author.Tests.{ltb-false, lt-ltb, le-ltb}
 use Rattle.walk.specs.Listing.{Listing, more, ends, fails, Answer, gives, none, refuses, Reply, gave, nothing, refused, onMove, moved}
 use Rattle.refusal.specs.Told.{Told, told}
 use Rattle.refusal.specs.declared.Refusal.the-variants as why
-use Rattle.area.specs.Kind.{Sort}
+use Rattle.kinds.specs.Kind.{Sort}
 use Rattle.lines.specs.Lines.{countLines}
 use Rattle.line_walk.specs.Next.{turnBound, counting}
 use Rattle.text.specs.Text.{ascii, joined}

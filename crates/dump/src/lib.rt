@@ -6,7 +6,7 @@ ghost use mathlib.Core.Path.{_≡_};
 ghost use Prim.Native.Nat.{_+_, _≤_};
 ghost use lib.ListN.{length};
 ghost use lib.Dec.{ltb};
-ghost use Rattle.area.specs.Kind.{crateRule};
+ghost use Rattle.kinds.specs.Kind.{crateRule};
 ghost use Rattle.printed.specs.Printed.{longestLine};
 ghost use Rattle.listing.specs.Dump.{sheetLines, sheetSize, sheetRefused};
 ghost use Rattle.listing.specs.DumpLaws.{linesFrom};

@@ -4,7 +4,7 @@
 use Prim.Native.Nat.{ℕ}
 use mathlib.Core.List.{List}
 use lib.ListN.{length}
-use Rattle.area.specs.Kind.{Sort}
+use Rattle.kinds.specs.Kind.{Sort}
 use Rattle.files.specs.Files.{fileStep, fileAt, checksumPart, fileIn}
 use Rattle.answer_words.specs.Given.{Given, stepGiven, replyGiven, spanWords}
 use Rattle.answer_words.specs.TableWords.{tableStateSize, walkIn, walkWords, overTable, tableWords}

@@ -4,7 +4,7 @@ use mathlib.Core.Path.{_≡_}
 use mathlib.Core.List.{List, [], _∷_}
 use lib.ListN.{length}
 use Rattle.walk.specs.Listing.{none}
-use Rattle.area.specs.Kind.{Sort}
+use Rattle.kinds.specs.Kind.{Sort}
 use Rattle.files.specs.Files.{fileStep}
 use Rattle.answer_words.specs.Given.{Gives}
 use Rattle.answer_words.specs.TableWords.{tableStateSize, walkIn, walkWords, overTable}

@@ -3,7 +3,7 @@
 // `answer_words` puts them. The crate `c13` gives each its C name.
 ghost use mathlib.Core.Path.{_≡_};
 ghost use lib.ListN.{length};
-ghost use Rattle.area.specs.Kind.{crateRule};
+ghost use Rattle.kinds.specs.Kind.{crateRule};
 ghost use Rattle.answer_words.specs.Given.{Gives, replyGiven};
 ghost use Rattle.files.specs.Told.{toldInfo};
 ghost use Rattle.many_files.specs.Files.{infoWords};

@@ -7,7 +7,7 @@ use mathlib.Core.List.{List}
 use mathlib.Core.Bool.{Bool, true, false, not, cond}
 use lib.Dec.{eqb}
 use lib.ListN.{length}
-use Rattle.area.specs.Kind.{Sort}
+use Rattle.kinds.specs.Kind.{Sort}
 use Rattle.order.specs.Order.{ordered, slotsAfter}
 use Rattle.body_list.specs.BodyList.{bodyList, bodiesAfter}
 use Rattle.line_step.specs.declared.Held.{Held}

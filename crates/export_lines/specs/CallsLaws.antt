@@ -7,7 +7,7 @@ use lib.ListN.{length, length-append}
 use native.Mathlib.Omega.{arith}
 use Rattle.walk.specs.Listing.{Reply, gave, nothing, refused}
 use Rattle.refusal.specs.Told.{Told}
-use Rattle.area.specs.Kind.{Sort}
+use Rattle.kinds.specs.Kind.{Sort}
 use Rattle.order.specs.Order.{orderOf, ordered, slotsAfter}
 use Rattle.body_list.specs.BodyList.{startsFrom, bodyList, slotsHolding, bodiesAfter}
 use Rattle.answer_words.specs.Given.{Gives, given}

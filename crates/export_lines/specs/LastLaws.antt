@@ -13,7 +13,7 @@ use Rattle.walk.specs.Cases.{by-cases, le-or-gt}
 use Rattle.walk.specs.Listing.{over, fail, Answer, gives, none, refuses}
 use Rattle.refusal.specs.Told.{Told, told, longest}
 use Rattle.refusal.specs.declared.Refusal.the-variants as why
-use Rattle.area.specs.Kind.{Sort}
+use Rattle.kinds.specs.Kind.{Sort}
 use Rattle.line_record.specs.declared.LineRecord.{LineRecord}
 use Rattle.line_state_words.specs.LineWords.{recordSize, stateSize, lineWalkIn, lineWalkWords, recordWords}
 use Rattle.line_state_words.specs.ReadBackLaws.{FitsHeld, state-read}

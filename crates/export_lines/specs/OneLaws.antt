@@ -9,7 +9,7 @@ use Rattle.walk.specs.Listing.{Answer, gives, none, refuses}
 use Rattle.walk.specs.Many.{Many, asMany, many}
 use Rattle.walk.specs.ManyLaws.{many-step, many-zero}
 use Rattle.refusal.specs.Told.{Told}
-use Rattle.area.specs.Kind.{Sort}
+use Rattle.kinds.specs.Kind.{Sort}
 use Rattle.line_record.specs.declared.LineRecord.{LineRecord}
 use Rattle.line_state_words.specs.LineWords.{recordSize, stateSize, lineWalkWords, recordWords, lineWords}
 use Rattle.line_state_words.specs.LineWordsLaws.{record-length}

@@ -6,7 +6,7 @@ ghost use mathlib.Core.Path.{_≡_};
 ghost use lib.ListN.{length};
 ghost use mathlib.Core.List.{[], _∷_, _++_};
 ghost use Prim.Native.Nat.{_≤_};
-ghost use Rattle.area.specs.Kind.{crateRule};
+ghost use Rattle.kinds.specs.Kind.{crateRule};
 ghost use Rattle.answer_words.specs.Given.{Gives, given};
 ghost use Rattle.answer_words.specs.FillGiven.{answerStatus, askedSize};
 ghost use Rattle.export_lines.specs.Calls.{orderGiven, slotsLeft, bodiesGiven, bodiesLeft, lineGiven};

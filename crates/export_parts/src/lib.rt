@@ -1,6 +1,6 @@
 // Where the parts of areas and streams stand, for programs in other languages: the subsections of an area, the names of a string table, and the parts of a
 // module's stream. A call answers a status, and the words of the answer as the crate `answer_words` puts them. The crate `c13` gives each its C name.
-ghost use Rattle.area.specs.Kind.{crateRule};
+ghost use Rattle.kinds.specs.Kind.{crateRule};
 ghost use Rattle.answer_words.specs.Given.{Gives};
 ghost use Rattle.export_parts.specs.Calls.{subGiven, namesGiven, nameGiven, symbolsGiven, linesPartGiven, tablesPartGiven};
 use answer_words::GIVEN;

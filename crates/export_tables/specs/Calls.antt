@@ -4,7 +4,7 @@
 -- Definitions only; a reader must believe them.
 use Prim.Native.Nat.{ℕ}
 use mathlib.Core.List.{List, [], _∷_}
-use Rattle.area.specs.Kind.{Sort}
+use Rattle.kinds.specs.Kind.{Sort}
 use Rattle.table.specs.Table.{wordIn}
 use Rattle.inlinees.specs.Inlinees.{inlineeStep, SourceLine}
 use Rattle.imports.specs.Imports.{importStep, resolveImport, ModuleAt, Ref}

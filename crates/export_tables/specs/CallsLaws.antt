@@ -8,7 +8,7 @@ use lib.Dec.{ltb, eqb}
 use Rattle.walk.specs.Cases.{by-cases}
 use Rattle.walk.specs.Listing.{Answer, gives, none, refuses, Reply, gave, nothing, refused}
 use Rattle.refusal.specs.Told.{Told, longest}
-use Rattle.area.specs.Kind.{Sort}
+use Rattle.kinds.specs.Kind.{Sort}
 use Rattle.table.specs.Collect.{collected, ofNth}
 use Rattle.imports.specs.Imports.{Ref, ModuleAt, scopeOf, idOf, ifRef, moduleOf, moduleAt}
 use Rattle.imports.specs.Listed.{importPlaces, ifSlots, slotsUsed, importList, slotsWith, placesAfter, refOn, refAt, resolveListed}

@@ -5,7 +5,7 @@ ghost use mathlib.Core.List.{[], _∷_};
 ghost use lib.ListN.{length};
 ghost use Rattle.imports.specs.Told.{toldResolved};
 ghost use Rattle.exports.specs.Told.{toldExport, toldLookup};
-ghost use Rattle.area.specs.Kind.{crateRule};
+ghost use Rattle.kinds.specs.Kind.{crateRule};
 ghost use Rattle.answer_words.specs.Given.{Gives, one, replyGiven};
 ghost use Rattle.export_tables.specs.Calls.{refWords, exportWords};
 ghost use Rattle.export_tables.specs.Calls.{wordGiven, inlineeGiven, moduleGiven, refGiven, exportGiven, countGiven, globalGiven};

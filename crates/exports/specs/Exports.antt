@@ -1,4 +1,4 @@
--- The exports of an area: those of its first CROSSSCOPEEXPORTS subsection (0xf8). Source: cvinfo.h, `LocalIdAndGlobalIdPair`; document 01,
+-- The exports of an area: those of its first CROSS_SCOPE_EXPORTS subsection. Source: cvinfo.h, `LocalIdAndGlobalIdPair`; document 01,
 -- "Cross-module tables" (bit 31 of local tells Id from Type; a lookup tests 9 over all pairs, without sign, then gives the global or none; the
 -- length is the number of pairs) and "Area and subsections" (the first of its kind; without one the answer is empty).
 -- Definitions only; a reader must believe them, but for `pairSize`, `exportIn`, `pairAt` to `exportStep`: `exports-walk` (exports ExportsLaws) says what
@@ -12,7 +12,7 @@ use Rattle.walk.specs.Listing.{Listing, fails, mapped, Answer, refuses, Reply, 
 use Rattle.walk.specs.Pick.{onGave}
 use Rattle.refusal.specs.Told.{Told, told}
 use Rattle.refusal.specs.declared.Refusal.the-variants as why
-use Rattle.area.specs.Kind.{Sort}
+use Rattle.kinds.specs.Kind.{«CROSS_SCOPE_EXPORTS», Sort}
 use Rattle.find.specs.Find.{same, firstSub}
 use Rattle.body.specs.Exports.{Pair, pairBite, pairs}
 use Rattle.table.specs.declared.TableWalk.{TableWalk}
@@ -40,7 +40,7 @@ exportIn start p = exportOf p
 
 -- THE PAIRS of an area, and its exports
 abbrev pub pairsOf : (ℕ → Sort) → List ℕ → Listing Pair Told
-pairsOf rule s = tableOf pairs unplaced s (firstSub rule 0xf8 s)
+pairsOf rule s = tableOf pairs unplaced s (firstSub rule «CROSS_SCOPE_EXPORTS» s)
 
 abbrev pub exportsOf : (ℕ → Sort) → List ℕ → Listing Export Told
 exportsOf rule s = mapped exportOf same (pairsOf rule s)
@@ -81,4 +81,4 @@ abbrev pub exportShown : ℕ → ℕ → Answer ℕ Pair Told → Answer TableWa
 exportShown = shifted exportIn
 
 abbrev pub exportStep : (ℕ → Sort) → List ℕ → TableWalk → Answer TableWalk Export Told
-exportStep rule s w = tableStep pairAt exportIn (firstSub rule 0xf8 s) s w
+exportStep rule s w = tableStep pairAt exportIn (firstSub rule «CROSS_SCOPE_EXPORTS» s) s w

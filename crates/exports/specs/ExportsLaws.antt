@@ -16,7 +16,7 @@ use Rattle.walk.specs.Listing.{item, over, Listing, more, ends, fails, mapped, 
 use Rattle.walk.specs.Pick.{onGave}
 use Rattle.refusal.specs.Told.{Told, told}
 use Rattle.refusal.specs.declared.Refusal.the-variants as why
-use Rattle.area.specs.Kind.{Sort}
+use Rattle.kinds.specs.Kind.{«CROSS_SCOPE_EXPORTS», Sort}
 use Rattle.find.specs.Find.{same, Span, firstSub}
 use Rattle.body.specs.Exports.{Pair, pairBite, pairs}
 use Rattle.table.specs.declared.TableWalk.{TableWalk}
@@ -80,8 +80,9 @@ shown-other start len k m q = ap (exportShown start len) q
 
 -- ---- a step of the walk
 
-pub export-steps : (rule : ℕ → Sort) (s : List ℕ) (w : TableWalk) → Steps pairAt exportIn toldPair (firstSub rule 0xf8 s) s w (exportStep rule s w)
-export-steps rule s w = steps pairAt exportIn toldPair (firstSub rule 0xf8 s) s w (first-finds rule 0xf8 s)
+pub export-steps : (rule : ℕ → Sort) (s : List ℕ) (w : TableWalk) → Steps pairAt exportIn toldPair (firstSub rule «CROSS_SCOPE_EXPORTS» s) s w
+    (exportStep rule s w)
+export-steps rule s w = steps pairAt exportIn toldPair (firstSub rule «CROSS_SCOPE_EXPORTS» s) s w (first-finds rule «CROSS_SCOPE_EXPORTS» s)
 
 -- ---- the walk: a new walk's answers, taken until it ends, are the exports of the area
 
@@ -127,8 +128,8 @@ shown s (refused t) = refl
 -- THE THEOREM on the walk
 pub exports-walk : (rule : ℕ → Sort) (s : List ℕ) (n : ℕ) → calls (exportStep rule s) n walk.New ≡ replies n (exportsOf rule s)
 exports-walk rule s n =
-    table-walk pairAt exportIn pairsFrom pairs-right s (firstSub rule 0xf8 s) (first-finds rule 0xf8 s) n
-    ∙ ap (replies n) (shown s (firstSub rule 0xf8 s))
+    table-walk pairAt exportIn pairsFrom pairs-right s (firstSub rule «CROSS_SCOPE_EXPORTS» s) (first-finds rule «CROSS_SCOPE_EXPORTS» s) n
+    ∙ ap (replies n) (shown s (firstSub rule «CROSS_SCOPE_EXPORTS» s))
 
 -- THE THEOREM on the count: as many as the walk gives
 pub count-is : (rule : ℕ → Sort) (s : List ℕ) → listingCount (exportsOf rule s) ≡ exportCount rule s

@@ -14,7 +14,7 @@ use Rattle.refusal.specs.Told.{Told, told, longest}
 use Rattle.refusal.specs.declared.Refusal.the-variants as why
 use Rattle.word.specs.Word.{u32At}
 use Rattle.walk.specs.Pick.{onGave}
-use Rattle.area.specs.Kind.{Sort}
+use Rattle.kinds.specs.Kind.{«CROSS_SCOPE_EXPORTS», Sort}
 use Rattle.find.specs.Find.{Span, firstSub, bytesAt}
 use Rattle.body.specs.Exports.{Pair, pairs}
 use Rattle.table.specs.Table.{tableOf}
@@ -205,8 +205,8 @@ module _ (rule : ℕ → Sort) (s : List ℕ) (a : Span) (q : gave a ≡ exportB
   abbrev body : List ℕ
   body = bytesAt s a
 
-  known : FoundBody s a (firstSub rule 0xf8 s)
-  known = found s a (firstSub rule 0xf8 s) (first-finds rule 0xf8 s) q
+  known : FoundBody s a (firstSub rule «CROSS_SCOPE_EXPORTS» s)
+  known = found s a (firstSub rule «CROSS_SCOPE_EXPORTS» s) (first-finds rule «CROSS_SCOPE_EXPORTS» s) q
 
   -- THE THEOREM on lookups: a lookup in the body that was found is one in the area
   pub body-resolves : (n : ℕ) → globalIn body n ≡ resolveExport rule s n

@@ -12,7 +12,7 @@ use Rattle.refusal.specs.Told.{Told, told, longest}
 use Rattle.refusal.specs.declared.Refusal.the-variants as why
 use Rattle.word.specs.Word.{u32At}
 use Rattle.walk.specs.Pick.{onGave}
-use Rattle.area.specs.Kind.{Sort}
+use Rattle.kinds.specs.Kind.{«CROSS_SCOPE_EXPORTS», Sort}
 use Rattle.find.specs.Find.{Span, firstSub, bytesAt}
 use Rattle.body.specs.Exports.{Pair, pairs}
 use Rattle.table.specs.Collect.{collected, ofNth}
@@ -29,7 +29,7 @@ lookupBody s (refused t) = refused t
 
 -- THE BODY for lookups: the first of its kind; the empty one where there is none
 abbrev pub exportBody : (ℕ → Sort) → List ℕ → Reply Span Told
-exportBody rule s = lookupBody s (firstSub rule 0xf8 s)
+exportBody rule s = lookupBody s (firstSub rule «CROSS_SCOPE_EXPORTS» s)
 
 -- x of a body that is not too long
 unfoldable pub ifShort : {A : Type 0} → List ℕ → Reply A Told → Reply A Told

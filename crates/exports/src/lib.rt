@@ -1,4 +1,4 @@
-// The exports of an area: pairs of a local and a global index, in the first subsection of kind 0xf8 (crate: `CrossModuleExports`,
+// The exports of an area: pairs of a local and a global index, in the first subsection of kind CROSS_SCOPE_EXPORTS (crate: `CrossModuleExports`,
 // `CrossModuleExport`, `RawCrossScopeExport`).
 //
 // Listing takes any order; a lookup first tests that the local indices ascend.
@@ -7,7 +7,7 @@ ghost use Prim.Native.Nat.{_+_, _/_, _≤_};
 ghost use lib.ListN.{length};
 ghost use Rattle.word.specs.Word.{u32At};
 ghost use Rattle.walk.specs.Pick.{onGave};
-ghost use Rattle.area.specs.Kind.{crateRule};
+ghost use Rattle.kinds.specs.Kind.{crateRule};
 ghost use Rattle.body.specs.Exports.{pairs};
 ghost use Rattle.table.specs.Collect.{collected, listingCount};
 ghost use Rattle.exports.specs.Exports.{exportOf, pairAt, exportShown, exportStep, exportCount, ascends, globalOf, lookup, resolveExport};
@@ -17,15 +17,13 @@ ghost use Rattle.exports.specs.InBodyLaws.{tested};
 ghost use Rattle.exports.specs.Told.{toldExport, toldPair, toldExportStep, toldCount, toldLookup, toldBody, toldExportAt};
 use find::Found;
 use find::first_of;
+use kinds::CROSS_SCOPE_EXPORTS;
 use refusal::LONGEST;
 use refusal::Refusal;
 use table::Spot;
 use table::TableWalk;
 use table::spot_first;
 use word::u32_at;
-
-// The kind of subsection that holds exports.
-const CROSS_SCOPE_EXPORTS: u32 = 0xf8;
 
 // A pair as an export: bit 31 of its local index, which stays in it, tells an id from a type.
 pub enum CrossModuleExport {

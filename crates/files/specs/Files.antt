@@ -12,7 +12,7 @@ use Rattle.walk.specs.Listing.{Listing, Answer, gives, none, refuses, Reply, ga
 use Rattle.walk.specs.Pick.{mapReply, onGave}
 use Rattle.refusal.specs.Told.{Told, told, longest}
 use Rattle.refusal.specs.declared.Refusal.the-variants as why
-use Rattle.area.specs.Kind.{Sort}
+use Rattle.kinds.specs.Kind.{«FILE_CHECKSUMS», Sort}
 use Rattle.find.specs.Find.{same, Span, lastSub, bytesAt, heldSpan}
 use Rattle.table.specs.Table.{Place, spotIn, tableStep, tableOf}
 use Rattle.table.specs.declared.TableWalk.{TableWalk}
@@ -35,7 +35,7 @@ fileOf start e = record { index = e .start - 6; info = entryMoved start e }
 
 -- the checksum body, if the tests over the area that come before it pass
 unfoldable pub filesSub : (ℕ → Sort) → List ℕ → Reply Span Told
-filesSub rule s = onGave (λ (n : ℕ). lastSub rule 0xf4 s) (countLines rule s)
+filesSub rule s = onGave (λ (n : ℕ). lastSub rule «FILE_CHECKSUMS» s) (countLines rule s)
 
 -- one step of a walk over the files of an area
 unfoldable pub fileStep : (ℕ → Sort) → List ℕ → TableWalk → Answer TableWalk File Told

@@ -13,7 +13,7 @@ use Rattle.walk.specs.ListingLaws.{Every}
 use Rattle.walk.specs.Pick.{mapReply, onGave}
 use Rattle.refusal.specs.Told.{Told, told, longest}
 use Rattle.refusal.specs.declared.Refusal.the-variants as why
-use Rattle.area.specs.Kind.{Sort}
+use Rattle.kinds.specs.Kind.{«FILE_CHECKSUMS», Sort}
 use Rattle.find.specs.Find.{same, Span, lastSub, bytesAt}
 use Rattle.table.specs.Table.{Place, spotIn, spotOf, shifted, readAt, tableOf, ofBody}
 use Rattle.table.specs.StepLaws.{Steps, steps}
@@ -33,21 +33,21 @@ use Rattle.files.specs.Files.{atIndex, fileIn, orEmpty, checksumPart, fi
 -- ---- the checksum body
 
 module _ (rule : ℕ → Sort) (s : List ℕ) where
-  pub body-passed : (n : ℕ) → gave n ≡ countLines rule s → lastSub rule 0xf4 s ≡ filesSub rule s
+  pub body-passed : (n : ℕ) → gave n ≡ countLines rule s → lastSub rule «FILE_CHECKSUMS» s ≡ filesSub rule s
   unfolding filesSub
-  body-passed n e = ap (onGave (λ (n : ℕ). lastSub rule 0xf4 s)) e
+  body-passed n e = ap (onGave (λ (n : ℕ). lastSub rule «FILE_CHECKSUMS» s)) e
 
   pub body-refused : (t : Told) → refused t ≡ countLines rule s → refused t ≡ filesSub rule s
   unfolding filesSub
-  body-refused t e = ap (onGave (λ (n : ℕ). lastSub rule 0xf4 s)) e
+  body-refused t e = ap (onGave (λ (n : ℕ). lastSub rule «FILE_CHECKSUMS» s)) e
 
   -- what is found lies in the area
   pub files-finds : Finds s (filesSub rule s)
   unfolding filesSub
   files-finds = by (countLines rule s)
     where
-      by : (x : Reply ℕ Told) → Finds s (onGave (λ (n : ℕ). lastSub rule 0xf4 s) x)
-      by (gave n) = last-finds rule 0xf4 s
+      by : (x : Reply ℕ Told) → Finds s (onGave (λ (n : ℕ). lastSub rule «FILE_CHECKSUMS» s) x)
+      by (gave n) = last-finds rule «FILE_CHECKSUMS» s
       by nothing = tt
       by (refused t) = tt
 

@@ -7,7 +7,7 @@ ghost use mathlib.Core.Path.{_≡_};
 ghost use Prim.Native.Nat.{_+_, _≤_};
 ghost use lib.ListN.{length};
 ghost use Rattle.walk.specs.Listing.{gave};
-ghost use Rattle.area.specs.Kind.{crateRule};
+ghost use Rattle.kinds.specs.Kind.{crateRule};
 ghost use Rattle.find.specs.Find.{HandsSpan};
 ghost use Rattle.find.specs.Told.{toldFound};
 ghost use Rattle.table.specs.Table.{spotOf};
@@ -19,6 +19,7 @@ use checksums::EntryStep;
 use checksums::entry_at;
 use find::Found;
 use find::last_of;
+use kinds::FILE_CHECKSUMS;
 use lines::Counted;
 use lines::count_lines;
 use refusal::LONGEST;
@@ -33,7 +34,7 @@ pub fn checksum_body(area: &[u8]) -> Found
     ensures { λ r. ⌜ toldFound r ≡ filesSub crateRule (now (area .entry)) ⌝ }
 {
     match count_lines(area) {
-        Counted::Lines(_) => last_of(area, 0xf4),
+        Counted::Lines(_) => last_of(area, FILE_CHECKSUMS),
         Counted::Refused(why) => Found::Refused(why),
     }
 }

@@ -11,7 +11,7 @@ use Rattle.word.specs.Word.{HandsBack}
 use Rattle.walk.specs.Listing.{Reply, gave, nothing, refused}
 use Rattle.walk.specs.Pick.{firstBy, lastBy, mapReply}
 use Rattle.refusal.specs.Told.{Told}
-use Rattle.area.specs.Kind.{Sort}
+use Rattle.kinds.specs.Kind.{Sort}
 use Rattle.area.specs.Subs.{Sub, subsFrom}
 
 abbrev pub same : {A : Type 0} → A → A

@@ -11,7 +11,7 @@ use Rattle.walk.specs.Pick.{firstBy, lastBy, orElse, mapReply}
 use Rattle.walk.specs.PickLaws.{map-or, or-assoc, or-nothing, first-map, last-map, Gives, first-holds, last-holds}
 use Rattle.refusal.specs.Told.{Told, numberOf}
 use Rattle.area.specs.Parts.{Raw}
-use Rattle.area.specs.Kind.{Sort}
+use Rattle.kinds.specs.Kind.{Sort}
 use Rattle.area.specs.Subs.{Sub, subsFrom, stepAt, bodies}
 use Rattle.area.specs.SubsLaws.{sub-next, sub-end, sub-refused, bodied, area-bodies, Inside, subs-inside}
 use Rattle.find.specs.Find.{same, Span, is, spanOf, firstSub, lastSub, bytesAt}

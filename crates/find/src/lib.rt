@@ -1,6 +1,6 @@
 // The first and the last subsection of a kind, by their place in the lent area.
 ghost use mathlib.Core.Path.{_≡_};
-ghost use Rattle.area.specs.Kind.{crateRule};
+ghost use Rattle.kinds.specs.Kind.{crateRule};
 ghost use Rattle.find.specs.Find.{firstSub, lastSub};
 ghost use Rattle.find.specs.Told.{toldFound};
 use area::SubStep;

@@ -1,4 +1,4 @@
--- The imports of an area: those of its first CROSSSCOPEIMPORTS subsection (0xf7). Source: cvinfo.h, `CrossScopeReferences` and `CrossScopeId` (bit
+-- The imports of an area: those of its first CROSS_SCOPE_IMPORTS subsection. Source: cvinfo.h, `CrossScopeReferences` and `CrossScopeId` (bit
 -- 31 set, scope in bits 20 to 30, id in bits 0 to 19); document 01, "Cross-module tables" (resolving: area and whole body, then 5, then the
 -- module and its word, either missing being 6) and "Area and subsections" (the first of its kind; without one the answer is empty).
 -- Definitions only; a reader must believe them, but for `moduleShown`, `inArea` to `importStep`: `imports-walk`, `imports-words` (imports ImportsLaws) say
@@ -12,7 +12,7 @@ use Rattle.walk.specs.Listing.{Listing, Answer, Reply, gave, refused}
 use Rattle.walk.specs.Pick.{onGave}
 use Rattle.refusal.specs.Told.{Told, told}
 use Rattle.refusal.specs.declared.Refusal.the-variants as why
-use Rattle.area.specs.Kind.{Sort}
+use Rattle.kinds.specs.Kind.{«CROSS_SCOPE_IMPORTS», Sort}
 use Rattle.find.specs.Find.{firstSub}
 use Rattle.body.specs.Words.{wordsIn}
 use Rattle.body.specs.Imports.{Module, moduleBite, modules}
@@ -23,7 +23,7 @@ use Rattle.table.specs.Collect.{collected, ofNth}
 
 -- THE MODULES of an area
 abbrev pub modulesOf : (ℕ → Sort) → List ℕ → Listing Module Told
-modulesOf rule s = tableOf modules (λ (_ : ℕ) (m : Module). m) s (firstSub rule 0xf7 s)
+modulesOf rule s = tableOf modules (λ (_ : ℕ) (m : Module). m) s (firstSub rule «CROSS_SCOPE_IMPORTS» s)
 
 -- a reference to the word of a module
 pub record Ref : Type 0 where
@@ -77,7 +77,7 @@ inArea start m = record { name = m .name; words = start + m .words; count = m .c
 
 -- THE IMPORTS of an area: its modules with their places
 abbrev pub importsOf : (ℕ → Sort) → List ℕ → Listing ModuleAt Told
-importsOf rule s = tableOf (λ (b : List ℕ). rowsPlaced moduleSize moduleShown 0 (modules b)) inArea s (firstSub rule 0xf7 s)
+importsOf rule s = tableOf (λ (b : List ℕ). rowsPlaced moduleSize moduleShown 0 (modules b)) inArea s (firstSub rule «CROSS_SCOPE_IMPORTS» s)
 
 -- one step of a walk over the imports: the module at a place of the body, and where the walk goes on
 abbrev pub moduleAt : List ℕ → ℕ → Answer ℕ ModuleAt Told
@@ -88,4 +88,4 @@ abbrev pub modulesFrom : List ℕ → ℕ → Listing ModuleAt Told
 modulesFrom = rowsFrom moduleBite moduleSize moduleShown
 
 abbrev pub importStep : (ℕ → Sort) → List ℕ → TableWalk → Answer TableWalk ModuleAt Told
-importStep rule s w = tableStep moduleAt inArea (firstSub rule 0xf7 s) s w
+importStep rule s w = tableStep moduleAt inArea (firstSub rule «CROSS_SCOPE_IMPORTS» s) s w

@@ -16,7 +16,7 @@ use Rattle.walk.specs.Listing.{Move, item, pass, over, fail, more, ends, fails,
 use Rattle.walk.specs.Pick.{onGave}
 use Rattle.refusal.specs.Told.{Told, told}
 use Rattle.refusal.specs.declared.Refusal.the-variants as why
-use Rattle.area.specs.Kind.{Sort}
+use Rattle.kinds.specs.Kind.{«CROSS_SCOPE_IMPORTS», Sort}
 use Rattle.find.specs.Find.{same, Span, firstSub}
 use Rattle.body.specs.Words.{wordsIn}
 use Rattle.body.specs.WordsLaws.{words-length}
@@ -209,8 +209,9 @@ module _ (b : List ℕ) (index n : ℕ) (best : Reply Ref Told) (p : ℕ) where
 
 -- ---- a step of the walk
 
-pub import-steps : (rule : ℕ → Sort) (s : List ℕ) (w : TableWalk) → Steps moduleAt inArea toldModule (firstSub rule 0xf7 s) s w (importStep rule s w)
-import-steps rule s w = steps moduleAt inArea toldModule (firstSub rule 0xf7 s) s w (first-finds rule 0xf7 s)
+pub import-steps : (rule : ℕ → Sort) (s : List ℕ) (w : TableWalk) → Steps moduleAt inArea toldModule (firstSub rule «CROSS_SCOPE_IMPORTS» s) s w
+    (importStep rule s w)
+import-steps rule s w = steps moduleAt inArea toldModule (firstSub rule «CROSS_SCOPE_IMPORTS» s) s w (first-finds rule «CROSS_SCOPE_IMPORTS» s)
 
 -- ---- the theorems
 
@@ -243,8 +244,8 @@ placed-whole s (refused t) = refl
 -- THE THEOREM on the walk: a new walk's answers, taken until it ends, are the imports of the area
 pub imports-walk : (rule : ℕ → Sort) (s : List ℕ) (n : ℕ) → calls (importStep rule s) n walk.New ≡ replies n (importsOf rule s)
 imports-walk rule s n =
-    table-walk moduleAt inArea modulesFrom modules-right s (firstSub rule 0xf7 s) (first-finds rule 0xf7 s) n
-    ∙ ap (replies n) (placed-whole s (firstSub rule 0xf7 s))
+    table-walk moduleAt inArea modulesFrom modules-right s (firstSub rule «CROSS_SCOPE_IMPORTS» s) (first-finds rule «CROSS_SCOPE_IMPORTS» s) n
+    ∙ ap (replies n) (placed-whole s (firstSub rule «CROSS_SCOPE_IMPORTS» s))
 
 back : (s : List ℕ) (x : Reply Span Told)
     → mapped (moduleOf s) same (tableOf (λ (b : List ℕ). rowsPlaced moduleSize moduleShown 0 (modules b)) inArea s x) ≡ tableOf modules (λ (_ : ℕ) (m : Module). m) s x
@@ -259,4 +260,4 @@ back s (refused t) = refl
 
 -- THE THEOREM on the words: at the places that the imports tell stand the words of the area's modules
 pub imports-words : (rule : ℕ → Sort) (s : List ℕ) → mapped (moduleOf s) same (importsOf rule s) ≡ modulesOf rule s
-imports-words rule s = back s (firstSub rule 0xf7 s)
+imports-words rule s = back s (firstSub rule «CROSS_SCOPE_IMPORTS» s)

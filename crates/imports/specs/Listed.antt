@@ -11,7 +11,7 @@ use Rattle.walk.specs.Listing.{Listing, Answer, gives, none, refuses, Reply, ga
 use Rattle.walk.specs.Pick.{onGave}
 use Rattle.refusal.specs.Told.{Told, told, longest}
 use Rattle.refusal.specs.declared.Refusal.the-variants as why
-use Rattle.area.specs.Kind.{Sort}
+use Rattle.kinds.specs.Kind.{«CROSS_SCOPE_IMPORTS», Sort}
 use Rattle.find.specs.Find.{firstSub}
 use Rattle.body.specs.Imports.{Module, modules}
 use Rattle.table.specs.Table.{tableOf}
@@ -25,7 +25,7 @@ modulePlace p m = p
 
 -- THE PLACES of an area's modules, counted from the area's start
 abbrev pub importPlaces : (ℕ → Sort) → List ℕ → Listing ℕ Told
-importPlaces rule s = tableOf (λ (b : List ℕ). rowsPlaced moduleSize modulePlace 0 (modules b)) _+_ s (firstSub rule 0xf7 s)
+importPlaces rule s = tableOf (λ (b : List ℕ). rowsPlaced moduleSize modulePlace 0 (modules b)) _+_ s (firstSub rule «CROSS_SCOPE_IMPORTS» s)
 
 -- all places, if m slots are enough, else 10
 abbrev pub ifSlots : ℕ → Reply (List ℕ) Told → Reply (List ℕ) Told

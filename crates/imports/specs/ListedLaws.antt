@@ -13,7 +13,7 @@ use Rattle.refusal.specs.declared.Refusal.the-variants as why
 use Rattle.word.specs.Word.{u32At}
 use Rattle.word.specs.WordLaws.{u32-drop, u32-take}
 use Rattle.walk.specs.Pick.{onGave}
-use Rattle.area.specs.Kind.{Sort}
+use Rattle.kinds.specs.Kind.{Sort}
 use Rattle.find.specs.Find.{same, Span, firstSub}
 use Rattle.body.specs.Imports.{Module, modules}
 use Rattle.table.specs.Table.{tableOf}

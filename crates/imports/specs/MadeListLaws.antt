@@ -17,7 +17,7 @@ use Rattle.refusal.specs.Told.{Told, told, longest}
 use Rattle.refusal.specs.declared.Refusal.the-variants as why
 use Rattle.word.specs.Word.{u32At}
 use Rattle.word.specs.WordLaws.{u32-drop, u32-take}
-use Rattle.area.specs.Kind.{Sort}
+use Rattle.kinds.specs.Kind.{«CROSS_SCOPE_IMPORTS», Sort}
 use Rattle.area.specs.Subs.{Sub}
 use Rattle.area.specs.SubsLaws.{subs-long}
 use Rattle.find.specs.Find.{same, Span, is, spanOf, firstSub}
@@ -128,7 +128,7 @@ module _ (rule : ℕ → Sort) (s : List ℕ) (index : ℕ) where
       let answers : onGave (λ (qs : List ℕ). gave (map (refAt s index) qs)) (collected (importPlaces rule s))
       ≡ onGave (λ (ms : List Module). gave (map (refIn index) ms)) (collected (modulesOf rule s))
       = sym (collected-map (refAt s index) (importPlaces rule s))
-      ∙ ap collected (same-answers s index (firstSub rule 0xf7 s) (first-finds rule 0xf7 s))
+      ∙ ap collected (same-answers s index (firstSub rule «CROSS_SCOPE_IMPORTS» s) (first-finds rule «CROSS_SCOPE_IMPORTS» s))
       ∙ collected-map (refIn index) (modulesOf rule s) in
       ap (ifRef index) (sym (nth-map (refAt s index) (scopeOf index) ps missing))
       ∙ ap (λ (x : Reply (List ℕ) Told). onGave picked (onGave (λ (qs : List ℕ). gave (map (refAt s index) qs)) x)) e
@@ -139,7 +139,7 @@ module _ (rule : ℕ → Sort) (s : List ℕ) (index : ℕ) where
   unfolding firstBy collected
   too-long h =
       sym (ap (λ (l : Listing Sub Told). onGave (refOf index)
-      (collected (tableOf modules (λ (_ : ℕ) (m : Module). m) s (mapReply spanOf same (firstBy (is 0xf7) l))))) (subs-long rule s 0 h))
+      (collected (tableOf modules (λ (_ : ℕ) (m : Module). m) s (mapReply spanOf same (firstBy (is «CROSS_SCOPE_IMPORTS») l))))) (subs-long rule s 0 h))
 
   -- THE THEOREM for a list: with the slots that it took, left as they were, a reference is resolved as in the area
   pub listed-resolves : (xs : List ℕ) (n : ℕ) → gave n ≡ importList rule s (length xs)

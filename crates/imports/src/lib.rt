@@ -1,4 +1,4 @@
-// The imports of an area: modules, each a name and the words that are imported from it, in the first subsection of kind 0xf7 (crate:
+// The imports of an area: modules, each a name and the words that are imported from it, in the first subsection of kind CROSS_SCOPE_IMPORTS (crate:
 // `CrossModuleImports`, `CrossScopeImportModule`).
 //
 // A module's words are answered by their place in the lent area and their number, from which `table::word_in` reads each; nothing is copied.
@@ -9,7 +9,7 @@ ghost use lib.ListN.{length, drop};
 ghost use Rattle.refusal.specs.Told.{longest};
 ghost use Rattle.word.specs.Word.{u32At};
 ghost use Rattle.walk.specs.Pick.{onGave};
-ghost use Rattle.area.specs.Kind.{crateRule};
+ghost use Rattle.kinds.specs.Kind.{crateRule};
 ghost use Rattle.body.specs.Imports.{modules};
 ghost use Rattle.table.specs.Collect.{collected, listingCount};
 ghost use Rattle.imports.specs.Imports.{moduleAt, moduleOf, importStep, ifRef, refIn, refOf, resolveImport};
@@ -18,15 +18,13 @@ ghost use Rattle.imports.specs.ListedLaws.{placesIn, placesFrom};
 ghost use Rattle.imports.specs.Told.{toldModule, toldImportStep, toldResolved, toldList};
 use find::Found;
 use find::first_of;
+use kinds::CROSS_SCOPE_IMPORTS;
 use refusal::LONGEST;
 use refusal::Refusal;
 use table::Spot;
 use table::TableWalk;
 use table::spot_first;
 use word::u32_at;
-
-// The kind of subsection that holds imports.
-const CROSS_SCOPE_IMPORTS: u32 = 0xf7;
 
 // What stands at a place of an import body; places count from the body's start.
 pub enum ModuleStep {

@@ -13,7 +13,7 @@ use Rattle.word.specs.Word.{u32At}
 use Rattle.walk.specs.Listing.{Move, item, pass, over, fail, Listing, fails, moved, all, Answer, gives, none, refuses}
 use Rattle.refusal.specs.Told.{Told, told}
 use Rattle.refusal.specs.declared.Refusal.the-variants as why
-use Rattle.area.specs.Kind.{Sort}
+use Rattle.kinds.specs.Kind.{«INLINEE_LINES», Sort}
 use Rattle.find.specs.Find.{firstSub}
 use Rattle.table.specs.Table.{tableStep, tableOf}
 use Rattle.table.specs.declared.TableWalk.{TableWalk}
@@ -63,11 +63,11 @@ show start e = record { inlinee = e .inlinee; file = e .file; line = e .line; ex
 
 -- one step of a walk over the inlinees of an area
 unfoldable pub inlineeStep : (ℕ → Sort) → List ℕ → TableWalk → Answer TableWalk SourceLine Told
-inlineeStep rule s = tableStep sourceLineAt show (firstSub rule 0xf6 s) s
+inlineeStep rule s = tableStep sourceLineAt show (firstSub rule «INLINEE_LINES» s) s
 
 -- THE INLINEES of an area
 abbrev pub inlineesIn : (ℕ → Sort) → List ℕ → Listing SourceLine Told
-inlineesIn rule s = tableOf (λ (b : List ℕ). sourceLinesFrom b 0) show s (firstSub rule 0xf6 s)
+inlineesIn rule s = tableOf (λ (b : List ℕ). sourceLinesFrom b 0) show s (firstSub rule «INLINEE_LINES» s)
 
 -- an entry with its extra files in place of where they stand in s
 abbrev pub inlineeSpelt : List ℕ → SourceLine → Inlinee

@@ -7,7 +7,7 @@ use lib.ListN.{length, take, drop}
 use Rattle.walk.specs.Listing.{Listing, mapped, gave, nothing, calls, replies}
 use Rattle.walk.specs.ListingLaws.{Every}
 use Rattle.refusal.specs.Told.{Told, longest}
-use Rattle.area.specs.Kind.{Sort}
+use Rattle.kinds.specs.Kind.{«INLINEE_LINES», Sort}
 use Rattle.find.specs.Find.{same, firstSub, firstBytes}
 use Rattle.table.specs.StepLaws.{Steps, steps}
 use Rattle.table.specs.TableLaws.{first-finds, table-walk}
@@ -25,23 +25,25 @@ use Rattle.inlinees.specs.SourceLineLaws.{lines-step, In, lines-in, line
 
 -- ---- a walk over the inlinees of an area
 
-pub inlinee-steps : (rule : ℕ → Sort) (s : List ℕ) (w : TableWalk) → Steps sourceLineAt show toldSourceLine (firstSub rule 0xf6 s) s w (inlineeStep rule s w)
+pub inlinee-steps : (rule : ℕ → Sort) (s : List ℕ) (w : TableWalk) → Steps sourceLineAt show toldSourceLine (firstSub rule «INLINEE_LINES» s) s w
+    (inlineeStep rule s w)
 unfolding inlineeStep
-inlinee-steps rule s w = steps sourceLineAt show toldSourceLine (firstSub rule 0xf6 s) s w (first-finds rule 0xf6 s)
+inlinee-steps rule s w = steps sourceLineAt show toldSourceLine (firstSub rule «INLINEE_LINES» s) s w (first-finds rule «INLINEE_LINES» s)
 
 -- THE WALK: n calls from a new walk on answer the inlinees in order, and then the end, or the same refusal, again and again
 pub inlinees-walk : (rule : ℕ → Sort) (s : List ℕ) (n : ℕ) → calls (inlineeStep rule s) n walk.New ≡ replies n (inlineesIn rule s)
 unfolding inlineeStep
 inlinees-walk rule s n =
-    table-walk sourceLineAt show sourceLinesFrom lines-step s (firstSub rule 0xf6 s) (first-finds rule 0xf6 s) n
+    table-walk sourceLineAt show sourceLinesFrom lines-step s (firstSub rule «INLINEE_LINES» s) (first-finds rule «INLINEE_LINES» s) n
 
 -- ---- the words of extra files
 
 -- THE THEOREM: the inlinees of an area, with their extra files, are what the bytes of its first inlinee body say
-pub inlinees-mean : (rule : ℕ → Sort) (s : List ℕ) → mapped (inlineeSpelt s) same (inlineesIn rule s) ≡ ofBody inlineesOf (firstBytes rule 0xf6 s)
+pub inlinees-mean : (rule : ℕ → Sort) (s : List ℕ) → mapped (inlineeSpelt s) same (inlineesIn rule s) ≡ ofBody inlineesOf (firstBytes rule «INLINEE_LINES» s)
 inlinees-mean rule s =
-    table-means (λ (b : List ℕ). sourceLinesFrom b 0) show In (λ b. lines-in b 0) s inlineeSpelt inlineeSpelt moves (firstSub rule 0xf6 s) (first-finds rule 0xf6 s)
-    ∙ ap (λ (f : List ℕ → Listing Inlinee Told). ofBody f (firstBytes rule 0xf6 s)) (λ i b. lines-mean b i)
+    table-means (λ (b : List ℕ). sourceLinesFrom b 0) show In (λ b. lines-in b 0) s inlineeSpelt inlineeSpelt moves (firstSub rule «INLINEE_LINES» s)
+        (first-finds rule «INLINEE_LINES» s)
+    ∙ ap (λ (f : List ℕ → Listing Inlinee Told). ofBody f (firstBytes rule «INLINEE_LINES» s)) (λ i b. lines-mean b i)
   where
     moves : (start n : ℕ) (e : SourceLine) → start + n ≤ length s → length s ≤ longest → In n e → inlineeSpelt s (show start e) ≡ inlineeSpelt (take n (drop start s)) e
     moves start n e h m q =
@@ -56,4 +58,4 @@ extra-files rule s =
     table-every (λ (b : List ℕ). sourceLinesFrom b 0) show In (λ b. lines-in b 0) s
     (λ (e : SourceLine). (i : ℕ) → wordIn s (e .extra) (e .count) i ≡ ofNth i (inlineeSpelt s e .extra) nothing gave)
     (λ start n e h m q i. word-of s (start + e .extra) (e .count) i m (omega arith))
-    (firstSub rule 0xf6 s) (first-finds rule 0xf6 s)
+    (firstSub rule «INLINEE_LINES» s) (first-finds rule «INLINEE_LINES» s)

@@ -1,4 +1,4 @@
-// The inlinees of an area: the entries of its first subsection of kind 0xf6, behind the body's signature (crate: `InlineeIterator`,
+// The inlinees of an area: the entries of its first subsection of kind INLINEE_LINES, behind the body's signature (crate: `InlineeIterator`,
 // `DebugInlineeLinesIterator`, `InlineeSourceLine`).
 //
 // An entry with extra files says where their words stand and how many there are; `table::word_in` hands out one of them.
@@ -6,10 +6,11 @@ ghost use mathlib.Core.Path.{_≡_};
 ghost use Prim.Native.Nat.{_+_, _*_, _≤_};
 ghost use lib.ListN.{length};
 ghost use Rattle.walk.specs.Listing.{gives};
-ghost use Rattle.area.specs.Kind.{crateRule};
+ghost use Rattle.kinds.specs.Kind.{crateRule};
 ghost use Rattle.inlinees.specs.Inlinees.{entryPlace, sourceLineAt, inlineeStep};
 ghost use Rattle.inlinees.specs.SourceLineLaws.{lineAt, extendedAt};
 ghost use Rattle.inlinees.specs.Told.{toldSourceLine, toldInlinee};
+use kinds::INLINEE_LINES;
 use refusal::Refusal;
 use table::Spot;
 use table::TableWalk;
@@ -109,7 +110,7 @@ pub enum InlineeStep {
 pub fn next_inlinee(area: &[u8], walk: TableWalk) -> InlineeStep
     ensures { λ r. ⌜ toldInlinee r ≡ inlineeStep crateRule (now (area .entry)) walk ⌝ }
 {
-    match spot_first(area, 0xf6, walk) {
+    match spot_first(area, INLINEE_LINES, walk) {
         Spot::At { start, len, at } => match source_line_at(&area[start..start + len], at) {
             SourceLineStep::SourceLine {
                 inlinee,

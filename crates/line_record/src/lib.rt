@@ -2,7 +2,8 @@
 //
 // Everything is decided by the words alone: no call here reads an area.
 ghost use mathlib.Core.Path.{_≡_};
-ghost use Rattle.line_record.specs.Flags.{startLine, endLine, lineKind, isMarker};
+ghost use Rattle.line_record.specs.Flags.{startLine, lineKind, isMarker};
+ghost use Rattle.line_record.specs.EndLine.{endLine};
 ghost use Rattle.line_record.specs.Record.{emptyRecord, columnIf, startColumn, endColumn, recordOf, entryOf, shorterOf, withLength, closedAt};
 ghost use Rattle.line_record.specs.Told.{toldLineEntry};
 use refusal::Refusal;
@@ -67,9 +68,9 @@ pub fn start_line(flags: u32) -> u32
     flags % (LineRecord::MAX_START_LINE + 1)
 }
 
-// The end line as the crate reads it: the start line. Its `flags & 0x7f00_0000 >> 24` shifts first, so that it masks with 0x7f and takes the
-// low seven bits of the start line itself; put below the start line's other bits they are the start line again, and its step that adds 128
-// to an end before the start is never reached. This is the one place where an end line is read.
+// The end line as the crate reads it. The crate joins bits and then adds 128 where the result lies below the start line; that step is never reached
+// (`step-never` of specs/EndLineLaws.antt), and what it joins is the start line (`end-is-start`), so neither stands here. This is the one place where
+// an end line is read.
 pub fn end_line(flags: u32) -> u32
     ensures { λ r. ⌜ r ≡ endLine flags ⌝ }
 {

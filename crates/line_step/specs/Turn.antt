@@ -11,7 +11,7 @@ use Rattle.word.specs.Word.{u32At}
 use Rattle.walk.specs.Listing.{Move, item, pass, over, fail, Answer, gives, none, refuses, Reply, gave, nothing, refused}
 use Rattle.refusal.specs.Told.{Told, told, longest}
 use Rattle.refusal.specs.declared.Refusal.the-variants as why
-use Rattle.area.specs.Kind.{Sort}
+use Rattle.kinds.specs.Kind.{Sort}
 use Rattle.body.specs.Lines.{lineHeadSize, lineHead, columned}
 use Rattle.find.specs.Find.{Span, bytesAt}
 use Rattle.line_record.specs.Record.{maxOffset, columnIf, headSource, entryOf, closedAt}

@@ -13,7 +13,7 @@ use Rattle.walk.specs.Cases.{tests, by-cases}
 use Rattle.walk.specs.Listing.{item, pass, fail, Answer, gives, none, refuses, Reply, gave, nothing, refused}
 use Rattle.refusal.specs.Told.{Told, told, longest}
 use Rattle.refusal.specs.declared.Refusal.the-variants as why
-use Rattle.area.specs.Kind.{Sort}
+use Rattle.kinds.specs.Kind.{Sort}
 use Rattle.body.specs.Lines.{lineHeadSize, lineHead, columned, lineBytes}
 use Rattle.find.specs.Find.{Span, bytesAt}
 use Rattle.line_record.specs.Record.{maxOffset, columnIf, entryOf, closedAt}

@@ -5,7 +5,7 @@
 // public too, and answer for every state, so that whoever makes many turns at once makes them by the same moves.
 ghost use mathlib.Core.Path.{_≡_};
 ghost use Prim.Native.Nat.{_+_, _-_, _*_, _≤_, _<_, _^_};
-ghost use Rattle.area.specs.Kind.{crateRule};
+ghost use Rattle.kinds.specs.Kind.{crateRule};
 ghost use Rattle.line_record.specs.Told.{toldLineEntry};
 ghost use Rattle.line_step.specs.Turn.{sourceOf, lineEntryAt, freshRest, withHeld, pastLines, holdOf, lineTurn, columnPlace, nextBlock, endHeld};
 ghost use Rattle.line_step.specs.Turn.{endOf, blockTurn, insideTurn, placeAt, enterPlace, behindBody, subTurn, finishOf, betweenTurn, openOf, turnOf};

@@ -11,7 +11,7 @@ use Rattle.walk.specs.Listing.{Listing, more, ends, fails, before, Reply, gave,
 use Rattle.walk.specs.FailsLaws.{FailsBy}
 use Rattle.refusal.specs.Told.{Told, told}
 use Rattle.refusal.specs.declared.Refusal.the-variants as why
-use Rattle.area.specs.Kind.{Sort}
+use Rattle.kinds.specs.Kind.{Sort}
 use Rattle.body.specs.Lines.{LineHead, lineHeadSize, lineHead, columned, Block, blocks}
 use Rattle.body.specs.LinesLaws.{blocks-by}
 use Rattle.line_record.specs.declared.LineSource.{LineSource}

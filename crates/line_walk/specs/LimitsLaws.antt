@@ -9,7 +9,7 @@ use Rattle.walk.specs.Listing.{Listing, more, ends, fails, Reply, gave, nothing
 use Rattle.walk.specs.ListingLaws.{Every}
 use Rattle.walk.specs.PickLaws.{Gives}
 use Rattle.refusal.specs.Told.{Told}
-use Rattle.area.specs.Kind.{Sort}
+use Rattle.kinds.specs.Kind.{Sort}
 use Rattle.body.specs.Lines.{LineHead, lineHead, columned, Block, blocks}
 use Rattle.line_record.specs.declared.LineRecord.{LineRecord}
 use Rattle.line_record.specs.Record.{maxOffset, headSource, entryOf, closedAt}

@@ -12,7 +12,7 @@ use lib.Dec.{ltb}
 use Rattle.walk.specs.Listing.{Listing, more, ends, fails, before, Reply, gave, nothing, refused}
 use Rattle.refusal.specs.Told.{Told, told}
 use Rattle.refusal.specs.declared.Refusal.the-variants as why
-use Rattle.area.specs.Kind.{Sort}
+use Rattle.kinds.specs.Kind.{Sort}
 use Rattle.body.specs.Lines.{LineHead, lineHeadSize, lineHead, columned, Block, blocks}
 use Rattle.line_record.specs.Record.{maxOffset, headSource, entryOf, closedAt}
 use Rattle.line_record.specs.declared.LineRecord.{LineRecord}

@@ -7,7 +7,7 @@ use lib.ListN.{length}
 use Rattle.walk.specs.Listing.{Answer, Reply, gave, nothing, refused}
 use Rattle.walk.specs.First.{first}
 use Rattle.refusal.specs.Told.{Told}
-use Rattle.area.specs.Kind.{Sort}
+use Rattle.kinds.specs.Kind.{Sort}
 use Rattle.line_record.specs.declared.LineRecord.{LineRecord}
 use Rattle.lines.specs.Lines.{countLines}
 use Rattle.line_step.specs.Turn.{turnOf}

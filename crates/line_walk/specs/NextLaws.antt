@@ -14,7 +14,7 @@ use Rattle.walk.specs.First.{onFirst}
 use Rattle.walk.specs.FirstLaws.{first-is, pass-falls}
 use Rattle.walk.specs.PickLaws.{Gives}
 use Rattle.refusal.specs.Told.{Told, longest}
-use Rattle.area.specs.Kind.{Sort}
+use Rattle.kinds.specs.Kind.{Sort}
 use Rattle.find.specs.Find.{Span}
 use Rattle.line_record.specs.Record.{maxOffset}
 use Rattle.line_record.specs.declared.LineRecord.{LineRecord}

@@ -20,7 +20,7 @@ use Rattle.walk.specs.Pick.{mapReply}
 use Rattle.walk.specs.PickLaws.{Gives}
 use Rattle.refusal.specs.Told.{Told, told, longest}
 use Rattle.refusal.specs.declared.Refusal.the-variants as why
-use Rattle.area.specs.Kind.{Sort}
+use Rattle.kinds.specs.Kind.{Sort}
 use Rattle.body.specs.Words.{wordsIn}
 use Rattle.body.specs.Lines.{LineHead, lineHead, columned, columnsOf, blocks}
 use Rattle.find.specs.Find.{same, Span, bytesAt}

@@ -2,7 +2,7 @@
 //
 // `LineWalk::New` starts it. Where there is no record, and where it is refused, the caller keeps its walk, so that the answer repeats.
 ghost use mathlib.Core.Path.{_≡_};
-ghost use Rattle.area.specs.Kind.{crateRule};
+ghost use Rattle.kinds.specs.Kind.{crateRule};
 ghost use Rattle.line_walk.specs.Next.{nextOf};
 ghost use Rattle.line_walk.specs.Told.{toldLine};
 use line_record::LineRecord;

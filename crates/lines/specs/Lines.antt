@@ -10,7 +10,7 @@ use Rattle.walk.specs.Listing.{Listing, more, ends, fails, Reply, gave, nothing
 use Rattle.walk.specs.Pick.{only}
 use Rattle.refusal.specs.Told.{Told, told}
 use Rattle.refusal.specs.declared.Refusal.the-variants as why
-use Rattle.area.specs.Kind.{Sort}
+use Rattle.kinds.specs.Kind.{LINES, Sort}
 use Rattle.area.specs.Subs.{Sub, subsFrom}
 use Rattle.body.specs.Lines.{lineHeadSize}
 use Rattle.find.specs.Find.{is, Span, bytesAt}
@@ -23,7 +23,7 @@ headed (fails t) = fails t
 
 -- the line subsections from a place on, to the end of the area or the first refusal
 abbrev pub linesFrom : (ℕ → Sort) → List ℕ → ℕ → Listing Sub Told
-linesFrom rule s p = headed (only (is 0xf2) (subsFrom rule s p))
+linesFrom rule s p = headed (only (is LINES) (subsFrom rule s p))
 
 -- the number of a listing's records, if it does not fail
 abbrev pub plus : {R : Type 0} → ℕ → Reply ℕ R → Reply ℕ R

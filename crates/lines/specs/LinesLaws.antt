@@ -12,7 +12,7 @@ use Rattle.walk.specs.Listing.{Listing, more, ends, fails, Reply, gave, nothing
 use Rattle.walk.specs.Pick.{only}
 use Rattle.refusal.specs.Told.{Told, told, longest}
 use Rattle.refusal.specs.declared.Refusal.the-variants as why
-use Rattle.area.specs.Kind.{Sort}
+use Rattle.kinds.specs.Kind.{LINES, Sort}
 use Rattle.area.specs.Subs.{Sub, stepAt}
 use Rattle.area.specs.SubsLaws.{sub-next, sub-end, sub-refused, subs-long}
 use Rattle.find.specs.Find.{is}
@@ -20,18 +20,18 @@ use Rattle.lines.specs.Lines.{headed, linesFrom, plus, countOf, countLin
 
 module _ (rule : ℕ → Sort) (s : List ℕ) (p : ℕ) where
   module _ (b : Sub) (x : ℕ) (q : gives b x ≡ stepAt rule s p) where
-    pub line-other : (b .kind ≡ 0xf2 → ⊥) → linesFrom rule s x ≡ linesFrom rule s p
+    pub line-other : (b .kind ≡ LINES → ⊥) → linesFrom rule s x ≡ linesFrom rule s p
     unfolding only
-    line-other h = rw (← sub-next rule s p b x q .is, ne-eqb (b .kind) 0xf2 h)
+    line-other h = rw (← sub-next rule s p b x q .is, ne-eqb (b .kind) LINES h)
 
-    module _ (h₁ : b .kind ≡ 0xf2) where
+    module _ (h₁ : b .kind ≡ LINES) where
       pub line-short : b .len < 12 → fails (told why.Cut) ≡ linesFrom rule s p
       unfolding only headed
-      line-short h = rw (← sub-next rule s p b x q .is, eq-eqb (b .kind) 0xf2 h₁, lt-ltb (b .len) 12 h)
+      line-short h = rw (← sub-next rule s p b x q .is, eq-eqb (b .kind) LINES h₁, lt-ltb (b .len) 12 h)
 
       pub line-more : 12 ≤ b .len → more b (linesFrom rule s x) ≡ linesFrom rule s p
       unfolding only headed
-      line-more h = rw (← sub-next rule s p b x q .is, eq-eqb (b .kind) 0xf2 h₁, le-ltb (b .len) 12 h)
+      line-more h = rw (← sub-next rule s p b x q .is, eq-eqb (b .kind) LINES h₁, le-ltb (b .len) 12 h)
 
   pub line-end : none ≡ stepAt rule s p → ends ≡ linesFrom rule s p
   unfolding only headed
@@ -70,7 +70,7 @@ module _ {B R : Type 0} (n : ℕ) (l : Listing B R) where
 
 pub count-long : (rule : ℕ → Sort) (s : List ℕ) → longest < length s → refused (told why.TooLong) ≡ countLines rule s
 unfolding only headed countOf
-count-long rule s h = ap (λ (l : Listing Sub Told). countOf (headed (only (is 0xf2) l))) (sym (subs-long rule s 0 h))
+count-long rule s h = ap (λ (l : Listing Sub Told). countOf (headed (only (is LINES) l))) (sym (subs-long rule s 0 h))
 
 pub counted-short : (rule : ℕ → Sort) (s : List ℕ) (n : ℕ) → gave n ≡ countLines rule s → length s ≤ longest
 counted-short rule s n e =

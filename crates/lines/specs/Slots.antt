@@ -13,14 +13,14 @@ use Rattle.walk.specs.Listing.{Listing, more, ends, fails, Reply, gave, nothing
 use Rattle.walk.specs.Pick.{firstBy, mapReply}
 use Rattle.refusal.specs.Told.{Told, told}
 use Rattle.refusal.specs.declared.Refusal.the-variants as why
-use Rattle.area.specs.Kind.{Sort}
+use Rattle.kinds.specs.Kind.{LINES, Sort}
 use Rattle.area.specs.Subs.{Sub, subsFrom}
 use Rattle.find.specs.Find.{same, Span, spanOf}
 use Rattle.lines.specs.Lines.{countLines, Body, bodyOn}
 
 -- a line subsection whose body starts at v
 abbrev pub startsAt : ℕ → Sub → Bool
-startsAt v b = eqb (b .start) v && eqb (b .kind) 0xf2
+startsAt v b = eqb (b .start) v && eqb (b .kind) LINES
 
 -- where the line body that starts at v stands, among the subsections of a listing and of the area from p on
 abbrev pub bodyIn : ℕ → Listing Sub Told → Reply Span Told

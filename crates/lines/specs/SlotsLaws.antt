@@ -17,7 +17,7 @@ use Rattle.walk.specs.Pick.{firstBy, mapReply}
 use Rattle.walk.specs.PickLaws.{Gives}
 use Rattle.refusal.specs.Told.{Told, told}
 use Rattle.refusal.specs.declared.Refusal.the-variants as why
-use Rattle.area.specs.Kind.{Sort}
+use Rattle.kinds.specs.Kind.{LINES, Sort}
 use Rattle.area.specs.Subs.{Sub, subsFrom, stepAt}
 use Rattle.area.specs.SubsLaws.{Inside, subs-inside, Chained, subs-chained}
 use Rattle.find.specs.Find.{same, Span, spanOf}
@@ -34,11 +34,11 @@ module _ (rule : ℕ → Sort) (s : List ℕ) (p v : ℕ) (b : Sub) (x : ℕ) (q
   pub seek-miss : (b .start ≡ v → ⊥) → bodyFrom rule s x v ≡ bodyFrom rule s p v
   seek-miss h = first-miss rule s p (startsAt v) b x q (starts-not v b h)
 
-  pub seek-other : b .start ≡ v → (b .kind ≡ 0xf2 → ⊥) → bodyFrom rule s x v ≡ bodyFrom rule s p v
-  seek-other h₁ h = first-miss rule s p (startsAt v) b x q (rw (eq-eqb (b .start) v h₁, ne-eqb (b .kind) 0xf2 h))
+  pub seek-other : b .start ≡ v → (b .kind ≡ LINES → ⊥) → bodyFrom rule s x v ≡ bodyFrom rule s p v
+  seek-other h₁ h = first-miss rule s p (startsAt v) b x q (rw (eq-eqb (b .start) v h₁, ne-eqb (b .kind) LINES h))
 
-  pub seek-hit : b .start ≡ v → b .kind ≡ 0xf2 → gave (spanOf b) ≡ bodyFrom rule s p v
-  seek-hit h₁ h = first-hit rule s p (startsAt v) b x q (rw (eq-eqb (b .start) v h₁, eq-eqb (b .kind) 0xf2 h))
+  pub seek-hit : b .start ≡ v → b .kind ≡ LINES → gave (spanOf b) ≡ bodyFrom rule s p v
+  seek-hit h₁ h = first-hit rule s p (startsAt v) b x q (rw (eq-eqb (b .start) v h₁, eq-eqb (b .kind) LINES h))
 
 -- ---- where a body lies
 
@@ -46,7 +46,7 @@ abbrev Lies : ℕ → ℕ → Span → Type 0
 Lies m v a = (a .start ≡ v) × (a .start + a .len ≤ m)
 
 starts-start : (v : ℕ) (b : Sub) → startsAt v b ≡ true → b .start ≡ v
-starts-start v b e = eqb-true (b .start) v (and-true (eqb (b .start) v) (eqb (b .kind) 0xf2) e .0)
+starts-start v b e = eqb-true (b .start) v (and-true (eqb (b .start) v) (eqb (b .kind) LINES) e .0)
 
 lies-in : (m v : ℕ) (l : Listing Sub Told) → Every (Inside m) l → Gives (Lies m v) (bodyIn v l)
 unfolding firstBy

@@ -4,7 +4,7 @@
 // `header_of` and `block_at` read a line body that is lent alone. `count_lines`, `seek` and `slot_body` read an area, and test number 11 first,
 // since each goes through `sub_at`.
 ghost use mathlib.Core.Path.{_≡_};
-ghost use Rattle.area.specs.Kind.{crateRule};
+ghost use Rattle.kinds.specs.Kind.{crateRule};
 ghost use Rattle.body.specs.Lines.{lineHead, columned, lineBytes};
 ghost use Rattle.find.specs.Told.{toldFound};
 ghost use Rattle.lines.specs.Lines.{countLines};
@@ -14,6 +14,7 @@ ghost use Rattle.lines.specs.Told.{toldHeader, toldBlock, toldCounted, t
 use area::SubStep;
 use area::sub_at;
 use find::Found;
+use kinds::LINES;
 use refusal::Refusal;
 use word::u16_at;
 use word::u32_at;
@@ -129,7 +130,7 @@ pub fn count_lines(area: &[u8]) -> Counted
                 len,
                 next,
             } => {
-                if kind == 0xf2 {
+                if kind == LINES {
                     if len < LINE_HEAD {
                         return Counted::Refused(Refusal::Cut);
                     }
@@ -161,7 +162,7 @@ pub fn seek(area: &[u8], from: usize, body: usize) -> Found
                 next,
             } => {
                 if start == body {
-                    if kind == 0xf2 {
+                    if kind == LINES {
                         return Found::At { start, len };
                     }
                 }

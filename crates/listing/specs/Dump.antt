@@ -10,7 +10,7 @@ use lib.Dec.{ltb}
 use Rattle.walk.specs.Listing.{Listing, more, ends, fails, mapped, andThen, Reply, gave, nothing, refused}
 use Rattle.refusal.specs.Told.{Told, told}
 use Rattle.refusal.specs.declared.Refusal.the-variants as why
-use Rattle.area.specs.Kind.{Sort}
+use Rattle.kinds.specs.Kind.{Sort}
 use Rattle.area.specs.Subs.{Sub, subsFrom}
 use Rattle.find.specs.Find.{same}
 use Rattle.lines.specs.Lines.{countLines}

@@ -14,7 +14,7 @@ use Rattle.walk.specs.CallsLaws.{replies-same, calls-step}
 use Rattle.walk.specs.FirstLaws.{all-first}
 use Rattle.refusal.specs.Told.{Told, told}
 use Rattle.refusal.specs.declared.Refusal.the-variants as why
-use Rattle.area.specs.Kind.{Sort}
+use Rattle.kinds.specs.Kind.{Sort}
 use Rattle.area.specs.Subs.{subsFrom, stepAt}
 use Rattle.area.specs.SubsLaws.{steps-are}
 use Rattle.find.specs.Find.{same}

@@ -13,7 +13,7 @@ use Rattle.walk.specs.FirstLaws.{first-less}
 use Rattle.walk.specs.PickLaws.{Gives}
 use Rattle.refusal.specs.Told.{Told, told, longest}
 use Rattle.refusal.specs.declared.Refusal.the-variants as why
-use Rattle.area.specs.Kind.{Sort}
+use Rattle.kinds.specs.Kind.{Sort}
 use Rattle.area.specs.Subs.{Sub, stepAt}
 use Rattle.area.specs.SubsLaws.{Next, sub-next}
 use Rattle.find.specs.Find.{Span}

@@ -14,7 +14,7 @@ use Rattle.walk.specs.WithinLaws.{Within}
 use Rattle.walk.specs.Pick.{only}
 use Rattle.refusal.specs.Told.{Told, told}
 use Rattle.refusal.specs.declared.Refusal.the-variants as why
-use Rattle.area.specs.Kind.{Sort}
+use Rattle.kinds.specs.Kind.{LINES, Sort}
 use Rattle.area.specs.Subs.{Sub, subsFrom}
 use Rattle.area.specs.SubsLaws.{SubLies, subs-ind}
 use Rattle.find.specs.Find.{is}
@@ -23,7 +23,7 @@ use Rattle.lines.specs.Lines.{headed, plus, countOf, countLines}
 module _ (rule : ℕ → Sort) (s : List ℕ) where
   -- n line subsections from p on take 20 bytes each
   Took : ℕ → Listing Sub Told → Type 0
-  Took p l = (n : ℕ) → gave n ≡ countOf (headed (only (is 0xf2) l)) → p ≤ length s → p + 20 * n ≤ length s
+  Took p l = (n : ℕ) → gave n ≡ countOf (headed (only (is LINES) l)) → p ≤ length s → p + 20 * n ≤ length s
 
   one-more : (p x n : ℕ) (y : Reply ℕ Told) → p + 20 ≤ x → ((m : ℕ) → gave m ≡ y → x + 20 * m ≤ length s) → gave n ≡ plus 1 y → p + 20 * n ≤ length s
   one-more p x n (gave m) h f e = let q : n ≡ 1 + m = cc in omega (arith, f m refl)
@@ -32,10 +32,10 @@ module _ (rule : ℕ → Sort) (s : List ℕ) where
 
   took : (p : ℕ) (u : Move ℕ Sub Told) → Within 8 SubLies (length s) p u → To u (λ t. Took t (subsFrom rule s t)) → Took p (onMove (subsFrom rule s) u)
   unfolding Took headed only countOf
-  took p (item b x) w f n e h = by (eqb (b .kind) 0xf2) e
+  took p (item b x) w f n e h = by (eqb (b .kind) LINES) e
     where
       k : Listing Sub Told
-      k = only (is 0xf2) (subsFrom rule s x)
+      k = only (is LINES) (subsFrom rule s x)
 
       -- a line subsection: its body has at least 12 bytes, or the tests fail
       long : (d : Bool) → ltb (b .len) 12 ≡ d → gave n ≡ countOf (cond d (fails (told why.Cut)) (more b (headed k))) → p + 20 * n ≤ length s

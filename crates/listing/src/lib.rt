@@ -5,7 +5,7 @@
 ghost use mathlib.Core.Path.{_≡_};
 ghost use Prim.Native.Nat.{_≤_};
 ghost use lib.ListN.{length};
-ghost use Rattle.area.specs.Kind.{crateRule};
+ghost use Rattle.kinds.specs.Kind.{crateRule};
 ghost use Rattle.text.specs.Told.{toldPlace};
 ghost use Rattle.printed.specs.Printed.{longestLine};
 ghost use Rattle.listing.specs.Step.{lineAnswer, linesStep, filesStep, subsStep, headStep, stepOf, lineShown, textStep, both};

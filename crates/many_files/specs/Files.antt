@@ -5,7 +5,7 @@ use Prim.Native.Nat.{ℕ, _+_}
 use mathlib.Core.List.{List, [], _∷_}
 use Rattle.walk.specs.Listing.{Answer}
 use Rattle.refusal.specs.Told.{Told}
-use Rattle.area.specs.Kind.{Sort}
+use Rattle.kinds.specs.Kind.{Sort}
 use Rattle.table.specs.declared.TableWalk.{TableWalk}
 use Rattle.files.specs.Files.{File, fileStep}
 use Rattle.answer_words.specs.Fill.{fillOf}

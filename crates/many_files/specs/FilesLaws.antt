@@ -15,7 +15,7 @@ use Rattle.walk.specs.Listing.{Answer, gives, none, refuses, calls, replies}
 use Rattle.walk.specs.Many.{many}
 use Rattle.walk.specs.ManyLaws.{NoRecord, gaveAll, many-calls}
 use Rattle.refusal.specs.Told.{Told}
-use Rattle.area.specs.Kind.{Sort}
+use Rattle.kinds.specs.Kind.{Sort}
 use Rattle.table.specs.declared.TableWalk.{TableWalk}
 use Rattle.table.specs.declared.TableWalk.the-variants as walk
 use Rattle.files.specs.Files.{File, fileStep, filesIn}

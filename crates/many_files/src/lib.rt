@@ -6,7 +6,7 @@
 ghost use mathlib.Core.Path.{_≡_};
 ghost use Prim.Native.Nat.{_≤_};
 ghost use lib.ListN.{length};
-ghost use Rattle.area.specs.Kind.{crateRule};
+ghost use Rattle.kinds.specs.Kind.{crateRule};
 ghost use Rattle.files.specs.Told.{toldFile};
 ghost use Rattle.walk.specs.Listing.{gives};
 ghost use Rattle.answer_words.specs.Fill.{noRoom, counted, filled};

@@ -12,7 +12,7 @@ use Rattle.walk.specs.Listing.{Answer, gives, none, refuses}
 use Rattle.walk.specs.Many.{asMany, many, manyOf}
 use Rattle.walk.specs.ManyLaws.{many-step, many-most}
 use Rattle.refusal.specs.Told.{Told}
-use Rattle.area.specs.Kind.{Sort}
+use Rattle.kinds.specs.Kind.{Sort}
 use Rattle.line_record.specs.declared.LineRecord.{LineRecord}
 use Rattle.line_state_words.specs.LineWords.{recordSize, recordWords}
 use Rattle.line_state_words.specs.LineWordsLaws.{record-length}

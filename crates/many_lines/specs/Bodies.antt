@@ -9,7 +9,7 @@ use Rattle.word.specs.Word.{u32At, store}
 use Rattle.walk.specs.Listing.{pass, over, Answer, gives, none, refuses, gave}
 use Rattle.refusal.specs.Told.{Told, told, longest}
 use Rattle.refusal.specs.declared.Refusal.the-variants as why
-use Rattle.area.specs.Kind.{Sort}
+use Rattle.kinds.specs.Kind.{LINES, Sort}
 use Rattle.find.specs.Find.{Span}
 use Rattle.lines.specs.Slots.{slotAt}
 use Rattle.lines.specs.Told.{toldNamed}
@@ -46,7 +46,7 @@ use Rattle.many_lines.specs.declared.LinesStep.{LinesStep}
 pub record Look (s : List ℕ) (p v n : ℕ) : Type 0 where
   pub short : length s ≤ longest
   pub place : p + 8 ≡ v
-  pub kind : u32At s p ≡ 0xf2
+  pub kind : u32At s p ≡ LINES
   pub len : u32At s (p + 4) ≡ n
   pub inside : v + n ≤ length s
 

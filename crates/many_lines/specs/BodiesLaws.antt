@@ -13,7 +13,7 @@ use Rattle.walk.specs.Listing.{item, pass, over, Answer, gives, none, refuses, 
 use Rattle.walk.specs.First.{onFirst}
 use Rattle.walk.specs.ManyLaws.{NoRecord}
 use Rattle.refusal.specs.Told.{Told, longest}
-use Rattle.area.specs.Kind.{Sort, known, crateRule}
+use Rattle.kinds.specs.Kind.{LINES, Sort, known, crateRule}
 use Rattle.area.specs.Subs.{stepAt}
 use Rattle.area.specs.SubsLaws.{wholeAs, head-whole, step-gives}
 use Rattle.find.specs.Find.{Span}
@@ -80,26 +80,26 @@ not-so e = let z : _≡_ {A = ℕ} 0 1 = cc in absurd (omega arith)
 
 -- ---- a search that ends at its first look
 
-pub crate-lines : crateRule 0xf2 ≡ known
+pub crate-lines : crateRule LINES ≡ known
 unfolding crateRule
 crate-lines = refl
 
-module _ (rule : ℕ → Sort) (lines : rule 0xf2 ≡ known) (s : List ℕ) (p u n : ℕ) (h : Look s p u n) where
-  look-whole : item (record { kind = 0xf2; start = p + 8; len = n }) (p + 8 + n) ≡ wholeAs rule 0xf2 p n
+module _ (rule : ℕ → Sort) (lines : rule LINES ≡ known) (s : List ℕ) (p u n : ℕ) (h : Look s p u n) where
+  look-whole : item (record { kind = LINES; start = p + 8; len = n }) (p + 8 + n) ≡ wholeAs rule LINES p n
   unfolding wholeAs
   look-whole = rw lines
 
-  look-step : gives (record { kind = 0xf2; start = p + 8; len = n }) (p + 8 + n) ≡ stepAt rule s p
-  look-step = step-gives rule s p (record { kind = 0xf2; start = p + 8; len = n }) (p + 8 + n)
+  look-step : gives (record { kind = LINES; start = p + 8; len = n }) (p + 8 + n) ≡ stepAt rule s p
+  look-step = step-gives rule s p (record { kind = LINES; start = p + 8; len = n }) (p + 8 + n)
       (look-whole
       ∙ head-whole rule s p (h .short) (omega (arith, h .place, h .inside)) (omega (arith, h .place, h .inside)) (omega (arith, h .place, h .inside))
-      (omega (arith, h .place, h .inside, h .len)) 0xf2 n (sym (h .kind)) (sym (h .len)))
+      (omega (arith, h .place, h .inside, h .len)) LINES n (sym (h .kind)) (sym (h .len)))
 
   pub look-slot : (v : List ℕ) (i : ℕ) → i < length v → getD v i 0 ≡ u → gave (record { start = u; len = n }) ≡ slotAt rule s v i p
   look-slot v i l e =
       ap (λ (k : ℕ). gave (record { start = k; len = n })) (sym (h .place))
       ∙ slot-is rule s v i p l p (gave (record { start = p + 8; len = n })) (scan-on p (getD v i 0) (omega (arith, h .place)))
-      (seek-hit rule s p (getD v i 0) (record { kind = 0xf2; start = p + 8; len = n }) (p + 8 + n) look-step (h .place ∙ sym e) refl)
+      (seek-hit rule s p (getD v i 0) (record { kind = LINES; start = p + 8; len = n }) (p + 8 + n) look-step (h .place ∙ sym e) refl)
 
 -- ---- the body that a slot names
 

@@ -7,7 +7,7 @@ use lib.ListN.{length}
 use Rattle.walk.specs.Listing.{calls, replies, gave}
 use Rattle.walk.specs.Many.{many}
 use Rattle.walk.specs.ManyLaws.{gaveAll, many-calls}
-use Rattle.area.specs.Kind.{Sort}
+use Rattle.kinds.specs.Kind.{Sort}
 use Rattle.order.specs.Order.{ordered, slotsAfter}
 use Rattle.line_step.specs.declared.LineWalk.the-variants.{New}
 use Rattle.line_walk.specs.Meaning.{recordsOf, areaRecords}

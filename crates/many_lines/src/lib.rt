@@ -11,7 +11,7 @@ ghost use mathlib.Core.Bool.{false};
 ghost use lib.ListN.{length};
 ghost use Rattle.word.specs.Word.{store};
 ghost use Rattle.refusal.specs.Told.{longest};
-ghost use Rattle.area.specs.Kind.{crateRule};
+ghost use Rattle.kinds.specs.Kind.{crateRule};
 ghost use Rattle.answer_words.specs.Fill.{noRoom, counted, filled};
 ghost use Rattle.line_state_words.specs.LineWords.{recordSize, recordWords};
 ghost use Rattle.line_step.specs.declared.LineWalk.the-variants.{New};
@@ -24,6 +24,7 @@ use body_lines::body_lines;
 use body_list::Known;
 use body_list::Located;
 use body_list::find_body;
+use kinds::LINES;
 use line_record::LineRecord;
 use line_state_words::RECORD_WORDS;
 use line_state_words::put_row;
@@ -80,7 +81,7 @@ fn first_look(area: &[u8], begin: usize, body: usize) -> Looked
     let head = &area[begin..begin + 8];
     let kind = u32_at(head, 0);
     let len = u32_at(head, 4) as usize;
-    if kind != 0xf2 {
+    if kind != LINES {
         return Looked::No;
     }
     if area.len() - body < len {

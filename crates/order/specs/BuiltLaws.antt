@@ -15,7 +15,7 @@ use Rattle.walk.specs.Cases.{by-cases}
 use Rattle.walk.specs.Listing.{Listing, more, ends, fails, mapped, before, gave}
 use Rattle.walk.specs.Pick.{only, firstBy, mapReply}
 use Rattle.refusal.specs.Told.{Told, longest, numberOf}
-use Rattle.area.specs.Kind.{Sort}
+use Rattle.kinds.specs.Kind.{LINES, Sort}
 use Rattle.area.specs.Parts.{Raw}
 use Rattle.area.specs.Subs.{Sub, subsFrom, bodies}
 use Rattle.area.specs.SubsLaws.{Chained, subs-chained, bodied, area-bodies}
@@ -33,14 +33,14 @@ use Rattle.slot_key.specs.RankLaws.{After, Ascends, stable}
 use Rattle.order.specs.Order.{orderOf, ordered, slotsAfter, bodyOf, lineBodies, keyOf, inOrder}
 
 abbrev lines : Listing Sub Told → List Sub
-lines l = listed (only (is 0xf2) l)
+lines l = listed (only (is LINES) l)
 
 -- ---- each line subsection of an area is the one that its body's start names
 
 abbrev Found : Listing Sub Told → ℕ → ℕ → Sub → Type 0
 Found l m p b = (p + 8 ≤ b .start) × (b .start + b .len ≤ m) × (bodyIn (b .start) l ≡ gave (spanOf b))
 
-first-found : (b : Sub) (l : Listing Sub Told) → eqb (b .kind) 0xf2 ≡ true → bodyIn (b .start) (more b l) ≡ gave (spanOf b)
+first-found : (b : Sub) (l : Listing Sub Told) → eqb (b .kind) LINES ≡ true → bodyIn (b .start) (more b l) ≡ gave (spanOf b)
 unfolding firstBy
 first-found b l e = rw (eq-eqb (b .start) (b .start) refl, e)
 
@@ -52,7 +52,7 @@ module _ (rule : ℕ → Sort) (s : List ℕ) where
       let rest = each-map (Found l (length s) x) (Found (more b l) (length s) p)
       (λ d f. (omega arith, f .1, sym (body-passed b l (d .start) (λ g. omega arith)) ∙ f .2))
       (lines l) (found l x (subst⁻¹ (Chained rule s x) (w .0) (subs-chained rule s x))) in
-      by-cases (λ (k : Listing Sub Told). Each (Found (more b l) (length s) p) (listed k)) (eqb (b .kind) 0xf2)
+      by-cases (λ (k : Listing Sub Told). Each (Found (more b l) (length s) p) (listed k)) (eqb (b .kind) LINES)
       (λ e. ((w .1, w .2, first-found b l e), rest)) (λ e. rest)
   found ends p w = tt
   found (fails t) p w = tt
@@ -69,7 +69,7 @@ module _ (rule : ℕ → Sort) (s : List ℕ) (short : length s ≤ longest) whe
   ascends (more b l) p w =
       let x = b .start + b .len in
       let c = subst⁻¹ (Chained rule s x) (w .0) (subs-chained rule s x) in
-      by-cases (λ (k : Listing Sub Told). Ascends (map subStart (listed k))) (eqb (b .kind) 0xf2)
+      by-cases (λ (k : Listing Sub Told). Ascends (map subStart (listed k))) (eqb (b .kind) LINES)
       (λ e. (omega arith, each-after (b .start) (length s) x l (lines l) (omega arith) short (found rule s l x c), ascends l x c))
       (λ e. ascends l x c)
   ascends ends p w = tt
@@ -124,7 +124,7 @@ listed-mapped g h ends = refl
 listed-mapped g h (fails r) = refl
 
 abbrev isLines : Raw → Bool
-isLines r = eqb (r .kind) 0xf2
+isLines r = eqb (r .kind) LINES
 
 abbrev rawBody : Raw → List ℕ
 rawBody r = r .body
@@ -140,7 +140,7 @@ map-map g f (x ∷ xs) = ap (λ l. f (g x) ∷ l) (map-map g f xs)
 pub line-bytes : (rule : ℕ → Sort) (s : List ℕ) → map bytesIn (lineBodies rule s) ≡ map rawBody (listed (only isLines (bodies rule s)))
 line-bytes rule s =
     sym (map-map (bodyOf s) bytesIn (lines (subsFrom rule s 0))) ∙ map-map (bodied s) rawBody (lines (subsFrom rule s 0))
-    ∙ ap (map rawBody) (listed-mapped (bodied s) numberOf (only (is 0xf2) (subsFrom rule s 0))
+    ∙ ap (map rawBody) (listed-mapped (bodied s) numberOf (only (is LINES) (subsFrom rule s 0))
     ∙ ap listed (only-mapped (bodied s) numberOf isLines (subsFrom rule s 0) ∙ ap (only isLines) (area-bodies rule s)))
 
 -- ---- what the slots name
@@ -176,7 +176,8 @@ module _ (rule : ℕ → Sort) (s : List ℕ) (n : ℕ) (e : gave n ≡ countLin
   bodies-are : map (bodyOf s) sorted ≡ inOrder rule s
   unfolding sorted bs
   bodies-are =
-      map-sort (weightOf s) keyOf (bodyOf s) bs (each-map (λ b. 12 ≤ b .len) (λ b. keyOf (bodyOf s b) ≡ weightOf s b) (same-key s) bs (whole (only (is 0xf2) (subsFrom rule s 0)) n e))
+      map-sort (weightOf s) keyOf (bodyOf s) bs (each-map (λ b. 12 ≤ b .len) (λ b. keyOf (bodyOf s b) ≡ weightOf s b) (same-key s) bs
+          (whole (only (is LINES) (subsFrom rule s 0)) n e))
 
   -- THE THEOREM for the slots: they hold where the line bodies start, in walk order
   pub order-starts : map bodyStart (inOrder rule s) ≡ orderOf rule s
@@ -203,4 +204,4 @@ built rule s xs n e =
 
 -- THE THEOREM for the list of bodies: it holds where the line bodies start, in the order of the area
 pub body-starts : (rule : ℕ → Sort) (s : List ℕ) → map bodyStart (lineBodies rule s) ≡ startsFrom rule s 0
-body-starts rule s = sym (map-map (bodyOf s) bodyStart (listed (only (is 0xf2) (subsFrom rule s 0))))
+body-starts rule s = sym (map-map (bodyOf s) bodyStart (listed (only (is LINES) (subsFrom rule s 0))))

@@ -8,7 +8,7 @@ use lib.ListN.{length}
 use Rattle.walk.specs.Listing.{Reply}
 use Rattle.walk.specs.Pick.{only}
 use Rattle.refusal.specs.Told.{Told}
-use Rattle.area.specs.Kind.{Sort}
+use Rattle.kinds.specs.Kind.{LINES, Sort}
 use Rattle.area.specs.Subs.{Sub, subsFrom}
 use Rattle.body.specs.Lines.{lineHead}
 use Rattle.find.specs.Find.{is, spanOf}
@@ -35,7 +35,7 @@ abbrev pub bodyOf : List ℕ → Sub → Body
 bodyOf s b = bodyOn s (spanOf b)
 
 abbrev pub lineBodies : (ℕ → Sort) → List ℕ → List Body
-lineBodies rule s = map (bodyOf s) (listed (only (is 0xf2) (subsFrom rule s 0)))
+lineBodies rule s = map (bodyOf s) (listed (only (is LINES) (subsFrom rule s 0)))
 
 unfoldable pub keyOf : Body → ℕ
 keyOf b = lineHead (b .bytes) .section * 0x1_0000_0000 + lineHead (b .bytes) .offset

@@ -5,7 +5,7 @@ use mathlib.Core.List.{List, _++_}
 use lib.ListN.{length, take, drop}
 use Rattle.walk.specs.Listing.{gave, refused}
 use Rattle.refusal.specs.Told.{Told}
-use Rattle.area.specs.Kind.{Sort}
+use Rattle.kinds.specs.Kind.{Sort}
 use Rattle.lines.specs.Lines.{countLines}
 use Rattle.body_list.specs.BodyList.{startsFrom, bodyList, slotsHolding, bodiesAfter}
 use Rattle.body_list.specs.BodyListLaws.{counted-starts, listed-counted}

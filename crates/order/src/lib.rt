@@ -2,7 +2,7 @@
 // `Vec` is the slots here).
 ghost use mathlib.Core.Path.{_≡_};
 ghost use lib.ListN.{length};
-ghost use Rattle.area.specs.Kind.{crateRule};
+ghost use Rattle.kinds.specs.Kind.{crateRule};
 ghost use Rattle.order.specs.Order.{ordered, slotsAfter};
 ghost use Rattle.order.specs.Told.{toldOrdered};
 use body_list::body_list;

@@ -3,9 +3,9 @@
 -- their padding zero; the signature of inlinees is 0 or 1; blocks are exactly filled; each export body strictly ascends by local index.
 -- Definitions only; a reader must believe them, but for `strict` to `plainBlock`, `tidy` to `inlineesMark`, `markOf`, `nothing-yet` to `Plain`: `in-words`
 -- (round_trip InWordsLaws), `last-is` (round_trip LastLaws) say what these mean.
-use Prim.Native.Nat.{ℕ, _+_, _%_, _≤_}
+use Prim.Native.Nat.{ℕ, _+_, _%_}
 use mathlib.Core.Path.{_≡_}
-use mathlib.Core.List.{List}
+use mathlib.Core.List.{List, [], _∷_}
 use mathlib.Core.Bool.{Bool, true, false, cond, _&&_}
 use mathlib.Core.Option.{Option, none, some}
 use lib.ListN.{length, drop, getD}
@@ -15,7 +15,7 @@ use Rattle.walk.specs.Listing.{Move, item, pass, over, fail, Listing, more, end
 use Rattle.refusal.specs.Told.{Told, told, longest}
 use Rattle.refusal.specs.declared.Refusal.the-variants as why
 use Rattle.area.specs.Parts.{Parts, parts}
-use Rattle.area.specs.Kind.{Sort, known}
+use Rattle.kinds.specs.Kind.{SYMBOLS, LINES, «STRING_TABLE», «FILE_CHECKSUMS», «FRAME_DATA», «INLINEE_LINES», «CROSS_SCOPE_IMPORTS», «CROSS_SCOPE_EXPORTS», «IL_LINES», «FUNC_MDTOKEN_MAP», «TYPE_MDTOKEN_MAP», «MERGED_ASSEMBLY_INPUT», «COFF_SYMBOL_RVA», knownKinds, among, Sort, known}
 use Rattle.body.specs.Lines.{lineHeadSize, lineHead, columned, lineBytes, Block, blockHeadSize, blockBite}
 use Rattle.body.specs.Checksums.{Checksum, checksumBite}
 use Rattle.body.specs.Inlinees.{extended, inlineeBite}
@@ -82,17 +82,21 @@ inlineesMark b =
     cond (ltb (length b) 4) none
     (cond (ltb 1 (u32At b 0)) none (marked (wholly (inlineeBite (extended (u32At b 0))) (drop 4 b)) (u32At b 0)))
 
--- the kinds whose bodies a writer takes as they are
+-- the kinds whose bodies a writer takes as they are: the known ones but for the five that have entries of their own
+abbrev pub opaqueKinds : List ℕ
+opaqueKinds =
+    SYMBOLS ∷ «STRING_TABLE» ∷ «FRAME_DATA» ∷ «IL_LINES» ∷ «FUNC_MDTOKEN_MAP» ∷ «TYPE_MDTOKEN_MAP» ∷ «MERGED_ASSEMBLY_INPUT» ∷ «COFF_SYMBOL_RVA» ∷ []
+
 unfoldable pub isOpaque : ℕ → Bool
-isOpaque k = cond (eqb k 0xf1) true (cond (eqb k 0xf3) true (cond (eqb k 0xf5) true (leb 0xf9 k && leb k 0xfd)))
+isOpaque k = among k opaqueKinds
 
 unfoldable pub markOf : ℕ → List ℕ → Option ℕ
 markOf k b =
-    cond (eqb k 0xf2) (linesMark b)
-    (cond (eqb k 0xf4) (marked (wholly plainChecksum b) 0)
-    (cond (eqb k 0xf6) (inlineesMark b)
-    (cond (eqb k 0xf7) (marked (wholly moduleBite b) 0)
-    (cond (eqb k 0xf8) (ascendsFrom 0 (pairs b))
+    cond (eqb k LINES) (linesMark b)
+    (cond (eqb k «FILE_CHECKSUMS») (marked (wholly plainChecksum b) 0)
+    (cond (eqb k «INLINEE_LINES») (inlineesMark b)
+    (cond (eqb k «CROSS_SCOPE_IMPORTS») (marked (wholly moduleBite b) 0)
+    (cond (eqb k «CROSS_SCOPE_EXPORTS») (ascendsFrom 0 (pairs b))
     (marked (isOpaque k && eqb (length b % 4) 0) 0)))))
 
 -- ---- an area
@@ -126,4 +130,4 @@ Plain s = (l : Last) × (plainOf s ≡ some l)
 
 -- a rule for kinds that knows each kind of which a plain area has subsections: `markOf` takes no other
 abbrev pub KnowsPlain : (ℕ → Sort) → Type 0
-KnowsPlain rule = (k : ℕ) → 0xf1 ≤ k → k ≤ 0xfd → rule k ≡ known
+KnowsPlain rule = (k : ℕ) → among k knownKinds ≡ true → rule k ≡ known

@@ -16,6 +16,7 @@ use Rattle.word.specs.WordLaws.{u32-drop}
 use Rattle.walk.specs.Listing.{over, Listing, more, onMove, all}
 use Rattle.walk.specs.ListingLaws.{all-step}
 use Rattle.refusal.specs.Told.{Told, longest}
+use Rattle.kinds.specs.Kind.{LINES, «FILE_CHECKSUMS», «INLINEE_LINES», «CROSS_SCOPE_IMPORTS», «CROSS_SCOPE_EXPORTS»}
 use Rattle.area.specs.Parts.{parts}
 use Rattle.area.specs.RestLaws.{rest-ends, rest-short, rest-cut, rest-goes}
 use Rattle.body.specs.Lines.{lineHeadSize, columned, blockBite}
@@ -118,30 +119,32 @@ module _ (b : List ℕ) where
         ∙ (rw (le-ltb (length b) 4 h, ← eg, le-ltb 1 g l))
 
   module _ (k : ℕ) (o : Option ℕ) where
-    pub mark-lines : k ≡ 0xf2 → o ≡ linesMark b → o ≡ markOf k b
+    pub mark-lines : k ≡ LINES → o ≡ linesMark b → o ≡ markOf k b
     unfolding markOf
     mark-lines e h = rw e h
 
-    pub mark-checksums : k ≡ 0xf4 → (t : Bool) → t ≡ wholly plainChecksum b → o ≡ marked t 0 → o ≡ markOf k b
+    pub mark-checksums : k ≡ «FILE_CHECKSUMS» → (t : Bool) → t ≡ wholly plainChecksum b → o ≡ marked t 0 → o ≡ markOf k b
     unfolding markOf
     mark-checksums e t et h = rw (e, ← et) h
 
-    pub mark-inlinees : k ≡ 0xf6 → o ≡ inlineesMark b → o ≡ markOf k b
+    pub mark-inlinees : k ≡ «INLINEE_LINES» → o ≡ inlineesMark b → o ≡ markOf k b
     unfolding markOf
     mark-inlinees e h = rw e h
 
-    pub mark-modules : k ≡ 0xf7 → (t : Bool) → t ≡ wholly moduleBite b → o ≡ marked t 0 → o ≡ markOf k b
+    pub mark-modules : k ≡ «CROSS_SCOPE_IMPORTS» → (t : Bool) → t ≡ wholly moduleBite b → o ≡ marked t 0 → o ≡ markOf k b
     unfolding markOf
     mark-modules e t et h = rw (e, ← et) h
 
-    pub mark-pairs : k ≡ 0xf8 → o ≡ ascendsFrom 0 (pairs b) → o ≡ markOf k b
+    pub mark-pairs : k ≡ «CROSS_SCOPE_EXPORTS» → o ≡ ascendsFrom 0 (pairs b) → o ≡ markOf k b
     unfolding markOf
     mark-pairs e h = rw e h
 
-  module _ (k : ℕ) (a : k ≡ 0xf2 → ⊥) (d : k ≡ 0xf4 → ⊥) (e : k ≡ 0xf6 → ⊥) (f : k ≡ 0xf7 → ⊥) (g : k ≡ 0xf8 → ⊥) where
+  module _ (k : ℕ) (a : k ≡ LINES → ⊥) (d : k ≡ «FILE_CHECKSUMS» → ⊥) (e : k ≡ «INLINEE_LINES» → ⊥) (f : k ≡ «CROSS_SCOPE_IMPORTS» → ⊥)
+      (g : k ≡ «CROSS_SCOPE_EXPORTS» → ⊥) where
     on-opaque : markOf k b ≡ marked (isOpaque k && eqb (length b % 4) 0) 0
     unfolding markOf
-    on-opaque = rw (ne-eqb k 0xf2 a, ne-eqb k 0xf4 d, ne-eqb k 0xf6 e, ne-eqb k 0xf7 f, ne-eqb k 0xf8 g)
+    on-opaque = rw (ne-eqb k LINES a, ne-eqb k «FILE_CHECKSUMS» d, ne-eqb k «INLINEE_LINES» e, ne-eqb k «CROSS_SCOPE_IMPORTS» f,
+        ne-eqb k «CROSS_SCOPE_EXPORTS» g)
 
     pub mark-opaque : length b % 4 ≡ 0 → (t : Bool) (o : Option ℕ) → t ≡ isOpaque k → o ≡ marked t 0 → o ≡ markOf k b
     mark-opaque h t o et eo =

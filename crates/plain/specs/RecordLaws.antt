@@ -1,19 +1,22 @@
 -- Laws for the code that looks at one record: one law for each way out, in the form of the code's tests.
 use Prim.Native.Nat.{ℕ, _+_, _-_, _*_, _<_, _≤_}
 use mathlib.Core.Path.{_≡_, refl, sym, ap, _∙_}
-use mathlib.Core.List.{List}
-use mathlib.Core.Bool.{Bool, true, false, _&&_}
+use mathlib.Core.Logic.{_⊎_, inl, inr}
+use mathlib.Core.List.{List, [], _∷_}
+use mathlib.Core.Bool.{Bool, true, false, cond, _&&_}
 use native.Mathlib.Omega.{arith}
 use lib.ListN.{length, drop, getD, length-drop}
 use lib.Seq.{getD-drop}
-use lib.Dec.{ltb, eqb}
-use borrow.Author.Tests.{lt-ltb, le-ltb, le-leb, lt-leb, eq-eqb, ne-eqb, ltb-false}
+use lib.Dec.{ltb, leb, eqb}
+use borrow.Author.Tests.{lt-ltb, le-ltb, eq-eqb, ne-eqb, ltb-false}
 use Rattle.word.specs.Word.{u16At, u32At}
 use Rattle.word.specs.WordLaws.{u16-drop, u32-drop}
-use Rattle.walk.specs.Cases.{by-cases}
+use Rattle.walk.specs.Cases.{by-cases, tests}
 use Rattle.walk.specs.Listing.{Move, fail}
 use Rattle.refusal.specs.Told.{Told, told}
 use Rattle.refusal.specs.declared.Refusal.the-variants as why
+use Rattle.kinds.specs.Kind.{SYMBOLS, LINES, «STRING_TABLE», «FILE_CHECKSUMS», «FRAME_DATA», «INLINEE_LINES», «CROSS_SCOPE_IMPORTS», «CROSS_SCOPE_EXPORTS», «IL_LINES», «COFF_SYMBOL_RVA», knownKinds, among}
+use Rattle.kinds.specs.KindLaws.{among-range, among-but}
 use Rattle.body.specs.Lines.{lineBytes, blockHeadSize, blockBite}
 use Rattle.body.specs.Checksums.{Checksum, up4, checksumBite}
 use Rattle.body.specs.Inlinees.{extraBite, inlineeBite}
@@ -280,28 +283,46 @@ module _ (s : List ℕ) (i : ℕ) (h₀ : i < length s) where
 -- ---- opaque kinds
 
 module _ (k : ℕ) where
-  pub opaque-f1 : k ≡ 0xf1 → true ≡ isOpaque k
-  unfolding isOpaque
-  opaque-f1 h = rw h
-
-  pub opaque-f3 : k ≡ 0xf3 → true ≡ isOpaque k
-  unfolding isOpaque
-  opaque-f3 h = rw h
-
-  pub opaque-f5 : k ≡ 0xf5 → true ≡ isOpaque k
-  unfolding isOpaque
-  opaque-f5 h = rw h
-
-  pub opaque-high : 0xf9 ≤ k → k ≤ 0xfd → true ≡ isOpaque k
-  unfolding isOpaque
-  opaque-high h l =
-      rw (ne-eqb k 0xf1 (λ e. omega arith), ne-eqb k 0xf3 (λ e. omega arith), ne-eqb k 0xf5 (λ e. omega arith), le-leb 0xf9 k h, le-leb k 0xfd l)
-
-  module _ (a : k ≡ 0xf1 → ⊥) (b : k ≡ 0xf3 → ⊥) (d : k ≡ 0xf5 → ⊥) where
-    pub opaque-below : k < 0xf9 → false ≡ isOpaque k
+  -- the known kinds that have no entries of their own are the opaque ones
+  module _ (a : k ≡ LINES → ⊥) (b : k ≡ «FILE_CHECKSUMS» → ⊥) (d : k ≡ «INLINEE_LINES» → ⊥) (e : k ≡ «CROSS_SCOPE_IMPORTS» → ⊥)
+      (f : k ≡ «CROSS_SCOPE_EXPORTS» → ⊥) where
+    pub known-opaque : among k knownKinds ≡ isOpaque k
     unfolding isOpaque
-    opaque-below h = rw (ne-eqb k 0xf1 a, ne-eqb k 0xf3 b, ne-eqb k 0xf5 d, lt-leb 0xf9 k h)
+    known-opaque =
+        among-but k LINES (SYMBOLS ∷ []) (drop 2 knownKinds) a
+        ∙ among-but k «FILE_CHECKSUMS» (SYMBOLS ∷ «STRING_TABLE» ∷ []) (drop 4 knownKinds) b
+        ∙ among-but k «INLINEE_LINES» (SYMBOLS ∷ «STRING_TABLE» ∷ «FRAME_DATA» ∷ []) (drop 6 knownKinds) d
+        ∙ among-but k «CROSS_SCOPE_IMPORTS» (SYMBOLS ∷ «STRING_TABLE» ∷ «FRAME_DATA» ∷ []) (drop 7 knownKinds) e
+        ∙ among-but k «CROSS_SCOPE_EXPORTS» (SYMBOLS ∷ «STRING_TABLE» ∷ «FRAME_DATA» ∷ []) (drop 8 knownKinds) f
 
-    pub opaque-above : 0xf9 ≤ k → 0xfd < k → false ≡ isOpaque k
-    unfolding isOpaque
-    opaque-above h l = rw (ne-eqb k 0xf1 a, ne-eqb k 0xf3 b, ne-eqb k 0xf5 d, le-leb 0xf9 k h, lt-leb k 0xfd l)
+  -- the last five of the names are numbers in a row, and the code tests them so
+  pub opaque-range : isOpaque k
+      ≡ cond (eqb k SYMBOLS) true (cond (eqb k «STRING_TABLE») true (cond (eqb k «FRAME_DATA») true (leb «IL_LINES» k && leb k «COFF_SYMBOL_RVA»)))
+  unfolding isOpaque
+  opaque-range =
+      ap (λ (t : Bool). cond (eqb k SYMBOLS) true (cond (eqb k «STRING_TABLE») true (cond (eqb k «FRAME_DATA») true t))) (among-range k 4 «IL_LINES»)
+
+  -- the single numbers of the code's arm
+  abbrev Single : Type 0
+  Single = (k ≡ SYMBOLS) ⊎ ((k ≡ «STRING_TABLE») ⊎ (k ≡ «FRAME_DATA»))
+
+  pub opaque-single : Single → true ≡ isOpaque k
+  unfolding isOpaque
+  opaque-single (inl h) = ap isOpaque (sym h)
+  opaque-single (inr (inl h)) = ap isOpaque (sym h)
+  opaque-single (inr (inr h)) = ap isOpaque (sym h)
+
+  module _ (n : Single → ⊥) where
+    rest-range : (leb «IL_LINES» k && leb k «COFF_SYMBOL_RVA») ≡ isOpaque k
+    rest-range =
+        simp (opaque-range, ne-eqb k SYMBOLS (λ e. n (inl e)), ne-eqb k «STRING_TABLE» (λ e. n (inr (inl e))), ne-eqb k «FRAME_DATA» (λ e. n (inr (inr e))))
+
+    pub opaque-below : k < «IL_LINES» → false ≡ isOpaque k
+    opaque-below h = simp (← rest-range, tests)
+
+    module _ (h : «IL_LINES» ≤ k) where
+      pub opaque-above : «COFF_SYMBOL_RVA» < k → false ≡ isOpaque k
+      opaque-above l = simp (← rest-range, tests)
+
+      pub opaque-high : k ≤ «COFF_SYMBOL_RVA» → true ≡ isOpaque k
+      opaque-high l = simp (← rest-range, tests)

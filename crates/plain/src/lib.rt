@@ -13,6 +13,19 @@ ghost use Rattle.plain.specs.Plain.{sizeOf, plainBlock, plainChecksum, a
 ghost use Rattle.plain.specs.WalkLaws.{stride};
 ghost use Rattle.plain.specs.ScanLaws.{strideOf, whollyOf};
 ghost use Rattle.plain.specs.Told.{toldMark, toldPlain};
+use kinds::COFF_SYMBOL_RVA;
+use kinds::CROSS_SCOPE_EXPORTS;
+use kinds::CROSS_SCOPE_IMPORTS;
+use kinds::FILE_CHECKSUMS;
+use kinds::FRAME_DATA;
+use kinds::FUNC_MDTOKEN_MAP;
+use kinds::IL_LINES;
+use kinds::INLINEE_LINES;
+use kinds::LINES;
+use kinds::MERGED_ASSEMBLY_INPUT;
+use kinds::STRING_TABLE;
+use kinds::SYMBOLS;
+use kinds::TYPE_MDTOKEN_MAP;
 use lines::BLOCK_HEAD;
 use lines::LINE_HEAD;
 use lines::line_bytes;
@@ -228,10 +241,14 @@ pub fn is_opaque(kind: u32) -> bool
     ensures { λ r. ⌜ r ≡ isOpaque kind ⌝ }
 {
     match kind {
-        0xf1 => true,
-        0xf3 => true,
-        0xf5 => true,
-        0xf9..=0xfd => true,
+        SYMBOLS
+        | STRING_TABLE
+        | FRAME_DATA
+        | IL_LINES
+        | FUNC_MDTOKEN_MAP
+        | TYPE_MDTOKEN_MAP
+        | MERGED_ASSEMBLY_INPUT
+        | COFF_SYMBOL_RVA => true,
         _ => false,
     }
 }
@@ -240,11 +257,11 @@ fn mark_of(kind: u32, body: &[u8]) -> Mark
     ensures { λ r. ⌜ toldMark r ≡ markOf kind (now (body .entry)) ⌝ }
 {
     match kind {
-        0xf2 => lines_mark(body),
-        0xf4 => mark_if(whole(body, Records::Checksums), 0),
-        0xf6 => inlinees_mark(body),
-        0xf7 => mark_if(whole(body, Records::Modules), 0),
-        0xf8 => floor_of(body),
+        LINES => lines_mark(body),
+        FILE_CHECKSUMS => mark_if(whole(body, Records::Checksums), 0),
+        INLINEE_LINES => inlinees_mark(body),
+        CROSS_SCOPE_IMPORTS => mark_if(whole(body, Records::Modules), 0),
+        CROSS_SCOPE_EXPORTS => floor_of(body),
         _ => {
             if body.len() % 4 == 0 {
                 return mark_if(is_opaque(kind), 0);

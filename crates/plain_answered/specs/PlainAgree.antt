@@ -6,7 +6,7 @@ use mathlib.Core.Path.{_≡_}
 use mathlib.Core.List.{List}
 use Rattle.walk.specs.Listing.{Reply, gave, nothing, refused}
 use Rattle.walk.specs.Pick.{failure}
-use Rattle.area.specs.Kind.{Sort}
+use Rattle.kinds.specs.Kind.{Sort}
 use Rattle.lines.specs.Lines.{countLines}
 use Rattle.files.specs.Files.{filesIn}
 use Rattle.inlinees.specs.Inlinees.{inlineesIn}

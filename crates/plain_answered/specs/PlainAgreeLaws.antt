@@ -17,7 +17,7 @@ use Rattle.walk.specs.PickLaws.{Gives, first-holds}
 use Rattle.refusal.specs.Told.{Told, told, longest, numberOf}
 use Rattle.refusal.specs.declared.Refusal.the-variants as why
 use Rattle.area.specs.Parts.{Raw, Parts}
-use Rattle.area.specs.Kind.{Sort, onSort, known, skipped, unknown}
+use Rattle.kinds.specs.Kind.{«FILE_CHECKSUMS», «INLINEE_LINES», «CROSS_SCOPE_IMPORTS», «CROSS_SCOPE_EXPORTS», Sort, onSort, known, skipped, unknown}
 use Rattle.area.specs.Subs.{Sub, subsFrom, bodiesIn, bodies}
 use Rattle.area.specs.SubsLaws.{bodied, area-bodies}
 use Rattle.find.specs.Find.{same, is, spanOf}
@@ -133,23 +133,24 @@ module _ (rule : ℕ → Sort) (s : List ℕ) (h : Whole (reading rule s)) where
       picked-whole (lastBy (begins w) (chapters l)) (last-picked (begins w) (chapters l) (chapters-end l h) (chapters-whole l h))
 
   exports-whole : failure (pairsOf rule s) ≡ nothing
-  exports-whole = mapped-whole exports (pairsOf rule s) (ap failure (sym (exports-agree rule s h)) ∙ first-whole 0xf8)
+  exports-whole = mapped-whole exports (pairsOf rule s) (ap failure (sym (exports-agree rule s h)) ∙ first-whole «CROSS_SCOPE_EXPORTS»)
 
   imports-whole : failure (importsOf rule s) ≡ nothing
   imports-whole =
       mapped-whole (moduleOf s) (importsOf rule s)
-      (mapped-whole imports (mapped (moduleOf s) same (importsOf rule s)) (ap failure (sym (imports-agree rule s h)) ∙ first-whole 0xf7))
+      (mapped-whole imports (mapped (moduleOf s) same (importsOf rule s)) (ap failure (sym (imports-agree rule s h)) ∙ first-whole «CROSS_SCOPE_IMPORTS»))
 
   inlinees-whole : failure (inlineesIn rule s) ≡ nothing
   inlinees-whole =
       mapped-whole (inlineeSpelt s) (inlineesIn rule s)
-      (mapped-whole inlinee (mapped (inlineeSpelt s) same (inlineesIn rule s)) (ap failure (sym (inlinees-agree rule s h)) ∙ first-whole 0xf6))
+      (mapped-whole inlinee (mapped (inlineeSpelt s) same (inlineesIn rule s)) (ap failure (sym (inlinees-agree rule s h)) ∙ first-whole «INLINEE_LINES»))
 
   files-whole : failure (filesIn rule s) ≡ nothing
   files-whole =
       mapped-whole (file.fileSpelt s) (filesIn rule s)
       (mapped-whole checksum (mapped (file.fileSpelt s) same (filesIn rule s))
-      (ap failure (sym (files-agree rule s h)) ∙ whole-mapped dropped (recordsIn (lastBy (begins 0xf4) (chapters (reading rule s)))) (last-whole 0xf4)))
+      (ap failure (sym (files-agree rule s h)) ∙ whole-mapped dropped (recordsIn (lastBy (begins «FILE_CHECKSUMS») (chapters (reading rule s))))
+          (last-whole «FILE_CHECKSUMS»)))
 
   counted : {B : Type 0} (l : Listing B Told) → failure l ≡ nothing → NotRefused (countOf l)
   unfolding failure countOf
@@ -218,7 +219,7 @@ not-whole : {A : Type 0} (t : Told) → _≡_ {A = Reply Pair Told} (failure (fa
 unfolding failure
 not-whole t e = let z : _≡_ {A = ℕ} 0 1 = cc in absurd (omega arith)
 
-pairs-marked : (b : List ℕ) (m : ℕ) → markOf 0xf8 b ≡ some m → plain.ascendsFrom 0 (pairs b) ≡ some m
+pairs-marked : (b : List ℕ) (m : ℕ) → markOf «CROSS_SCOPE_EXPORTS» b ≡ some m → plain.ascendsFrom 0 (pairs b) ≡ some m
 unfolding markOf
 pairs-marked b m e = e
 
@@ -234,19 +235,19 @@ module _ (rule : ℕ → Sort) (s : List ℕ) (l : Last) (p : plainOf s ≡ some
 
   exports-looked : failure (pairsOf rule s) ≡ nothing → (n : ℕ) → NotRefused (resolveExport rule s n)
   exports-looked w n =
-      found (firstBy (is 0xf8) (subsFrom rule s 0))
-      (first-holds (λ (b : Sub). Marked (bodied s b)) (is 0xf8) (subsFrom rule s 0) subs-marked)
-      (first-passes (is 0xf8) (subsFrom rule s 0)) w
+      found (firstBy (is «CROSS_SCOPE_EXPORTS») (subsFrom rule s 0))
+      (first-holds (λ (b : Sub). Marked (bodied s b)) (is «CROSS_SCOPE_EXPORTS») (subsFrom rule s 0) subs-marked)
+      (first-passes (is «CROSS_SCOPE_EXPORTS») (subsFrom rule s 0)) w
     where
       table : Reply Sub Told → Listing Pair Told
       table x = tableOf pairs unplaced s (mapReply spanOf same x)
 
-      found : (x : Reply Sub Told) → Gives (λ (b : Sub). Marked (bodied s b)) x → Gives (Passes (is 0xf8)) x → failure (table x) ≡ nothing
+      found : (x : Reply Sub Told) → Gives (λ (b : Sub). Marked (bodied s b)) x → Gives (Passes (is «CROSS_SCOPE_EXPORTS»)) x → failure (table x) ≡ nothing
           → NotRefused (onGave (lookup n) (collected (table x)))
       found (gave b) m q w =
           let body : List ℕ = take (b .len) (drop (b .start) s) in
-          let k : b .kind ≡ 0xf8 = eqb-true (b .kind) 0xf8 q in
-          let e : markOf 0xf8 body ≡ some (m .0) = ap (λ (x : ℕ). markOf x body) (sym k) ∙ m .1 in
+          let k : b .kind ≡ «CROSS_SCOPE_EXPORTS» = eqb-true (b .kind) «CROSS_SCOPE_EXPORTS» q in
+          let e : markOf «CROSS_SCOPE_EXPORTS» body ≡ some (m .0) = ap (λ (x : ℕ). markOf x body) (sym k) ∙ m .1 in
           subst⁻¹ (λ (x : Listing Pair Told). NotRefused (onGave (lookup n) (collected x))) (mapped-same (pairs body))
           (looked-up n (pairs body) (m .0) (pairs-marked body (m .0) e))
       found nothing m q w = subst⁻¹ (λ (x : Reply (List Pair) Told). NotRefused (onGave (lookup n) x)) (collected-all []) (none-found n)

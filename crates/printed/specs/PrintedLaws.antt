@@ -14,6 +14,7 @@ use Rattle.text.specs.TextLaws.{length-below, hex-length}
 use Rattle.refusal.specs.Told.{told, numberOf}
 use Rattle.refusal.specs.declared.Refusal.{Refusal}
 use Rattle.refusal.specs.declared.Refusal.the-variants as why
+use Rattle.kinds.specs.Kind.{«FILE_CHECKSUMS»}
 use Rattle.printed.specs.Printed.{longestLine, Pieces, headLine, subLine, checksumWord, bytesText, fileLine, endOfText, refusedLine}
 
 pub bytes-none : (bytes : List ℕ) → length bytes ≡ 0 → ascii "-" ≡ bytesText bytes
@@ -161,7 +162,7 @@ file-parts index name kind head bytes e =
 -- ---- the lines of document 01's example
 
 pub example : (joined (headLine 80) ≡ ascii "c13 80 bytes\n")
-    × (joined (subLine 0xf4 24) ≡ ascii "sub f4 24\n")
+    × (joined (subLine «FILE_CHECKSUMS» 24) ≡ ascii "sub f4 24\n")
     × (joined (fileLine 0 1 1 (0 ∷ 1 ∷ 2 ∷ 3 ∷ 4 ∷ 5 ∷ 6 ∷ 7 ∷ 8 ∷ 9 ∷ 10 ∷ 11 ∷ 12 ∷ 13 ∷ 14 ∷ 15 ∷ []))
     ≡ ascii "file 0 name 1 md5 000102030405060708090a0b0c0d0e0f\n")
     × (joined (fileLine 24 1 0 []) ≡ ascii "file 24 name 1 none -\n")

@@ -6,7 +6,7 @@ use Rattle.walk.specs.Listing.{Listing, mapped, spread}
 use Rattle.walk.specs.SpreadLaws.{map-spread-of}
 use Rattle.refusal.specs.Told.{numberOf}
 use Rattle.area.specs.Parts.{Raw}
-use Rattle.area.specs.Kind.{Sort}
+use Rattle.kinds.specs.Kind.{Sort}
 use Rattle.area.specs.Subs.{subsFrom, bodies}
 use Rattle.area.specs.SubsLaws.{bodied, area-bodies}
 use Rattle.reading.specs.Reading.{Item, Items, itemsOf, reading}

@@ -12,7 +12,7 @@ use Rattle.walk.specs.Listing.{Listing, more, ends, fails, mapped, spread}
 use Rattle.refusal.specs.Told.{Told, told}
 use Rattle.refusal.specs.declared.Refusal.the-variants as why
 use Rattle.area.specs.Parts.{Raw}
-use Rattle.area.specs.Kind.{Sort}
+use Rattle.kinds.specs.Kind.{LINES, «FILE_CHECKSUMS», «INLINEE_LINES», «CROSS_SCOPE_IMPORTS», «CROSS_SCOPE_EXPORTS», Sort}
 use Rattle.area.specs.Subs.{Sub, subsFrom}
 use Rattle.body.specs.Lines.{LineHead, lineHeadSize, lineHead, columned, Block, blocks}
 use Rattle.body.specs.Checksums.{Checksum, checksums}
@@ -77,11 +77,11 @@ exportsItems b = cond (eqb (length b % 8) 0) (more openExports (each exports (pa
 -- what a known subsection is read as
 unfoldable pub itemsOf : Raw → Items
 itemsOf r =
-    cond (eqb (r .kind) 0xf2) (linesItems (r .body))
-    (cond (eqb (r .kind) 0xf4) (checksumsItems (r .body))
-    (cond (eqb (r .kind) 0xf6) (inlineesItems (r .body))
-    (cond (eqb (r .kind) 0xf7) (importsItems (r .body))
-    (cond (eqb (r .kind) 0xf8) (exportsItems (r .body))
+    cond (eqb (r .kind) LINES) (linesItems (r .body))
+    (cond (eqb (r .kind) «FILE_CHECKSUMS») (checksumsItems (r .body))
+    (cond (eqb (r .kind) «INLINEE_LINES») (inlineesItems (r .body))
+    (cond (eqb (r .kind) «CROSS_SCOPE_IMPORTS») (importsItems (r .body))
+    (cond (eqb (r .kind) «CROSS_SCOPE_EXPORTS») (exportsItems (r .body))
     (more (opaque (r .kind) (r .body)) ends)))))
 
 -- the items of a subsection, whose body stands in the area s

@@ -11,7 +11,7 @@ use Rattle.walk.specs.Listing.{Move, item, pass, over, fail, Listing, all}
 use Rattle.walk.specs.FailsLaws.{StepFailsBy, FailsBy, all-by, mapped-by, spread-by}
 use Rattle.refusal.specs.Told.{Told, longest}
 use Rattle.area.specs.Parts.{Raw, Lack, bite}
-use Rattle.area.specs.Kind.{Sort, known, skipped, unknown, onSort}
+use Rattle.kinds.specs.Kind.{LINES, «FILE_CHECKSUMS», «INLINEE_LINES», «CROSS_SCOPE_IMPORTS», «CROSS_SCOPE_EXPORTS», Sort, known, skipped, unknown, onSort}
 use Rattle.area.specs.Subs.{subsFrom}
 use Rattle.area.specs.SubsLaws.{wholeAs, judged, headAt, left, subs-all, bodied}
 use Rattle.body.specs.Lines.{lineHeadSize, lineHead, columned, blocks}
@@ -80,15 +80,15 @@ bites-refuse f bite h s = each-refuses f (all bite length s) (all-by Among bite 
 items-refuse : (r : Raw) → Refuses (itemsOf r)
 unfolding itemsOf linesItems checksumsItems inlineesItems importsItems exportsItems checksums inlinees modules pairs
 items-refuse r =
-    by-cases Refuses (eqb (r .kind) 0xf2)
+    by-cases Refuses (eqb (r .kind) LINES)
     (λ e. by-cases Refuses (ltb (length b) lineHeadSize) (λ e. refl)
     (λ e. each-refuses block (blocks c (drop lineHeadSize b)) (blocks-by Among refl refl c (drop lineHeadSize b))))
-    (λ e. by-cases Refuses (eqb (r .kind) 0xf4) (λ e. bites-refuse checksum checksumBite checksum-refuses b)
-    (λ e. by-cases Refuses (eqb (r .kind) 0xf6)
+    (λ e. by-cases Refuses (eqb (r .kind) «FILE_CHECKSUMS») (λ e. bites-refuse checksum checksumBite checksum-refuses b)
+    (λ e. by-cases Refuses (eqb (r .kind) «INLINEE_LINES»)
     (λ e. by-cases Refuses (ltb (length b) 4) (λ e. refl)
     (λ e. bites-refuse inlinee (inlineeBite x) (inlinee-refuses x) (drop 4 b)))
-    (λ e. by-cases Refuses (eqb (r .kind) 0xf7) (λ e. bites-refuse imports moduleBite module-refuses b)
-    (λ e. by-cases Refuses (eqb (r .kind) 0xf8)
+    (λ e. by-cases Refuses (eqb (r .kind) «CROSS_SCOPE_IMPORTS») (λ e. bites-refuse imports moduleBite module-refuses b)
+    (λ e. by-cases Refuses (eqb (r .kind) «CROSS_SCOPE_EXPORTS»)
     (λ e. by-cases Refuses (eqb (length b % 8) 0)
     (λ e. each-refuses exports (pairs b) (by-cases Refuses (eqb (length b % 8) 0) (λ e. all-by Among pairBite pair-refuses length b) (λ e. refl))) (λ e. refl))
     (λ e. tt)))))

@@ -6,20 +6,21 @@ use mathlib.Core.Bool.{Bool, false, cond}
 use lib.Dec.{eqb}
 use Rattle.walk.specs.Listing.{Listing, more, ends, fails, Reply, gave, nothing, refused}
 use Rattle.refusal.specs.Told.{Told}
+use Rattle.kinds.specs.Kind.{LINES, «FILE_CHECKSUMS», «INLINEE_LINES», «CROSS_SCOPE_IMPORTS», «CROSS_SCOPE_EXPORTS»}
 use Rattle.checksums.specs.Entry.{shown}
 use Rattle.reading.specs.Reading.{Item, openLines, block, openChecksums, checksum, openInlinees, inlinee, openImports, imports, openExports, exports, opaque, Items, opens}
 
 -- an item that opens one of kind w
 abbrev pub opensAs : ℕ → Item → Bool
-opensAs w (openLines h) = eqb 0xf2 w
+opensAs w (openLines h) = eqb LINES w
 opensAs w (block b) = false
-opensAs w openChecksums = eqb 0xf4 w
+opensAs w openChecksums = eqb «FILE_CHECKSUMS» w
 opensAs w (checksum c) = false
-opensAs w (openInlinees x) = eqb 0xf6 w
+opensAs w (openInlinees x) = eqb «INLINEE_LINES» w
 opensAs w (inlinee e) = false
-opensAs w openImports = eqb 0xf7 w
+opensAs w openImports = eqb «CROSS_SCOPE_IMPORTS» w
 opensAs w (imports m) = false
-opensAs w openExports = eqb 0xf8 w
+opensAs w openExports = eqb «CROSS_SCOPE_EXPORTS» w
 opensAs w (exports p) = false
 opensAs w (opaque k b) = eqb k w
 

@@ -14,7 +14,7 @@ use Rattle.walk.specs.ListingLaws.{Every}
 use Rattle.walk.specs.Pick.{failure, firstBy, lastBy, only, mapReply}
 use Rattle.walk.specs.PickMapLaws.{SaysSame, first-of-map, last-of-map, only-of-map}
 use Rattle.refusal.specs.Told.{Told}
-use Rattle.area.specs.Kind.{Sort}
+use Rattle.kinds.specs.Kind.{LINES, «FILE_CHECKSUMS», «INLINEE_LINES», «CROSS_SCOPE_IMPORTS», «CROSS_SCOPE_EXPORTS», Sort}
 use Rattle.area.specs.Parts.{Raw}
 use Rattle.area.specs.Subs.{Sub, subsFrom}
 use Rattle.area.specs.SubsLaws.{bodied}
@@ -47,17 +47,20 @@ all-records f h (more b l) = (h b, all-records f h l)
 all-records f h ends = tt
 all-records f h (fails t) = tt
 
-lines-opened : (b : List ℕ) → Opened 0xf2 (linesItems b)
+lines-opened : (b : List ℕ) → Opened LINES (linesItems b)
 unfolding linesItems
-lines-opened b = by-cases (Opened 0xf2) (ltb (length b) lineHeadSize) (λ e. tt) (λ e. (refl, (λ w. refl), all-records block (λ x. refl) (blocks (columned (lineHead b .flags)) (drop lineHeadSize b))))
+lines-opened b = by-cases (Opened LINES) (ltb (length b) lineHeadSize) (λ e. tt)
+    (λ e. (refl, (λ w. refl), all-records block (λ x. refl) (blocks (columned (lineHead b .flags)) (drop lineHeadSize b))))
 
-inlinees-opened : (b : List ℕ) → Opened 0xf6 (inlineesItems b)
+inlinees-opened : (b : List ℕ) → Opened «INLINEE_LINES» (inlineesItems b)
 unfolding inlineesItems
-inlinees-opened b = by-cases (Opened 0xf6) (ltb (length b) 4) (λ e. tt) (λ e. (refl, (λ w. refl), all-records inlinee (λ x. refl) (inlinees (extended (u32At b 0)) (drop 4 b))))
+inlinees-opened b = by-cases (Opened «INLINEE_LINES») (ltb (length b) 4) (λ e. tt)
+    (λ e. (refl, (λ w. refl), all-records inlinee (λ x. refl) (inlinees (extended (u32At b 0)) (drop 4 b))))
 
-exports-opened : (b : List ℕ) → Opened 0xf8 (exportsItems b)
+exports-opened : (b : List ℕ) → Opened «CROSS_SCOPE_EXPORTS» (exportsItems b)
 unfolding exportsItems
-exports-opened b = by-cases (Opened 0xf8) (eqb (length b % 8) 0) (λ e. (refl, (λ w. refl), all-records exports (λ x. refl) (pairs b))) (λ e. tt)
+exports-opened b = by-cases (Opened «CROSS_SCOPE_EXPORTS») (eqb (length b % 8) 0) (λ e. (refl, (λ w. refl), all-records exports (λ x. refl) (pairs b)))
+    (λ e. tt)
 
 -- of the kind k that the test found
 of-kind : (k j : ℕ) (l : Items) → eqb k j ≡ true → Opened j l → Opened k l
@@ -66,11 +69,14 @@ of-kind k j l e h = rw (eqb-true k j e) h
 opened-items : (r : Raw) → Opened (r .kind) (itemsOf r)
 unfolding itemsOf checksumsItems importsItems
 opened-items r =
-    by-cases P (eqb k 0xf2) (λ e. of-kind k 0xf2 (linesItems b) e (lines-opened b))
-    (λ e. by-cases P (eqb k 0xf4) (λ e. of-kind k 0xf4 (checksumsItems b) e (refl, (λ w. refl), all-records checksum (λ x. refl) (checksums b)))
-    (λ e. by-cases P (eqb k 0xf6) (λ e. of-kind k 0xf6 (inlineesItems b) e (inlinees-opened b))
-    (λ e. by-cases P (eqb k 0xf7) (λ e. of-kind k 0xf7 (importsItems b) e (refl, (λ w. refl), all-records imports (λ x. refl) (modules b)))
-    (λ e. by-cases P (eqb k 0xf8) (λ e. of-kind k 0xf8 (exportsItems b) e (exports-opened b)) (λ e. (refl, (λ w. refl), tt))))))
+    by-cases P (eqb k LINES) (λ e. of-kind k LINES (linesItems b) e (lines-opened b))
+    (λ e. by-cases P (eqb k «FILE_CHECKSUMS») (λ e. of-kind k «FILE_CHECKSUMS» (checksumsItems b) e
+        (refl, (λ w. refl), all-records checksum (λ x. refl) (checksums b)))
+    (λ e. by-cases P (eqb k «INLINEE_LINES») (λ e. of-kind k «INLINEE_LINES» (inlineesItems b) e (inlinees-opened b))
+    (λ e. by-cases P (eqb k «CROSS_SCOPE_IMPORTS») (λ e. of-kind k «CROSS_SCOPE_IMPORTS» (importsItems b) e
+        (refl, (λ w. refl), all-records imports (λ x. refl) (modules b)))
+    (λ e. by-cases P (eqb k «CROSS_SCOPE_EXPORTS») (λ e. of-kind k «CROSS_SCOPE_EXPORTS» (exportsItems b) e (exports-opened b))
+        (λ e. (refl, (λ w. refl), tt))))))
   where
     k : ℕ
     k = r .kind

@@ -15,7 +15,7 @@ use Rattle.walk.specs.ListingLaws.{Every}
 use Rattle.walk.specs.Pick.{failure, firstBy, lastBy, only, orElse, mapReply, onGave}
 use Rattle.walk.specs.PickLaws.{Gives, failure-only}
 use Rattle.refusal.specs.Told.{Told}
-use Rattle.area.specs.Kind.{Sort}
+use Rattle.kinds.specs.Kind.{LINES, «FILE_CHECKSUMS», «INLINEE_LINES», «CROSS_SCOPE_IMPORTS», «CROSS_SCOPE_EXPORTS», Sort}
 use Rattle.area.specs.Subs.{Sub, subsFrom}
 use Rattle.area.specs.SubsLaws.{Inside, subs-inside}
 use Rattle.find.specs.Find.{same, Span, is, spanOf, firstSub, lastSub, bytesAt, firstBytes, lastBytes}
@@ -83,21 +83,21 @@ module _ (rule : ℕ → Sort) (s : List ℕ) (w : ℕ) (g : List ℕ → Items)
     last-records : recordsIn (lastBy (begins w) (chapters (reading rule s))) ≡ ofBody g (lastBytes rule w s)
     last-records = ap recordsIn (last-chapter rule s h w) ∙ picked (lastBy (is w) (subsFrom rule s 0)) (last-passes (is w) (subsFrom rule s 0))
 
-exports-right : (b : List ℕ) → records (itemsOf (record { kind = 0xf8; body = b })) ≡ each exports (pairs b)
+exports-right : (b : List ℕ) → records (itemsOf (record { kind = «CROSS_SCOPE_EXPORTS»; body = b })) ≡ each exports (pairs b)
 unfolding itemsOf exportsItems pairs
 exports-right b =
     both-ways records (eqb (length b % 8) 0) (λ e. rw e) (λ e. refl) ∙ sym (both-ways (each exports) (eqb (length b % 8) 0) (λ e. refl) (λ e. refl))
 
-imports-right : (b : List ℕ) → records (itemsOf (record { kind = 0xf7; body = b })) ≡ each imports (modules b)
+imports-right : (b : List ℕ) → records (itemsOf (record { kind = «CROSS_SCOPE_IMPORTS»; body = b })) ≡ each imports (modules b)
 unfolding itemsOf importsItems
 imports-right b = refl
 
-inlinees-right : (b : List ℕ) → records (itemsOf (record { kind = 0xf6; body = b })) ≡ each inlinee (inlineesOf b)
+inlinees-right : (b : List ℕ) → records (itemsOf (record { kind = «INLINEE_LINES»; body = b })) ≡ each inlinee (inlineesOf b)
 unfolding itemsOf inlineesItems inlineesOf
 inlinees-right b =
     both-ways records (ltb (length b) 4) (λ e. refl) (λ e. refl) ∙ sym (both-ways (each inlinee) (ltb (length b) 4) (λ e. refl) (λ e. refl))
 
-checksums-right : (b : List ℕ) → records (itemsOf (record { kind = 0xf4; body = b })) ≡ each checksum (checksums b)
+checksums-right : (b : List ℕ) → records (itemsOf (record { kind = «FILE_CHECKSUMS»; body = b })) ≡ each checksum (checksums b)
 unfolding itemsOf checksumsItems
 checksums-right b = refl
 
@@ -122,21 +122,24 @@ lineItems b = more (openLines (lineHead b)) (each block (blocks (columned (lineH
 
 module _ (rule : ℕ → Sort) (s : List ℕ) (h : Whole (reading rule s)) where
   -- the pairs that exports are made of are the records of the first export subsection
-  pub exports-agree : recordsIn (firstBy (begins 0xf8) (chapters (reading rule s))) ≡ each exports (pairsOf rule s)
-  exports-agree = first-records rule s 0xf8 (λ (b : List ℕ). each exports (pairs b)) exports-right h ∙ as-items exports pairs s (firstSub rule 0xf8 s)
+  pub exports-agree : recordsIn (firstBy (begins «CROSS_SCOPE_EXPORTS») (chapters (reading rule s))) ≡ each exports (pairsOf rule s)
+  exports-agree = first-records rule s «CROSS_SCOPE_EXPORTS» (λ (b : List ℕ). each exports (pairs b)) exports-right h
+      ∙ as-items exports pairs s (firstSub rule «CROSS_SCOPE_EXPORTS» s)
 
   -- the imports, with their words, are those of the first import subsection
-  pub imports-agree : recordsIn (firstBy (begins 0xf7) (chapters (reading rule s))) ≡ each imports (mapped (moduleOf s) same (importsOf rule s))
+  pub imports-agree : recordsIn (firstBy (begins «CROSS_SCOPE_IMPORTS») (chapters (reading rule s)))
+      ≡ each imports (mapped (moduleOf s) same (importsOf rule s))
   imports-agree =
-      first-records rule s 0xf7 (λ (b : List ℕ). each imports (modules b)) imports-right h
-      ∙ as-items imports modules s (firstSub rule 0xf7 s)
+      first-records rule s «CROSS_SCOPE_IMPORTS» (λ (b : List ℕ). each imports (modules b)) imports-right h
+      ∙ as-items imports modules s (firstSub rule «CROSS_SCOPE_IMPORTS» s)
       ∙ ap (each imports) (sym (imports-words rule s))
 
   -- the inlinees, with their extra files, are those of the first inlinee subsection
-  pub inlinees-agree : recordsIn (firstBy (begins 0xf6) (chapters (reading rule s))) ≡ each inlinee (mapped (inlineeSpelt s) same (inlineesIn rule s))
+  pub inlinees-agree : recordsIn (firstBy (begins «INLINEE_LINES») (chapters (reading rule s)))
+      ≡ each inlinee (mapped (inlineeSpelt s) same (inlineesIn rule s))
   inlinees-agree =
-      first-records rule s 0xf6 (λ (b : List ℕ). each inlinee (inlineesOf b)) inlinees-right h
-      ∙ of-body inlinee inlineesOf (firstBytes rule 0xf6 s)
+      first-records rule s «INLINEE_LINES» (λ (b : List ℕ). each inlinee (inlineesOf b)) inlinees-right h
+      ∙ of-body inlinee inlineesOf (firstBytes rule «INLINEE_LINES» s)
       ∙ ap (each inlinee) (sym (inlinees-mean rule s))
 
   -- ---- line subsections: none has a short header
@@ -145,7 +148,7 @@ module _ (rule : ℕ → Sort) (s : List ℕ) (h : Whole (reading rule s)) where
   items = subItems s
 
   abbrev Headed : Sub → Type 0
-  Headed b = is 0xf2 b ≡ true → lineHeadSize ≤ b .len
+  Headed b = is LINES b ≡ true → lineHeadSize ≤ b .len
 
   whole-head : (b : List ℕ) → Whole (linesItems b) → lineHeadSize ≤ length b
   unfolding linesItems failure
@@ -153,7 +156,7 @@ module _ (rule : ℕ → Sort) (s : List ℕ) (h : Whole (reading rule s)) where
       by-cases (λ (l : Items). Whole l → lineHeadSize ≤ length b) (ltb (length b) lineHeadSize)
       (λ e q. let z : _≡_ {A = ℕ} 0 1 = cc in absurd (omega arith)) (λ e q. ltb-false (length b) lineHeadSize e)
 
-  lines-right : (k : ℕ) (b : List ℕ) → eqb k 0xf2 ≡ true → itemsOf (record { kind = k; body = b }) ≡ linesItems b
+  lines-right : (k : ℕ) (b : List ℕ) → eqb k LINES ≡ true → itemsOf (record { kind = k; body = b }) ≡ linesItems b
   unfolding itemsOf
   lines-right k b e = rw e
 
@@ -169,18 +172,18 @@ module _ (rule : ℕ → Sort) (s : List ℕ) (h : Whole (reading rule s)) where
   each-headed ends i q = tt
   each-headed (fails t) i q = tt
 
-  all-headed : (l : Listing Sub Told) → Every Headed l → headed (only (is 0xf2) l) ≡ only (is 0xf2) l
+  all-headed : (l : Listing Sub Told) → Every Headed l → headed (only (is LINES) l) ≡ only (is LINES) l
   unfolding headed only
-  all-headed (more b l) q = go (is 0xf2 b) (q .0) (all-headed l (q .1))
+  all-headed (more b l) q = go (is LINES b) (q .0) (all-headed l (q .1))
     where
-      go : (t : Bool) → (t ≡ true → lineHeadSize ≤ b .len) → headed (only (is 0xf2) l) ≡ only (is 0xf2) l
-          → headed (cond t (more b (only (is 0xf2) l)) (only (is 0xf2) l)) ≡ cond t (more b (only (is 0xf2) l)) (only (is 0xf2) l)
+      go : (t : Bool) → (t ≡ true → lineHeadSize ≤ b .len) → headed (only (is LINES) l) ≡ only (is LINES) l
+          → headed (cond t (more b (only (is LINES) l)) (only (is LINES) l)) ≡ cond t (more b (only (is LINES) l)) (only (is LINES) l)
       go true f e = rw (le-ltb (b .len) lineHeadSize (f refl)) (ap (more b) e)
       go false f e = e
   all-headed ends q = refl
   all-headed (fails t) q = refl
 
-  lines-are : linesFrom rule s 0 ≡ only (is 0xf2) (subsFrom rule s 0)
+  lines-are : linesFrom rule s 0 ≡ only (is LINES) (subsFrom rule s 0)
   lines-are = all-headed (subsFrom rule s 0) (each-headed (subsFrom rule s 0) (subs-inside rule s 0) (spreads rule s h))
 
   -- ---- so a line subsection has its header and its blocks
@@ -189,7 +192,7 @@ module _ (rule : ℕ → Sort) (s : List ℕ) (h : Whole (reading rule s)) where
   unfolding linesItems
   body-items b l = rw (le-ltb (length b) lineHeadSize l)
 
-  line-items : (b : Sub) → Whole (items b) → is 0xf2 b ≡ true → items b ≡ lineItems (bytesAt s (spanOf b))
+  line-items : (b : Sub) → Whole (items b) → is LINES b ≡ true → items b ≡ lineItems (bytesAt s (spanOf b))
   line-items b q e =
       let body = bytesAt s (spanOf b) in
       let r = lines-right (b .kind) body e in
@@ -198,13 +201,14 @@ module _ (rule : ℕ → Sort) (s : List ℕ) (h : Whole (reading rule s)) where
   abbrev lineItemsAt : Sub → Items
   lineItemsAt b = lineItems (bytesAt s (spanOf b))
 
-  each-line : (l : Listing Sub Told) → Whole (spread items l) → mapped items same (only (is 0xf2) l) ≡ mapped lineItemsAt same (only (is 0xf2) l)
+  each-line : (l : Listing Sub Told) → Whole (spread items l) → mapped items same (only (is LINES) l) ≡ mapped lineItemsAt same (only (is LINES) l)
   unfolding only
   each-line (more b l) q =
-      go (is 0xf2 b) (line-items b (whole-left (items b) (spread items l) q)) (each-line l (whole-right (items b) (spread items l) q))
+      go (is LINES b) (line-items b (whole-left (items b) (spread items l) q)) (each-line l (whole-right (items b) (spread items l) q))
     where
-      go : (t : Bool) → (t ≡ true → items b ≡ lineItemsAt b) → mapped items same (only (is 0xf2) l) ≡ mapped lineItemsAt same (only (is 0xf2) l)
-          → mapped items same (cond t (more b (only (is 0xf2) l)) (only (is 0xf2) l)) ≡ mapped lineItemsAt same (cond t (more b (only (is 0xf2) l)) (only (is 0xf2) l))
+      go : (t : Bool) → (t ≡ true → items b ≡ lineItemsAt b) → mapped items same (only (is LINES) l) ≡ mapped lineItemsAt same (only (is LINES) l)
+          → mapped items same (cond t (more b (only (is LINES) l)) (only (is LINES) l))
+              ≡ mapped lineItemsAt same (cond t (more b (only (is LINES) l)) (only (is LINES) l))
       go true f e = λ i. more (f refl i) (e i)
       go false f e = e
   each-line ends q = refl
@@ -223,18 +227,18 @@ module _ (rule : ℕ → Sort) (s : List ℕ) (h : Whole (reading rule s)) where
   all-listed f ends q = refl
   all-listed f (fails t) q = let z : _≡_ {A = ℕ} 0 1 = cc in absurd (omega arith)
 
-  lines-whole : failure (only (is 0xf2) (subsFrom rule s 0)) ≡ nothing
-  lines-whole = failure-only (is 0xf2) (subsFrom rule s 0) ∙ subs-whole (subsFrom rule s 0) (spreads rule s h)
+  lines-whole : failure (only (is LINES) (subsFrom rule s 0)) ≡ nothing
+  lines-whole = failure-only (is LINES) (subsFrom rule s 0) ∙ subs-whole (subsFrom rule s 0) (spreads rule s h)
 
   -- the line bodies of the area, each with its header and its blocks, are the line subsections of the reading
-  pub lines-agree : only (begins 0xf2) (chapters (reading rule s)) ≡ before (map (λ (b : Body). lineItems (b .bytes)) (lineBodies rule s)) ends
+  pub lines-agree : only (begins LINES) (chapters (reading rule s)) ≡ before (map (λ (b : Body). lineItems (b .bytes)) (lineBodies rule s)) ends
   lines-agree =
       let subs = subsFrom rule s 0 in
-      only-chapters rule s h 0xf2
+      only-chapters rule s h LINES
       ∙ each-line subs (spreads rule s h)
-      ∙ all-listed lineItemsAt (only (is 0xf2) subs) lines-whole
+      ∙ all-listed lineItemsAt (only (is LINES) subs) lines-whole
       ∙ ap (λ (ls : List Items). before ls ends)
-      (map-map (bodyOf s) (λ (b : Body). lineItems (b .bytes)) (listed (only (is 0xf2) subs)))
+      (map-map (bodyOf s) (λ (b : Body). lineItems (b .bytes)) (listed (only (is LINES) subs)))
 
   -- ---- and the tests before the files pass
 
@@ -252,16 +256,18 @@ module _ (rule : ℕ → Sort) (s : List ℕ) (h : Whole (reading rule s)) where
   passes ends f q = refl
   passes (fails t) f q = let z : _≡_ {A = ℕ} 0 1 = cc in absurd (omega arith)
 
-  files-sub : filesSub rule s ≡ lastSub rule 0xf4 s
+  files-sub : filesSub rule s ≡ lastSub rule «FILE_CHECKSUMS» s
   unfolding filesSub
   files-sub =
-      passes (linesFrom rule s 0) (lastSub rule 0xf4 s) lines-pass
+      passes (linesFrom rule s 0) (lastSub rule «FILE_CHECKSUMS» s) lines-pass
 
   -- the files, with their checksums, are the records of the last checksum subsection, but for the bytes of kind 0
-  pub files-agree : mapped dropped same (recordsIn (lastBy (begins 0xf4) (chapters (reading rule s)))) ≡ each checksum (mapped (file.fileSpelt s) same (filesIn rule s))
+  pub files-agree : mapped dropped same (recordsIn (lastBy (begins «FILE_CHECKSUMS») (chapters (reading rule s))))
+      ≡ each checksum (mapped (file.fileSpelt s) same (filesIn rule s))
   files-agree =
-      let x = lastBytes rule 0xf4 s in
-      ap (mapped dropped same) (last-records rule s 0xf4 (λ (b : List ℕ). each checksum (checksums b)) checksums-right h ∙ of-body checksum checksums x)
+      let x = lastBytes rule «FILE_CHECKSUMS» s in
+      ap (mapped dropped same) (last-records rule s «FILE_CHECKSUMS» (λ (b : List ℕ). each checksum (checksums b)) checksums-right h
+          ∙ of-body checksum checksums x)
       ∙ mapped-mapped dropped checksum (ofBody checksums x)
       ∙ sym (mapped-mapped checksum shown (ofBody checksums x))
       ∙ ap (each checksum)

@@ -12,7 +12,7 @@ use Rattle.walk.specs.Cases.{both-ways}
 use Rattle.walk.specs.Listing.{Listing, more, ends, fails, mapped, Reply, gave, nothing, refused, calls, replies}
 use Rattle.walk.specs.Pick.{mapReply}
 use Rattle.walk.specs.SpreadLaws.{map-spread, spread-every}
-use Rattle.area.specs.Kind.{Sort}
+use Rattle.kinds.specs.Kind.{LINES, «FILE_CHECKSUMS», «INLINEE_LINES», «CROSS_SCOPE_IMPORTS», «CROSS_SCOPE_EXPORTS», Sort}
 use Rattle.area.specs.Subs.{Sub, subsFrom}
 use Rattle.area.specs.SubsLaws.{Inside, subs-inside}
 use Rattle.find.specs.Find.{same}
@@ -57,11 +57,11 @@ module _ (rule : ℕ → Sort) (s : List ℕ) where
     opened-mean : (kind end : ℕ) → opens (opened b kind start end) ≡ itemsOf (record { kind = kind; body = b })
     unfolding opened itemsOf checksumsItems importsItems
     opened-mean kind end =
-        both-ways opens (eqb kind 0xf2) (λ e. lines-mean)
-        (λ e. both-ways opens (eqb kind 0xf4) (λ e. ap (more reading.openChecksums) (into typed.Checksums (omega arith)))
-        (λ e. both-ways opens (eqb kind 0xf6) (λ e. inlinees-mean)
-        (λ e. both-ways opens (eqb kind 0xf7) (λ e. ap (more reading.openImports) (into typed.Imports (omega arith)))
-        (λ e. both-ways opens (eqb kind 0xf8) (λ e. exports-mean)
+        both-ways opens (eqb kind LINES) (λ e. lines-mean)
+        (λ e. both-ways opens (eqb kind «FILE_CHECKSUMS») (λ e. ap (more reading.openChecksums) (into typed.Checksums (omega arith)))
+        (λ e. both-ways opens (eqb kind «INLINEE_LINES») (λ e. inlinees-mean)
+        (λ e. both-ways opens (eqb kind «CROSS_SCOPE_IMPORTS») (λ e. ap (more reading.openImports) (into typed.Imports (omega arith)))
+        (λ e. both-ways opens (eqb kind «CROSS_SCOPE_EXPORTS») (λ e. exports-mean)
         (λ e. ap (λ (x : List ℕ). more (reading.opaque kind x) ends) (sym here))))))
 
   -- ---- the items of all subsections are the reading

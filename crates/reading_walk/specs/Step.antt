@@ -10,7 +10,7 @@ use Rattle.word.specs.Word.{u32At}
 use Rattle.walk.specs.Listing.{Answer, gives, none, refuses, Reply, gave, nothing, refused}
 use Rattle.refusal.specs.Told.{Told, told}
 use Rattle.refusal.specs.declared.Refusal.the-variants as why
-use Rattle.area.specs.Kind.{Sort}
+use Rattle.kinds.specs.Kind.{LINES, «FILE_CHECKSUMS», «INLINEE_LINES», «CROSS_SCOPE_IMPORTS», «CROSS_SCOPE_EXPORTS», Sort}
 use Rattle.area.specs.Subs.{Sub, stepAt}
 use Rattle.table.specs.Table.{Place, spotIn}
 use Rattle.body.specs.Lines.{lineHeadSize, lineHead}
@@ -39,11 +39,11 @@ exportsOpened b start =
 -- what opens a known subsection; behind it is `end`
 unfoldable pub opened : List ℕ → ℕ → ℕ → ℕ → ItemAnswer
 opened b kind start end =
-    cond (eqb kind 0xf2) (linesOpened b start)
-    (cond (eqb kind 0xf4) (gives openChecksums (walk.In typed.Checksums start (length b) 0))
-    (cond (eqb kind 0xf6) (inlineesOpened b start)
-    (cond (eqb kind 0xf7) (gives openImports (walk.In typed.Imports start (length b) 0))
-    (cond (eqb kind 0xf8) (exportsOpened b start)
+    cond (eqb kind LINES) (linesOpened b start)
+    (cond (eqb kind «FILE_CHECKSUMS») (gives openChecksums (walk.In typed.Checksums start (length b) 0))
+    (cond (eqb kind «INLINEE_LINES») (inlineesOpened b start)
+    (cond (eqb kind «CROSS_SCOPE_IMPORTS») (gives openImports (walk.In typed.Imports start (length b) 0))
+    (cond (eqb kind «CROSS_SCOPE_EXPORTS») (exportsOpened b start)
     (gives (opaque kind start (length b)) (walk.Between end))))))
 
 -- what opens the next one

@@ -11,7 +11,7 @@ use Rattle.walk.specs.Cases.{tests, by-cases}
 use Rattle.walk.specs.Listing.{Answer, gives, none, refuses, Reply, gave, refused}
 use Rattle.refusal.specs.Told.{Told, told, longest}
 use Rattle.refusal.specs.declared.Refusal.the-variants as why
-use Rattle.area.specs.Kind.{Sort}
+use Rattle.kinds.specs.Kind.{LINES, «FILE_CHECKSUMS», «INLINEE_LINES», «CROSS_SCOPE_IMPORTS», «CROSS_SCOPE_EXPORTS», Sort}
 use Rattle.area.specs.Subs.{Sub, stepAt}
 use Rattle.area.specs.SubsLaws.{sub-next}
 use Rattle.table.specs.Table.{Place, spotIn}
@@ -50,31 +50,31 @@ module _ (b : List ℕ) (start : ℕ) where
   exports-odd h = simp tests
 
 module _ (b : List ℕ) (kind start end : ℕ) where
-  pub opened-lines : kind ≡ 0xf2 → linesOpened b start ≡ opened b kind start end
+  pub opened-lines : kind ≡ LINES → linesOpened b start ≡ opened b kind start end
   unfolding opened
   opened-lines h = simp tests
 
-  module _ (h₂ : kind ≡ 0xf2 → ⊥) where
-    pub opened-checksums : kind ≡ 0xf4 → gives openChecksums (walk.In typed.Checksums start (length b) 0) ≡ opened b kind start end
+  module _ (h₂ : kind ≡ LINES → ⊥) where
+    pub opened-checksums : kind ≡ «FILE_CHECKSUMS» → gives openChecksums (walk.In typed.Checksums start (length b) 0) ≡ opened b kind start end
     unfolding opened
     opened-checksums h = simp tests
 
-    module _ (h₄ : kind ≡ 0xf4 → ⊥) where
-      pub opened-inlinees : kind ≡ 0xf6 → inlineesOpened b start ≡ opened b kind start end
+    module _ (h₄ : kind ≡ «FILE_CHECKSUMS» → ⊥) where
+      pub opened-inlinees : kind ≡ «INLINEE_LINES» → inlineesOpened b start ≡ opened b kind start end
       unfolding opened
       opened-inlinees h = simp tests
 
-      module _ (h₆ : kind ≡ 0xf6 → ⊥) where
-        pub opened-imports : kind ≡ 0xf7 → gives openImports (walk.In typed.Imports start (length b) 0) ≡ opened b kind start end
+      module _ (h₆ : kind ≡ «INLINEE_LINES» → ⊥) where
+        pub opened-imports : kind ≡ «CROSS_SCOPE_IMPORTS» → gives openImports (walk.In typed.Imports start (length b) 0) ≡ opened b kind start end
         unfolding opened
         opened-imports h = simp tests
 
-        module _ (h₇ : kind ≡ 0xf7 → ⊥) where
-          pub opened-exports : kind ≡ 0xf8 → exportsOpened b start ≡ opened b kind start end
+        module _ (h₇ : kind ≡ «CROSS_SCOPE_IMPORTS» → ⊥) where
+          pub opened-exports : kind ≡ «CROSS_SCOPE_EXPORTS» → exportsOpened b start ≡ opened b kind start end
           unfolding opened
           opened-exports h = simp tests
 
-          pub opened-opaque : (kind ≡ 0xf8 → ⊥) → gives (opaque kind start (length b)) (walk.Between end) ≡ opened b kind start end
+          pub opened-opaque : (kind ≡ «CROSS_SCOPE_EXPORTS» → ⊥) → gives (opaque kind start (length b)) (walk.Between end) ≡ opened b kind start end
           unfolding opened
           opened-opaque h = simp tests
 

@@ -13,7 +13,7 @@ use Rattle.walk.specs.ListingLaws.{calls-are}
 use Rattle.walk.specs.Listing.{spread}
 use Rattle.refusal.specs.Told.{Told, told, longest}
 use Rattle.refusal.specs.declared.Refusal.the-variants as why
-use Rattle.area.specs.Kind.{Sort}
+use Rattle.kinds.specs.Kind.{LINES, «FILE_CHECKSUMS», «INLINEE_LINES», «CROSS_SCOPE_IMPORTS», «CROSS_SCOPE_EXPORTS», Sort}
 use Rattle.area.specs.Subs.{Sub, subsFrom, firstOf}
 use Rattle.area.specs.SubsLaws.{Chained, subs-chained, subs-long}
 use Rattle.body.specs.Lines.{lineHeadSize}
@@ -52,11 +52,11 @@ exports-leads b start end = by-cases (Opens start (length b) end) (eqb (length b
 opened-leads : (b : List ℕ) (kind start end : ℕ) → Opens start (length b) end (opened b kind start end)
 unfolding opened
 opened-leads b kind start end =
-    by-cases P (eqb kind 0xf2) (λ e. lines-leads b start end)
-    (λ e. by-cases P (eqb kind 0xf4) (λ e. (refl, refl))
-    (λ e. by-cases P (eqb kind 0xf6) (λ e. inlinees-leads b start end)
-    (λ e. by-cases P (eqb kind 0xf7) (λ e. (refl, refl))
-    (λ e. by-cases P (eqb kind 0xf8) (λ e. exports-leads b start end) (λ e. refl)))))
+    by-cases P (eqb kind LINES) (λ e. lines-leads b start end)
+    (λ e. by-cases P (eqb kind «FILE_CHECKSUMS») (λ e. (refl, refl))
+    (λ e. by-cases P (eqb kind «INLINEE_LINES») (λ e. inlinees-leads b start end)
+    (λ e. by-cases P (eqb kind «CROSS_SCOPE_IMPORTS») (λ e. (refl, refl))
+    (λ e. by-cases P (eqb kind «CROSS_SCOPE_EXPORTS») (λ e. exports-leads b start end) (λ e. refl)))))
   where
     P : ItemAnswer → Type 0
     P = Opens start (length b) end

@@ -2,11 +2,16 @@
 //
 // A body is read before the next header is: its records, as crate `reading_record` has them, and behind the last one what opens the next subsection.
 ghost use mathlib.Core.Path.{_≡_};
-ghost use Rattle.area.specs.Kind.{crateRule};
+ghost use Rattle.kinds.specs.Kind.{crateRule};
 ghost use Rattle.reading_record.specs.Told.{toldItem};
 ghost use Rattle.reading_walk.specs.Step.{linesOpened, inlineesOpened, exportsOpened, opened, openStep, itemStep};
 use area::SubStep;
 use area::sub_at;
+use kinds::CROSS_SCOPE_EXPORTS;
+use kinds::CROSS_SCOPE_IMPORTS;
+use kinds::FILE_CHECKSUMS;
+use kinds::INLINEE_LINES;
+use kinds::LINES;
 use lines::LINE_HEAD;
 use lines::header_of;
 use reading_record::ItemStep;
@@ -73,8 +78,8 @@ fn open_body(body: &[u8], kind: u32, start: usize, end: usize) -> ItemStep
 {
     let len = body.len();
     match kind {
-        0xf2 => open_lines(body, start),
-        0xf4 => ItemStep::OpenChecksums {
+        LINES => open_lines(body, start),
+        FILE_CHECKSUMS => ItemStep::OpenChecksums {
             next: ItemWalk::In {
                 body: TypedBody::Checksums,
                 start,
@@ -82,8 +87,8 @@ fn open_body(body: &[u8], kind: u32, start: usize, end: usize) -> ItemStep
                 at: 0,
             },
         },
-        0xf6 => open_inlinees(body, start),
-        0xf7 => ItemStep::OpenImports {
+        INLINEE_LINES => open_inlinees(body, start),
+        CROSS_SCOPE_IMPORTS => ItemStep::OpenImports {
             next: ItemWalk::In {
                 body: TypedBody::Imports,
                 start,
@@ -91,7 +96,7 @@ fn open_body(body: &[u8], kind: u32, start: usize, end: usize) -> ItemStep
                 at: 0,
             },
         },
-        0xf8 => open_exports(body, start),
+        CROSS_SCOPE_EXPORTS => open_exports(body, start),
         _ => ItemStep::Opaque {
             kind,
             start,

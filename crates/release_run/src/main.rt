@@ -5,6 +5,10 @@
 // next item of the reading is taken for each call that was accepted, printed, and compared with the call. What is printed is compared with the file
 // stdout.
 use files::checksum_bytes;
+use kinds::COFF_SYMBOL_RVA;
+use kinds::LINES;
+use kinds::STRING_TABLE;
+use kinds::SYMBOLS;
 use libc::STDOUT_FILENO;
 use reading_record::Columns;
 use reading_record::ItemStep;
@@ -109,10 +113,10 @@ fn last_call_at(i: usize) -> Call {
         30 => Call::Pair(0x1000, 0x2000),
         31 => Call::Pair(0x1000, 0x2001),
         32 => Call::Pair(0x8000_0001, 0x3000),
-        33 => Call::Opaque(0xf2, 0, 32),
-        34 => Call::Opaque(0xf1, 0, 12),
-        35 => Call::Opaque(0xf3, 0, 16),
-        36 => Call::Opaque(0xfd, 0, 4),
+        33 => Call::Opaque(LINES, 0, 32),
+        34 => Call::Opaque(SYMBOLS, 0, 12),
+        35 => Call::Opaque(STRING_TABLE, 0, 16),
+        36 => Call::Opaque(COFF_SYMBOL_RVA, 0, 4),
         _ => Call::OpenExports,
     }
 }

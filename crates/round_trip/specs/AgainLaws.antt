@@ -13,7 +13,7 @@ use Rattle.word.specs.WordLaws.{header-length, le32-length, put-length}
 use Rattle.walk.specs.Listing.{ends, before}
 use Rattle.refusal.specs.Told.{told, longest}
 use Rattle.refusal.specs.declared.Refusal.the-variants as why
-use Rattle.area.specs.Kind.{Sort}
+use Rattle.kinds.specs.Kind.{Sort}
 use Rattle.area.specs.Join.{join}
 use Rattle.area.specs.JoinLaws.{join-append}
 use Rattle.body.specs.Lines.{columned, columnsOf, Block, lineHeadBytes, blockBytes}

@@ -14,6 +14,7 @@ use Rattle.walk.specs.Cases.{and-true}
 use Rattle.walk.specs.Listing.{Move, item, pass, over, fail, Listing, more, ends, fails, before, all}
 use Rattle.refusal.specs.Told.{Told, told}
 use Rattle.refusal.specs.declared.Refusal.the-variants as why
+use Rattle.kinds.specs.Kind.{LINES, «FILE_CHECKSUMS», «INLINEE_LINES», «CROSS_SCOPE_IMPORTS», «CROSS_SCOPE_EXPORTS»}
 use Rattle.area.specs.Parts.{Raw, Parts, parts}
 use Rattle.area.specs.Join.{bytesOf, join}
 use Rattle.area.specs.JoinLaws.{join-whole}
@@ -116,14 +117,15 @@ pub record Back (k : ℕ) (b : List ℕ) : Type 0 where
   pub body : bodySec sec ≡ b
   pub good : GoodSec sec
 
-lines-back : (b : List ℕ) (m : ℕ) → Bytes b → linesMark b ≡ some m → Back 0xf2 b
+lines-back : (b : List ℕ) (m : ℕ) → Bytes b → linesMark b ≡ some m → Back LINES b
 unfolding linesMark
 lines-back b m h = go (ltb (length b) lineHeadSize) refl
   where
     c : Bool
     c = columned (lineHead b .flags)
 
-    go : (t : Bool) → ltb (length b) lineHeadSize ≡ t → cond t none (marked (wholly (plainBlock c) (drop lineHeadSize b)) (lineHead b .flags % 2)) ≡ some m → Back 0xf2 b
+    go : (t : Bool) → ltb (length b) lineHeadSize ≡ t → cond t none (marked (wholly (plainBlock c) (drop lineHeadSize b)) (lineHead b .flags % 2)) ≡ some m
+        → Back LINES b
     go true e q = no-some q
     go false e q =
         let L = whole-list (plainBlock c) (drop lineHeadSize b) (marked-some (wholly (plainBlock c) (drop lineHeadSize b)) (lineHead b .flags % 2) m q) in
@@ -135,14 +137,15 @@ lines-back b m h = go (ltb (length b) lineHeadSize) refl
           good = M .good;
         }
 
-inlinees-back : (b : List ℕ) (m : ℕ) → Bytes b → inlineesMark b ≡ some m → Back 0xf6 b
+inlinees-back : (b : List ℕ) (m : ℕ) → Bytes b → inlineesMark b ≡ some m → Back «INLINEE_LINES» b
 unfolding inlineesMark
 inlinees-back b m h = go (ltb (length b) 4) refl (ltb 1 (u32At b 0)) refl
   where
     g : ℕ
     g = u32At b 0
 
-    go : (t : Bool) → ltb (length b) 4 ≡ t → (v : Bool) → ltb 1 (u32At b 0) ≡ v → cond t none (cond v none (marked (wholly (inlineeBite (extended g)) (drop 4 b)) g)) ≡ some m → Back 0xf6 b
+    go : (t : Bool) → ltb (length b) 4 ≡ t → (v : Bool) → ltb 1 (u32At b 0) ≡ v
+        → cond t none (cond v none (marked (wholly (inlineeBite (extended g)) (drop 4 b)) g)) ≡ some m → Back «INLINEE_LINES» b
     go true e v f q = no-some q
     go false e true f q = no-some q
     go false e false f q =
@@ -155,13 +158,13 @@ inlinees-back b m h = go (ltb (length b) 4) refl (ltb 1 (u32At b 0)) refl
           good = (ltb-false 1 g f, M .good);
         }
 
-checksums-back : (b : List ℕ) (m : ℕ) → Bytes b → marked (wholly plainChecksum b) 0 ≡ some m → Back 0xf4 b
+checksums-back : (b : List ℕ) (m : ℕ) → Bytes b → marked (wholly plainChecksum b) 0 ≡ some m → Back «FILE_CHECKSUMS» b
 checksums-back b m h q =
     let L = whole-list plainChecksum b (marked-some (wholly plainChecksum b) 0 m q) in
     let M = run-back plainChecksum checksumBytes Sized plain-checksum-sound checksum-back b h (L .0) (L .1) in
     record { sec = checksumsOf (L .0); kind = refl; body = sym (M .bytes); good = M .good }
 
-modules-back : (b : List ℕ) (m : ℕ) → Bytes b → marked (wholly moduleBite b) 0 ≡ some m → Back 0xf7 b
+modules-back : (b : List ℕ) (m : ℕ) → Bytes b → marked (wholly moduleBite b) 0 ≡ some m → Back «CROSS_SCOPE_IMPORTS» b
 modules-back b m h q =
     let L = whole-list moduleBite b (marked-some (wholly moduleBite b) 0 m q) in
     let M = run-back moduleBite moduleBytes Any module-sound module-front b h (L .0) (L .1) in
@@ -176,7 +179,7 @@ pairs-list b ps = go (eqb (length b % 8) 0) ps
     go false [] e = let z : _≡_ {A = ℕ} 0 1 = cc in absurd (omega arith)
     go false (x ∷ xs) e = let z : _≡_ {A = ℕ} 0 1 = cc in absurd (omega arith)
 
-pairs-back : (b : List ℕ) (m : ℕ) → Bytes b → ascendsFrom 0 (pairs b) ≡ some m → Back 0xf8 b
+pairs-back : (b : List ℕ) (m : ℕ) → Bytes b → ascendsFrom 0 (pairs b) ≡ some m → Back «CROSS_SCOPE_EXPORTS» b
 pairs-back b m h q =
     let L = ascends-list (pairs b) 0 m q in
     let M = run-back pairBite pairBytes AnyPair pair-sound pair-front b h (L .0) (pairs-list b (L .0) (L .1)) in
@@ -187,16 +190,18 @@ at-kind k j b e B = record { sec = B .sec; kind = B .kind ∙ sym e; body = B .b
 
 pub mark-back : (k : ℕ) (b : List ℕ) (m : ℕ) → Bytes b → markOf k b ≡ some m → Back k b
 unfolding markOf
-mark-back k b m h = go (eqb k 0xf2) refl (eqb k 0xf4) refl (eqb k 0xf6) refl (eqb k 0xf7) refl (eqb k 0xf8) refl
+mark-back k b m h = go (eqb k LINES) refl (eqb k «FILE_CHECKSUMS») refl (eqb k «INLINEE_LINES») refl (eqb k «CROSS_SCOPE_IMPORTS») refl
+    (eqb k «CROSS_SCOPE_EXPORTS») refl
   where
-    go : (t₂ : Bool) → eqb k 0xf2 ≡ t₂ → (t₄ : Bool) → eqb k 0xf4 ≡ t₄ → (t₆ : Bool) → eqb k 0xf6 ≡ t₆ → (t₇ : Bool) → eqb k 0xf7 ≡ t₇ → (t₈ : Bool) → eqb k 0xf8 ≡ t₈
+    go : (t₂ : Bool) → eqb k LINES ≡ t₂ → (t₄ : Bool) → eqb k «FILE_CHECKSUMS» ≡ t₄ → (t₆ : Bool) → eqb k «INLINEE_LINES» ≡ t₆ → (t₇ : Bool)
+        → eqb k «CROSS_SCOPE_IMPORTS» ≡ t₇ → (t₈ : Bool) → eqb k «CROSS_SCOPE_EXPORTS» ≡ t₈
         → cond t₂ (linesMark b) (cond t₄ (marked (wholly plainChecksum b) 0) (cond t₆ (inlineesMark b) (cond t₇ (marked (wholly moduleBite b) 0)
         (cond t₈ (ascendsFrom 0 (pairs b)) (marked (isOpaque k && eqb (length b % 4) 0) 0))))) ≡ some m → Back k b
-    go true e₂ t₄ e₄ t₆ e₆ t₇ e₇ t₈ e₈ q = at-kind k 0xf2 b (eqb-true k 0xf2 e₂) (lines-back b m h q)
-    go false e₂ true e₄ t₆ e₆ t₇ e₇ t₈ e₈ q = at-kind k 0xf4 b (eqb-true k 0xf4 e₄) (checksums-back b m h q)
-    go false e₂ false e₄ true e₆ t₇ e₇ t₈ e₈ q = at-kind k 0xf6 b (eqb-true k 0xf6 e₆) (inlinees-back b m h q)
-    go false e₂ false e₄ false e₆ true e₇ t₈ e₈ q = at-kind k 0xf7 b (eqb-true k 0xf7 e₇) (modules-back b m h q)
-    go false e₂ false e₄ false e₆ false e₇ true e₈ q = at-kind k 0xf8 b (eqb-true k 0xf8 e₈) (pairs-back b m h q)
+    go true e₂ t₄ e₄ t₆ e₆ t₇ e₇ t₈ e₈ q = at-kind k LINES b (eqb-true k LINES e₂) (lines-back b m h q)
+    go false e₂ true e₄ t₆ e₆ t₇ e₇ t₈ e₈ q = at-kind k «FILE_CHECKSUMS» b (eqb-true k «FILE_CHECKSUMS» e₄) (checksums-back b m h q)
+    go false e₂ false e₄ true e₆ t₇ e₇ t₈ e₈ q = at-kind k «INLINEE_LINES» b (eqb-true k «INLINEE_LINES» e₆) (inlinees-back b m h q)
+    go false e₂ false e₄ false e₆ true e₇ t₈ e₈ q = at-kind k «CROSS_SCOPE_IMPORTS» b (eqb-true k «CROSS_SCOPE_IMPORTS» e₇) (modules-back b m h q)
+    go false e₂ false e₄ false e₆ false e₇ true e₈ q = at-kind k «CROSS_SCOPE_EXPORTS» b (eqb-true k «CROSS_SCOPE_EXPORTS» e₈) (pairs-back b m h q)
     go false e₂ false e₄ false e₆ false e₇ false e₈ q =
         let a = and-true (isOpaque k) (eqb (length b % 4) 0) (marked-some (isOpaque k && eqb (length b % 4) 0) 0 m q) in
         record { sec = opaqueOf k b; kind = refl; body = refl; good = (a .0, eqb-true (length b % 4) 0 (a .1)) }

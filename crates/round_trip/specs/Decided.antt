@@ -15,7 +15,7 @@ use Rattle.word.specs.Word.{Bytes}
 use Rattle.walk.specs.Listing.{gave, refused, ends, before}
 use Rattle.refusal.specs.Told.{told}
 use Rattle.refusal.specs.declared.Refusal.the-variants as why
-use Rattle.area.specs.Kind.{crateRule}
+use Rattle.kinds.specs.Kind.{crateRule}
 use Rattle.reading.specs.Reading.{Item, opens, reading}
 use Rattle.plain.specs.Plain.{Plain}
 use Rattle.writer_decides.specs.Calls.{itemKind, limit, answered, bufferAfter}

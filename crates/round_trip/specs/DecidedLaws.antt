@@ -16,7 +16,7 @@ use Rattle.walk.specs.Cases.{le-or-gt}
 use Rattle.walk.specs.Listing.{Reply, gave, refused, ends, before}
 use Rattle.refusal.specs.Told.{Told, told}
 use Rattle.refusal.specs.declared.Refusal.the-variants as why
-use Rattle.area.specs.Kind.{crateRule}
+use Rattle.kinds.specs.Kind.{crateRule}
 use Rattle.area.specs.Join.{join}
 use Rattle.body.specs.RunLaws.{Each}
 use Rattle.reading.specs.Reading.{Item, opens, reading}

@@ -21,7 +21,7 @@ use Rattle.walk.specs.Listing.{Reply, gave, refused, ends, before}
 use Rattle.refusal.specs.Told.{Told, told, longest}
 use Rattle.refusal.specs.declared.Refusal.the-variants as why
 use Rattle.area.specs.Parts.{parts}
-use Rattle.area.specs.Kind.{Sort, crateRule}
+use Rattle.kinds.specs.Kind.{Sort, crateRule}
 use Rattle.reading.specs.Reading.{Item, reading}
 use Rattle.plain.specs.Plain.{Last, nothing-yet, plainFrom, plainOf, Plain, KnowsPlain}
 use Rattle.writer_decides.specs.Calls.{answered, bufferAfter}
@@ -81,7 +81,7 @@ round = round-trip
 -- a rule for kinds needs no more than this
 pub crate-knows : KnowsPlain crateRule
 unfolding crateRule
-crate-knows k a b = rw (le-leb 0xf1 k a, le-leb k 0xfd b)
+crate-knows k e = rw e
 
 pub one-history : OneHistory
 one-history its its′ b b′ e =

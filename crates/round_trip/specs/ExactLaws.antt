@@ -13,6 +13,7 @@ use borrow.Author.Tests.{le-leb, eq-eqb, eqb-true}
 use Rattle.walk.specs.Listing.{Reply, gave, refused, ends, before, andThen, spread}
 use Rattle.refusal.specs.Told.{Told, told}
 use Rattle.refusal.specs.declared.Refusal.the-variants as why
+use Rattle.kinds.specs.Kind.{LINES, «FILE_CHECKSUMS», «INLINEE_LINES», «CROSS_SCOPE_IMPORTS», «CROSS_SCOPE_EXPORTS»}
 use Rattle.area.specs.Join.{join}
 use Rattle.area.specs.JoinLaws.{parts-whole}
 use Rattle.body.specs.Lines.{columned}
@@ -57,21 +58,22 @@ module _ (is : List Item) where
   same-obeyed f P k m ek em eo (b ∷ bs) g o =
       (record { kind = inr (sym (ek b)); rule = eo b (g .0) }, rw (ek b, em b) (same-obeyed f P k m ek em eo bs (g .1) o))
 
-  pairs-obeyed : (f : ℕ) (ps : List Pair) → Ascend f ps → Obeyed 0xf8 (floorAfter f ps) is → Obeyed 0xf8 f (map exports ps ++ is)
+  pairs-obeyed : (f : ℕ) (ps : List Pair) → Ascend f ps → Obeyed «CROSS_SCOPE_EXPORTS» (floorAfter f ps) is
+      → Obeyed «CROSS_SCOPE_EXPORTS» f (map exports ps ++ is)
   pairs-obeyed f [] g o = o
   pairs-obeyed f (p ∷ ps) g o = (record { kind = inr refl; rule = le-leb f (p .local) (g .0) }, pairs-obeyed (p .local + 1) ps (g .1) o)
 
   sec-obeyed : (s : Sec) → GoodSec s → (k m : ℕ) → Obeyed (kindSec s) (markSec s) is → Obeyed k m (callsSec s ++ is)
   sec-obeyed (linesOf h bs) g k m o =
-      let r = same-obeyed block (Filled (columned (h .flags))) 0xf2 (h .flags % 2) (λ b. refl) (λ b. refl) (λ b w. block-obeys (h .flags) b w) bs g o in
+      let r = same-obeyed block (Filled (columned (h .flags))) LINES (h .flags % 2) (λ b. refl) (λ b. refl) (λ b w. block-obeys (h .flags) b w) bs g o in
       (record { kind = inl refl; rule = refl }, r)
   sec-obeyed (checksumsOf cs) g k m o =
-      (record { kind = inl refl; rule = refl }, same-obeyed checksum Sized 0xf4 0 (λ b. refl) (λ b. refl) (λ b w. checksum-obeys b w) cs g o)
+      (record { kind = inl refl; rule = refl }, same-obeyed checksum Sized «FILE_CHECKSUMS» 0 (λ b. refl) (λ b. refl) (λ b w. checksum-obeys b w) cs g o)
   sec-obeyed (inlineesOf n es) g k m o =
-      let r = same-obeyed inlinee (Fits (extended n)) 0xf6 n (λ b. refl) (λ b. refl) (λ b w. extra-obeys (extended n) b w) es (g .1) o in
+      let r = same-obeyed inlinee (Fits (extended n)) «INLINEE_LINES» n (λ b. refl) (λ b. refl) (λ b w. extra-obeys (extended n) b w) es (g .1) o in
       (record { kind = inl refl; rule = le-leb n 1 (g .0) }, r)
   sec-obeyed (importsOf ms) g k m o =
-      (record { kind = inl refl; rule = refl }, same-obeyed imports (λ x. Unit {0}) 0xf7 0 (λ b. refl) (λ b. refl) (λ b w. refl) ms g o)
+      (record { kind = inl refl; rule = refl }, same-obeyed imports (λ x. Unit {0}) «CROSS_SCOPE_IMPORTS» 0 (λ b. refl) (λ b. refl) (λ b w. refl) ms g o)
   sec-obeyed (exportsOf ps) g k m o = (record { kind = inl refl; rule = refl }, pairs-obeyed 0 ps g o)
   sec-obeyed (opaqueOf j b) g k m o = (record { kind = inl refl; rule = rw (g .0, eq-eqb (length b % 4) 0 (g .1)) }, o)
 
@@ -85,15 +87,16 @@ module _ (is : List Item) where
   )
 
   pairs-after : (f : ℕ) (ps : List Pair)
-      → (kindAfter 0xf8 (map exports ps ++ is) ≡ kindAfter 0xf8 is) × (markAfter f (map exports ps ++ is) ≡ markAfter (floorAfter f ps) is)
+      → (kindAfter «CROSS_SCOPE_EXPORTS» (map exports ps ++ is) ≡ kindAfter «CROSS_SCOPE_EXPORTS» is)
+          × (markAfter f (map exports ps ++ is) ≡ markAfter (floorAfter f ps) is)
   pairs-after f [] = (refl, refl)
   pairs-after f (p ∷ ps) = pairs-after (p .local + 1) ps
 
   sec-after : (s : Sec) (k m : ℕ) → (kindAfter k (callsSec s ++ is) ≡ kindAfter (kindSec s) is) × (markAfter m (callsSec s ++ is) ≡ markAfter (markSec s) is)
-  sec-after (linesOf h bs) k m = same-after block 0xf2 (h .flags % 2) (λ b. refl) (λ b. refl) bs
-  sec-after (checksumsOf cs) k m = same-after checksum 0xf4 0 (λ b. refl) (λ b. refl) cs
-  sec-after (inlineesOf n es) k m = same-after inlinee 0xf6 n (λ b. refl) (λ b. refl) es
-  sec-after (importsOf ms) k m = same-after imports 0xf7 0 (λ b. refl) (λ b. refl) ms
+  sec-after (linesOf h bs) k m = same-after block LINES (h .flags % 2) (λ b. refl) (λ b. refl) bs
+  sec-after (checksumsOf cs) k m = same-after checksum «FILE_CHECKSUMS» 0 (λ b. refl) (λ b. refl) cs
+  sec-after (inlineesOf n es) k m = same-after inlinee «INLINEE_LINES» n (λ b. refl) (λ b. refl) es
+  sec-after (importsOf ms) k m = same-after imports «CROSS_SCOPE_IMPORTS» 0 (λ b. refl) (λ b. refl) ms
   sec-after (exportsOf ps) k m = pairs-after 0 ps
   sec-after (opaqueOf j b) k m = (refl, refl)
 

@@ -17,7 +17,7 @@ use Rattle.walk.specs.Pick.{failure}
 use Rattle.refusal.specs.Told.{Told, told, longest}
 use Rattle.refusal.specs.declared.Refusal.the-variants as why
 use Rattle.area.specs.Parts.{Raw, Parts, parts}
-use Rattle.area.specs.Kind.{Sort, known, skipped, unknown, onSort, crateRule}
+use Rattle.kinds.specs.Kind.{LINES, «FILE_CHECKSUMS», «INLINEE_LINES», «CROSS_SCOPE_IMPORTS», «CROSS_SCOPE_EXPORTS», IGNORE, knownKinds, among, Sort, known, skipped, unknown, onSort, crateRule}
 use Rattle.area.specs.Subs.{bodiesIn, bodies}
 use Rattle.body.specs.Lines.{lineHeadSize, lineHead, lineBytes, blockHeadSize, blockBite, blocks}
 use Rattle.body.specs.Checksums.{Checksum, up4, checksumBite, checksums}
@@ -30,7 +30,7 @@ use Rattle.body.specs.RunLaws.{Each}
 use Rattle.reading.specs.Reading.{Item, Items, each, openLines, block, openChecksums, checksum, openInlinees, inlinee, openImports, imports, openExports, exports, opaque, itemsOf, linesItems, checksumsItems, inlineesItems, importsItems, exportsItems, reading}
 use Rattle.reading.specs.BodiesLaws.{numbered, reading-bodies}
 use Rattle.plain.specs.Plain.{blockFilled, plainBlock, sizeOf, tidy, plainChecksum, endsWhole, wholly, ascendsFrom, marked, linesMark, inlineesMark, isOpaque, markOf, Last, nothing-yet, onMark, plainFrom, plainOf, Plain}
-use Rattle.plain.specs.RecordLaws.{padding-two}
+use Rattle.plain.specs.RecordLaws.{padding-two, known-opaque}
 use Rattle.round_trip.specs.Secs.{Ascend, floorAfter}
 use Rattle.round_trip.specs.SecLaws.{numbered-before, before-numbered, ascends-forth}
 use Rattle.round_trip.specs.BackLaws.{Marked}
@@ -206,39 +206,20 @@ pairs-mark b xs e r = go (eqb (length b % 8) 0) e
         (floorAfter 0 (R .list), ap (ascendsFrom 0) (R .is) ∙ ascends-forth 0 (R .list) a)
     go false q = not-before (told why.ExportLength) xs q
 
-above : (k n : ℕ) → n ≤ k → (k ≡ n → ⊥) → n + 1 ≤ k
-above k n h z = omega arith
-
--- a known kind that is none of the five is opaque
-opaque-known : (k : ℕ) → 0xf1 ≤ k → k ≤ 0xfd → (k ≡ 0xf2 → ⊥) → (k ≡ 0xf4 → ⊥) → (k ≡ 0xf6 → ⊥) → (k ≡ 0xf7 → ⊥) → (k ≡ 0xf8 → ⊥) → isOpaque k ≡ true
-unfolding isOpaque
-opaque-known k a b n₂ n₄ n₆ n₇ n₈ = go (eqb k 0xf1) refl (eqb k 0xf3) refl (eqb k 0xf5) refl
-  where
-    go : (t₁ : Bool) → eqb k 0xf1 ≡ t₁ → (t₃ : Bool) → eqb k 0xf3 ≡ t₃ → (t₅ : Bool) → eqb k 0xf5 ≡ t₅
-        → cond t₁ true (cond t₃ true (cond t₅ true (leb 0xf9 k && leb k 0xfd))) ≡ true
-    go true e₁ t₃ e₃ t₅ e₅ = refl
-    go false e₁ true e₃ t₅ e₅ = refl
-    go false e₁ false e₃ true e₅ = refl
-    go false e₁ false e₃ false e₅ =
-        let a₃ : 0xf3 ≤ k = above k 0xf2 (above k 0xf1 a (eqb-false k 0xf1 e₁)) n₂ in
-        let a₅ : 0xf5 ≤ k = above k 0xf4 (above k 0xf3 a₃ (eqb-false k 0xf3 e₃)) n₄ in
-        let a₇ : 0xf7 ≤ k = above k 0xf6 (above k 0xf5 a₅ (eqb-false k 0xf5 e₅)) n₆ in
-        rw (le-leb 0xf9 k (above k 0xf8 (above k 0xf7 a₇ n₇) n₈), le-leb k 0xfd b)
-
 -- what the rules say of one subsection
 record Body (r : Raw) (xs : List Item) : Type 0 where
-  low : 0xf1 ≤ r .kind
-  high : r .kind ≤ 0xfd
+  kind : among (r .kind) knownKinds ≡ true
   read : itemsOf r ≡ before xs ends
   good : Each GoodItem xs
   rises : Rises xs
-  padding : r .kind ≡ 0xf4 → (t : List ℕ) → Lists (recordsAt checksumBite (r .body)) t → PaddingZero t
-  filled : r .kind ≡ 0xf2 → (t : List ℕ) → Lists (recordsAt (blockBite (haveColumns (r .body))) (drop lineHeadSize (r .body))) t
+  padding : r .kind ≡ «FILE_CHECKSUMS» → (t : List ℕ) → Lists (recordsAt checksumBite (r .body)) t → PaddingZero t
+  filled : r .kind ≡ LINES → (t : List ℕ) → Lists (recordsAt (blockBite (haveColumns (r .body))) (drop lineHeadSize (r .body))) t
       → ExactlyFilled (haveColumns (r .body)) t
 
 body-marked : (r : Raw) (xs : List Item) → Body r xs → Marked r
 unfolding markOf itemsOf
-body-marked r xs B = go (eqb k 0xf2) refl (eqb k 0xf4) refl (eqb k 0xf6) refl (eqb k 0xf7) refl (eqb k 0xf8) refl (B .read)
+body-marked r xs B = go (eqb k LINES) refl (eqb k «FILE_CHECKSUMS») refl (eqb k «INLINEE_LINES») refl (eqb k «CROSS_SCOPE_IMPORTS») refl
+    (eqb k «CROSS_SCOPE_EXPORTS») refl (B .read)
   where
     k : ℕ
     k = r .kind
@@ -246,14 +227,15 @@ body-marked r xs B = go (eqb k 0xf2) refl (eqb k 0xf4) refl (eqb k 0xf6) refl (e
     b : List ℕ
     b = r .body
 
-    go : (t₂ : Bool) → eqb k 0xf2 ≡ t₂ → (t₄ : Bool) → eqb k 0xf4 ≡ t₄ → (t₆ : Bool) → eqb k 0xf6 ≡ t₆ → (t₇ : Bool) → eqb k 0xf7 ≡ t₇ → (t₈ : Bool)
-        → eqb k 0xf8 ≡ t₈
+    go : (t₂ : Bool) → eqb k LINES ≡ t₂ → (t₄ : Bool) → eqb k «FILE_CHECKSUMS» ≡ t₄ → (t₆ : Bool) → eqb k «INLINEE_LINES» ≡ t₆ → (t₇ : Bool)
+        → eqb k «CROSS_SCOPE_IMPORTS» ≡ t₇ → (t₈ : Bool)
+        → eqb k «CROSS_SCOPE_EXPORTS» ≡ t₈
         → cond t₂ (linesItems b) (cond t₄ (checksumsItems b) (cond t₆ (inlineesItems b) (cond t₇ (importsItems b)
         (cond t₈ (exportsItems b) (more (opaque k b) ends))))) ≡ before xs ends
         → (m : ℕ) × (cond t₂ (linesMark b) (cond t₄ (marked (wholly plainChecksum b) 0) (cond t₆ (inlineesMark b) (cond t₇ (marked (wholly moduleBite b) 0)
         (cond t₈ (ascendsFrom 0 (pairs b)) (marked (isOpaque k && eqb (length b % 4) 0) 0))))) ≡ some m)
-    go true e₂ t₄ e₄ t₆ e₆ t₇ e₇ t₈ e₈ q = lines-mark b xs q (B .filled (eqb-true k 0xf2 e₂))
-    go false e₂ true e₄ t₆ e₆ t₇ e₇ t₈ e₈ q = (0, ap (λ (t : Bool). marked t 0) (sums-whole b xs q (B .good) (B .padding (eqb-true k 0xf4 e₄))))
+    go true e₂ t₄ e₄ t₆ e₆ t₇ e₇ t₈ e₈ q = lines-mark b xs q (B .filled (eqb-true k LINES e₂))
+    go false e₂ true e₄ t₆ e₆ t₇ e₇ t₈ e₈ q = (0, ap (λ (t : Bool). marked t 0) (sums-whole b xs q (B .good) (B .padding (eqb-true k «FILE_CHECKSUMS» e₄))))
     go false e₂ false e₄ true e₆ t₇ e₇ t₈ e₈ q = inlinees-mark b xs q (B .good)
     go false e₂ false e₄ false e₆ true e₇ t₈ e₈ q = (0, ap (λ (t : Bool). marked t 0) (modules-whole b xs q))
     go false e₂ false e₄ false e₆ false e₇ true e₈ q = pairs-mark b xs q (B .rises)
@@ -261,32 +243,33 @@ body-marked r xs B = go (eqb k 0xf2) refl (eqb k 0xf4) refl (eqb k 0xf6) refl (e
         let H = head (opaque k b) ends xs q in
         let gs : Each GoodItem (opaque k b ∷ H .rest) = rw (H .is) at (B .good) in
         let o =
-        opaque-known k (B .low) (B .high) (eqb-false k 0xf2 e₂) (eqb-false k 0xf4 e₄) (eqb-false k 0xf6 e₆) (eqb-false k 0xf7 e₇) (eqb-false k 0xf8 e₈) in
-        (0, rw (o, eq-eqb (length b % 4) 0 (gs .0)))
+        known-opaque k (eqb-false k LINES e₂) (eqb-false k «FILE_CHECKSUMS» e₄) (eqb-false k «INLINEE_LINES» e₆) (eqb-false k «CROSS_SCOPE_IMPORTS» e₇)
+            (eqb-false k «CROSS_SCOPE_EXPORTS» e₈) in
+        (0, rw (sym o ∙ B .kind, eq-eqb (length b % 4) 0 (gs .0)))
 
 -- ---- the crate's rule for kinds
 
 abbrev Says : ℕ → Sort → Type 0
-Says k known = (0xf1 ≤ k) × (k ≤ 0xfd)
-Says k skipped = k ≡ 0x8000_0000
+Says k known = among k knownKinds ≡ true
+Says k skipped = k ≡ IGNORE
 Says k unknown = Unit {0}
 
 sort-of : (k : ℕ) (o : Sort) → crateRule k ≡ o → Says k o
 unfolding crateRule
-sort-of k o e = subst (Says k) e (go (leb 0xf1 k && leb k 0xfd) refl (eqb k 0x8000_0000) refl)
+sort-of k o e = subst (Says k) e (go (among k knownKinds) refl (eqb k IGNORE) refl)
   where
-    go : (t : Bool) → (leb 0xf1 k && leb k 0xfd) ≡ t → (u : Bool) → eqb k 0x8000_0000 ≡ u → Says k (cond t known (cond u skipped unknown))
-    go true et u eu = let a = and-true (leb 0xf1 k) (leb k 0xfd) et in (leb-true 0xf1 k (a .0), leb-true k 0xfd (a .1))
-    go false et true eu = eqb-true k 0x8000_0000 eu
+    go : (t : Bool) → among k knownKinds ≡ t → (u : Bool) → eqb k IGNORE ≡ u → Says k (cond t known (cond u skipped unknown))
+    go true et u eu = et
+    go false et true eu = eqb-true k IGNORE eu
     go false et false eu = tt
 
 -- ---- an area, subsection by subsection
 
 -- the rules on the bytes of parts
 record OnBytes (l : Parts) : Type 0 where
-  kinds : (r : Raw) → Lists l r → r .kind ≡ 0x8000_0000 → ⊥
-  padding : (r : Raw) → Lists l r → r .kind ≡ 0xf4 → (t : List ℕ) → Lists (recordsAt checksumBite (r .body)) t → PaddingZero t
-  filled : (r : Raw) → Lists l r → r .kind ≡ 0xf2
+  kinds : (r : Raw) → Lists l r → r .kind ≡ IGNORE → ⊥
+  padding : (r : Raw) → Lists l r → r .kind ≡ «FILE_CHECKSUMS» → (t : List ℕ) → Lists (recordsAt checksumBite (r .body)) t → PaddingZero t
+  filled : (r : Raw) → Lists l r → r .kind ≡ LINES
       → (t : List ℕ) → Lists (recordsAt (blockBite (haveColumns (r .body))) (drop lineHeadSize (r .body))) t → ExactlyFilled (haveColumns (r .body)) t
 
 behind : (r : Raw) (l : Parts) → OnBytes (more r l) → OnBytes l
@@ -308,13 +291,11 @@ from-parts (more r l) xs e W g h p last =
         × (onMark (markOf (r .kind) (r .body)) none (λ m. plainFrom (p + 8 + length (r .body)) (record { header = p; kind = r .kind; mark = m }) l) ≡ some x)
     go known ek q ih =
         let S = split (numbered (itemsOf r)) (itemsBy l) xs q in
-        let b = sort-of (r .kind) known ek in
         let gs = each-split GoodItem (S .front) (S .rest) (rw (S .is) at g) in
         let hs : Rises (S .front ++ S .rest) = rw (S .is) at h in
         let M = body-marked r (S .front)
         (record {
-          low = b .0;
-          high = b .1;
+          kind = sort-of (r .kind) known ek;
           read = before-numbered (itemsOf r) (S .front) (S .left);
           good = gs .0;
           rises = rises-left (S .front) (S .rest) hs;

@@ -11,6 +11,7 @@ use lib.Dec.{eqb}
 use borrow.Author.Tests.{leb-true, eqb-true}
 use Rattle.word.specs.Word.{le32, put, header}
 use Rattle.word.specs.WordLaws.{header-length, le32-length}
+use Rattle.kinds.specs.Kind.{LINES, «FILE_CHECKSUMS», «INLINEE_LINES», «CROSS_SCOPE_IMPORTS», «CROSS_SCOPE_EXPORTS»}
 use Rattle.area.specs.Parts.{Raw}
 use Rattle.area.specs.Join.{bytesOf, join}
 use Rattle.area.specs.JoinLaws.{appended}
@@ -114,7 +115,8 @@ pub ascend-snoc : (f : ℕ) (ps : List Pair) (p : Pair) → Ascend f ps → floo
 ascend-snoc f [] p g h = (h, tt)
 ascend-snoc f (x ∷ ps) p g h = (g .0, ascend-snoc (x .local + 1) ps p (g .1) h)
 
-pub opaque-none : (isOpaque 0xf2 ≡ false) × (isOpaque 0xf4 ≡ false) × (isOpaque 0xf6 ≡ false) × (isOpaque 0xf7 ≡ false) × (isOpaque 0xf8 ≡ false)
+pub opaque-none : (isOpaque LINES ≡ false) × (isOpaque «FILE_CHECKSUMS» ≡ false) × (isOpaque «INLINEE_LINES» ≡ false)
+    × (isOpaque «CROSS_SCOPE_IMPORTS» ≡ false) × (isOpaque «CROSS_SCOPE_EXPORTS» ≡ false)
 unfolding isOpaque
 opaque-none = (refl, refl, refl, refl, refl)
 
@@ -123,7 +125,7 @@ filled-by f b o =
     let h = fits-block (f % 2) (length (b .lines)) (length (b .columns)) o in
     record { pairs = omega (arith, h .0); columns = h .1 ∙ ap (λ (t : Bool). columnsOf t (length (b .lines) / 2)) (columned-twice f) }
 
-unfoldable pub bigger-block : (s : Sec) (b : Block) → GoodSec s → kindSec s ≡ 0xf2 → obeys (markSec s) (block b) ≡ true → Bigger s (block b)
+unfoldable pub bigger-block : (s : Sec) (b : Block) → GoodSec s → kindSec s ≡ LINES → obeys (markSec s) (block b) ≡ true → Bigger s (block b)
 bigger-block (linesOf h bs) b g e o = record {
   sec = linesOf h (bs ++ (b ∷ []));
   kind = refl;
@@ -135,9 +137,10 @@ bigger-block (checksumsOf cs) b g e o = absurd (omega arith)
 bigger-block (inlineesOf n es) b g e o = absurd (omega arith)
 bigger-block (importsOf ms) b g e o = absurd (omega arith)
 bigger-block (exportsOf ps) b g e o = absurd (omega arith)
-bigger-block (opaqueOf k d) b g e o = not-opaque k 0xf2 e (opaque-none .0) (g .0)
+bigger-block (opaqueOf k d) b g e o = not-opaque k LINES e (opaque-none .0) (g .0)
 
-unfoldable pub bigger-checksum : (s : Sec) (c : Checksum) → GoodSec s → kindSec s ≡ 0xf4 → obeys (markSec s) (checksum c) ≡ true → Bigger s (checksum c)
+unfoldable pub bigger-checksum : (s : Sec) (c : Checksum) → GoodSec s → kindSec s ≡ «FILE_CHECKSUMS» → obeys (markSec s) (checksum c) ≡ true
+    → Bigger s (checksum c)
 bigger-checksum (linesOf h bs) c g e o = absurd (omega arith)
 bigger-checksum (checksumsOf cs) c g e o =
     let h = fits-size (c .kind) (length (c .bytes)) o in
@@ -151,9 +154,9 @@ bigger-checksum (checksumsOf cs) c g e o =
 bigger-checksum (inlineesOf n es) c g e o = absurd (omega arith)
 bigger-checksum (importsOf ms) c g e o = absurd (omega arith)
 bigger-checksum (exportsOf ps) c g e o = absurd (omega arith)
-bigger-checksum (opaqueOf k d) c g e o = not-opaque k 0xf4 e (opaque-none .1) (g .0)
+bigger-checksum (opaqueOf k d) c g e o = not-opaque k «FILE_CHECKSUMS» e (opaque-none .1) (g .0)
 
-unfoldable pub bigger-inlinee : (s : Sec) (i : Inlinee) → GoodSec s → kindSec s ≡ 0xf6 → obeys (markSec s) (inlinee i) ≡ true → Bigger s (inlinee i)
+unfoldable pub bigger-inlinee : (s : Sec) (i : Inlinee) → GoodSec s → kindSec s ≡ «INLINEE_LINES» → obeys (markSec s) (inlinee i) ≡ true → Bigger s (inlinee i)
 bigger-inlinee (linesOf h bs) i g e o = absurd (omega arith)
 bigger-inlinee (checksumsOf cs) i g e o = absurd (omega arith)
 bigger-inlinee (inlineesOf n es) i g e o = record {
@@ -165,9 +168,9 @@ bigger-inlinee (inlineesOf n es) i g e o = record {
 }
 bigger-inlinee (importsOf ms) i g e o = absurd (omega arith)
 bigger-inlinee (exportsOf ps) i g e o = absurd (omega arith)
-bigger-inlinee (opaqueOf k d) i g e o = not-opaque k 0xf6 e (opaque-none .2) (g .0)
+bigger-inlinee (opaqueOf k d) i g e o = not-opaque k «INLINEE_LINES» e (opaque-none .2) (g .0)
 
-unfoldable pub bigger-module : (s : Sec) (m : Module) → GoodSec s → kindSec s ≡ 0xf7 → Bigger s (imports m)
+unfoldable pub bigger-module : (s : Sec) (m : Module) → GoodSec s → kindSec s ≡ «CROSS_SCOPE_IMPORTS» → Bigger s (imports m)
 bigger-module (linesOf h bs) m g e = absurd (omega arith)
 bigger-module (checksumsOf cs) m g e = absurd (omega arith)
 bigger-module (inlineesOf n es) m g e = absurd (omega arith)
@@ -179,9 +182,9 @@ bigger-module (importsOf ms) m g e = record {
   good = each-snoc (λ x. Unit {0}) ms m g tt;
 }
 bigger-module (exportsOf ps) m g e = absurd (omega arith)
-bigger-module (opaqueOf k d) m g e = not-opaque k 0xf7 e (opaque-none .3) (g .0)
+bigger-module (opaqueOf k d) m g e = not-opaque k «CROSS_SCOPE_IMPORTS» e (opaque-none .3) (g .0)
 
-unfoldable pub bigger-pair : (s : Sec) (p : Pair) → GoodSec s → kindSec s ≡ 0xf8 → obeys (markSec s) (exports p) ≡ true → Bigger s (exports p)
+unfoldable pub bigger-pair : (s : Sec) (p : Pair) → GoodSec s → kindSec s ≡ «CROSS_SCOPE_EXPORTS» → obeys (markSec s) (exports p) ≡ true → Bigger s (exports p)
 bigger-pair (linesOf h bs) p g e o = absurd (omega arith)
 bigger-pair (checksumsOf cs) p g e o = absurd (omega arith)
 bigger-pair (inlineesOf n es) p g e o = absurd (omega arith)
@@ -193,7 +196,7 @@ bigger-pair (exportsOf ps) p g e o = record {
   calls = ap (λ (x : List Item). openExports ∷ x) (map-snoc exports ps p);
   good = ascend-snoc 0 ps p g (leb-true (floorAfter 0 ps) (p .local) o);
 }
-bigger-pair (opaqueOf k d) p g e o = not-opaque k 0xf8 e (opaque-none .4) (g .0)
+bigger-pair (opaqueOf k d) p g e o = not-opaque k «CROSS_SCOPE_EXPORTS» e (opaque-none .4) (g .0)
 
 unfoldable pub bigger : (it : Item) (s : Sec) → opens it ≡ false → GoodSec s → kindSec s ≡ itemKind it → obeys (markSec s) it ≡ true → Bigger s it
 bigger (openLines h) s b g e o = never (sym b)

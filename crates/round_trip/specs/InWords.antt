@@ -13,7 +13,7 @@ use Rattle.walk.specs.Listing.{Move, item, pass, over, fail, Listing, more, end
 use Rattle.walk.specs.Pick.{failure}
 use Rattle.refusal.specs.Told.{Told}
 use Rattle.area.specs.Parts.{Raw, parts}
-use Rattle.area.specs.Kind.{crateRule}
+use Rattle.kinds.specs.Kind.{LINES, «FILE_CHECKSUMS», IGNORE, crateRule}
 use Rattle.body.specs.Lines.{lineHeadSize, lineHead, columned, lineBytes, blockHeadSize, blockBite}
 use Rattle.body.specs.Checksums.{Checksum, up4, checksumBite}
 use Rattle.body.specs.Exports.{Pair}
@@ -63,17 +63,17 @@ pub record PlainInWords (s : List ℕ) : Type 0 where
   -- the full reading refuses nothing
   pub read : failure (reading crateRule s) ≡ nothing
   -- no kind 0x80000000
-  pub kinds : (r : Raw) → Lists (parts s) r → r .kind ≡ 0x8000_0000 → ⊥
+  pub kinds : (r : Raw) → Lists (parts s) r → r .kind ≡ IGNORE → ⊥
   -- opaque lengths divisible by 4
   pub opaques : (k : ℕ) (b : List ℕ) → Lists (reading crateRule s) (opaque k b) → length b % 4 ≡ 0
   -- checksum sizes 0, 16, 20, 32 for the kinds 0 to 3
   pub sizes : (c : Checksum) → Lists (reading crateRule s) (checksum c) → length (c .bytes) ≡ sizeOf (c .kind)
   -- their padding zero
-  pub padding : (r : Raw) → Lists (parts s) r → r .kind ≡ 0xf4 → (t : List ℕ) → Lists (recordsAt checksumBite (r .body)) t → PaddingZero t
+  pub padding : (r : Raw) → Lists (parts s) r → r .kind ≡ «FILE_CHECKSUMS» → (t : List ℕ) → Lists (recordsAt checksumBite (r .body)) t → PaddingZero t
   -- signature 0 or 1
   pub signatures : (g : ℕ) → Lists (reading crateRule s) (openInlinees g) → g ≤ 1
   -- blocks exactly filled
-  pub filled : (r : Raw) → Lists (parts s) r → r .kind ≡ 0xf2
+  pub filled : (r : Raw) → Lists (parts s) r → r .kind ≡ LINES
       → (t : List ℕ) → Lists (recordsAt (blockBite (haveColumns (r .body))) (drop lineHeadSize (r .body))) t → ExactlyFilled (haveColumns (r .body)) t
   -- each export body strictly ascending by local index: pairs right behind each other are of one body
   pub ascending : (p q : Pair) → ListsNext (reading crateRule s) (exports p) (exports q) → p .local < q .local

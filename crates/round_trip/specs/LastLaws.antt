@@ -11,7 +11,7 @@ use Rattle.word.specs.Word.{Bytes}
 use Rattle.walk.specs.Listing.{more, ends, before}
 use Rattle.refusal.specs.Told.{longest}
 use Rattle.area.specs.Parts.{Raw, parts}
-use Rattle.area.specs.Kind.{crateRule}
+use Rattle.kinds.specs.Kind.{crateRule}
 use Rattle.area.specs.Join.{join}
 use Rattle.area.specs.JoinLaws.{parts-whole, join-append}
 use Rattle.reading.specs.Reading.{Item, reading}

@@ -17,7 +17,7 @@ use Rattle.walk.specs.SpreadLaws.{map-then}
 use Rattle.refusal.specs.Told.{Told, told, longest, numberOf}
 use Rattle.refusal.specs.declared.Refusal.the-variants as why
 use Rattle.area.specs.Parts.{Raw, Lack, Parts, parts}
-use Rattle.area.specs.Kind.{Sort}
+use Rattle.kinds.specs.Kind.{LINES, «FILE_CHECKSUMS», «INLINEE_LINES», «CROSS_SCOPE_IMPORTS», «CROSS_SCOPE_EXPORTS», knownKinds, among, Sort}
 use Rattle.area.specs.Subs.{bodiesIn, bodies}
 use Rattle.body.specs.Words.{wordsIn}
 use Rattle.body.specs.WordsLaws.{words-length}
@@ -145,7 +145,7 @@ pub record Listed (k : ℕ) (b : List ℕ) : Type 0 where
   pub read : itemsOf (record { kind = k; body = b }) ≡ before (callsSec sec) ends
   pub good : GoodSec sec
 
-lines-listed : (b : List ℕ) (m : ℕ) → linesMark b ≡ some m → Listed 0xf2 b
+lines-listed : (b : List ℕ) (m : ℕ) → linesMark b ≡ some m → Listed LINES b
 unfolding linesMark itemsOf linesItems blocks
 lines-listed b m = go (ltb (length b) lineHeadSize) refl
   where
@@ -155,7 +155,7 @@ lines-listed b m = go (ltb (length b) lineHeadSize) refl
     D : List ℕ
     D = drop lineHeadSize b
 
-    go : (t : Bool) → ltb (length b) lineHeadSize ≡ t → cond t none (marked (wholly (plainBlock c) D) (lineHead b .flags % 2)) ≡ some m → Listed 0xf2 b
+    go : (t : Bool) → ltb (length b) lineHeadSize ≡ t → cond t none (marked (wholly (plainBlock c) D) (lineHead b .flags % 2)) ≡ some m → Listed LINES b
     go true e q = no-some q
     go false e q =
         let L = whole-list (plainBlock c) D (marked-some (wholly (plainBlock c) D) (lineHead b .flags % 2) m q) in
@@ -168,7 +168,7 @@ lines-listed b m = go (ltb (length b) lineHeadSize) refl
           good = good-list (blockBite c) (Filled c) (block-sound c) (block-holds c) D (L .0) l;
         }
 
-checksums-listed : (b : List ℕ) (m : ℕ) → marked (wholly plainChecksum b) 0 ≡ some m → Listed 0xf4 b
+checksums-listed : (b : List ℕ) (m : ℕ) → marked (wholly plainChecksum b) 0 ≡ some m → Listed «FILE_CHECKSUMS» b
 unfolding itemsOf checksumsItems checksums
 checksums-listed b m q =
     let L = whole-list plainChecksum b (marked-some (wholly plainChecksum b) 0 m q) in
@@ -180,7 +180,7 @@ checksums-listed b m q =
       good = good-list plainChecksum Sized (λ s. strict-sound s (tidy s) (checksumBite s) (checksum-sound s)) sized-holds b (L .0) (L .1);
     }
 
-inlinees-listed : (b : List ℕ) (m : ℕ) → inlineesMark b ≡ some m → Listed 0xf6 b
+inlinees-listed : (b : List ℕ) (m : ℕ) → inlineesMark b ≡ some m → Listed «INLINEE_LINES» b
 unfolding inlineesMark itemsOf inlineesItems inlinees
 inlinees-listed b m = go (ltb (length b) 4) refl (ltb 1 (u32At b 0)) refl
   where
@@ -191,7 +191,7 @@ inlinees-listed b m = go (ltb (length b) 4) refl (ltb 1 (u32At b 0)) refl
     x = extended (u32At b 0)
 
     go : (t : Bool) → ltb (length b) 4 ≡ t → (v : Bool) → ltb 1 (u32At b 0) ≡ v
-        → cond t none (cond v none (marked (wholly (inlineeBite x) (drop 4 b)) g)) ≡ some m → Listed 0xf6 b
+        → cond t none (cond v none (marked (wholly (inlineeBite x) (drop 4 b)) g)) ≡ some m → Listed «INLINEE_LINES» b
     go true e v f q = no-some q
     go false e true f q = no-some q
     go false e false f q =
@@ -204,7 +204,7 @@ inlinees-listed b m = go (ltb (length b) 4) refl (ltb 1 (u32At b 0)) refl
           good = (ltb-false 1 g f, good-list (inlineeBite x) (Fits x) (inlinee-sound x) (inlinee-holds x) (drop 4 b) (L .0) (L .1));
         }
 
-modules-listed : (b : List ℕ) (m : ℕ) → marked (wholly moduleBite b) 0 ≡ some m → Listed 0xf7 b
+modules-listed : (b : List ℕ) (m : ℕ) → marked (wholly moduleBite b) 0 ≡ some m → Listed «CROSS_SCOPE_IMPORTS» b
 unfolding itemsOf importsItems modules
 modules-listed b m q =
     let L = whole-list moduleBite b (marked-some (wholly moduleBite b) 0 m q) in
@@ -228,7 +228,7 @@ even-pairs b = go (eqb (length b % 8) 0) refl
     go true e ps q = eqb-true (length b % 8) 0 e
     go false e ps q = not-before (told why.ExportLength) ps q
 
-pairs-listed : (b : List ℕ) (m : ℕ) → ascendsFrom 0 (pairs b) ≡ some m → Listed 0xf8 b
+pairs-listed : (b : List ℕ) (m : ℕ) → ascendsFrom 0 (pairs b) ≡ some m → Listed «CROSS_SCOPE_EXPORTS» b
 unfolding itemsOf exportsItems
 pairs-listed b m q =
     let L = ascends-list (pairs b) 0 m q in
@@ -251,23 +251,25 @@ of-kind k j b e L = rw e L
 
 pub mark-listed : (k : ℕ) (b : List ℕ) (m : ℕ) → markOf k b ≡ some m → Listed k b
 unfolding markOf
-mark-listed k b m = go (eqb k 0xf2) refl (eqb k 0xf4) refl (eqb k 0xf6) refl (eqb k 0xf7) refl (eqb k 0xf8) refl
+mark-listed k b m = go (eqb k LINES) refl (eqb k «FILE_CHECKSUMS») refl (eqb k «INLINEE_LINES») refl (eqb k «CROSS_SCOPE_IMPORTS») refl
+    (eqb k «CROSS_SCOPE_EXPORTS») refl
   where
-    go : (t₂ : Bool) → eqb k 0xf2 ≡ t₂ → (t₄ : Bool) → eqb k 0xf4 ≡ t₄ → (t₆ : Bool) → eqb k 0xf6 ≡ t₆ → (t₇ : Bool) → eqb k 0xf7 ≡ t₇ → (t₈ : Bool)
-        → eqb k 0xf8 ≡ t₈
+    go : (t₂ : Bool) → eqb k LINES ≡ t₂ → (t₄ : Bool) → eqb k «FILE_CHECKSUMS» ≡ t₄ → (t₆ : Bool) → eqb k «INLINEE_LINES» ≡ t₆ → (t₇ : Bool)
+        → eqb k «CROSS_SCOPE_IMPORTS» ≡ t₇ → (t₈ : Bool)
+        → eqb k «CROSS_SCOPE_EXPORTS» ≡ t₈
         → cond t₂ (linesMark b) (cond t₄ (marked (wholly plainChecksum b) 0) (cond t₆ (inlineesMark b) (cond t₇ (marked (wholly moduleBite b) 0)
         (cond t₈ (ascendsFrom 0 (pairs b)) (marked (isOpaque k && eqb (length b % 4) 0) 0))))) ≡ some m → Listed k b
-    go true e₂ t₄ e₄ t₆ e₆ t₇ e₇ t₈ e₈ q = of-kind k 0xf2 b (eqb-true k 0xf2 e₂) (lines-listed b m q)
-    go false e₂ true e₄ t₆ e₆ t₇ e₇ t₈ e₈ q = of-kind k 0xf4 b (eqb-true k 0xf4 e₄) (checksums-listed b m q)
-    go false e₂ false e₄ true e₆ t₇ e₇ t₈ e₈ q = of-kind k 0xf6 b (eqb-true k 0xf6 e₆) (inlinees-listed b m q)
-    go false e₂ false e₄ false e₆ true e₇ t₈ e₈ q = of-kind k 0xf7 b (eqb-true k 0xf7 e₇) (modules-listed b m q)
-    go false e₂ false e₄ false e₆ false e₇ true e₈ q = of-kind k 0xf8 b (eqb-true k 0xf8 e₈) (pairs-listed b m q)
+    go true e₂ t₄ e₄ t₆ e₆ t₇ e₇ t₈ e₈ q = of-kind k LINES b (eqb-true k LINES e₂) (lines-listed b m q)
+    go false e₂ true e₄ t₆ e₆ t₇ e₇ t₈ e₈ q = of-kind k «FILE_CHECKSUMS» b (eqb-true k «FILE_CHECKSUMS» e₄) (checksums-listed b m q)
+    go false e₂ false e₄ true e₆ t₇ e₇ t₈ e₈ q = of-kind k «INLINEE_LINES» b (eqb-true k «INLINEE_LINES» e₆) (inlinees-listed b m q)
+    go false e₂ false e₄ false e₆ true e₇ t₈ e₈ q = of-kind k «CROSS_SCOPE_IMPORTS» b (eqb-true k «CROSS_SCOPE_IMPORTS» e₇) (modules-listed b m q)
+    go false e₂ false e₄ false e₆ false e₇ true e₈ q = of-kind k «CROSS_SCOPE_EXPORTS» b (eqb-true k «CROSS_SCOPE_EXPORTS» e₈) (pairs-listed b m q)
     go false e₂ false e₄ false e₆ false e₇ false e₈ q = opaque-listed k b m q
 
 -- ---- and a plain area lists the calls of such subsections
 
 abbrev pub KnownKind : Raw → Type 0
-KnownKind r = (0xf1 ≤ r .kind) × (r .kind ≤ 0xfd)
+KnownKind r = among (r .kind) knownKinds ≡ true
 
 pub record ListedSecs (rs : List Raw) : Type 0 where
   pub secs : List Sec
@@ -317,7 +319,7 @@ module _ (rule : ℕ → Sort) (knows : KnowsPlain rule) where
   bodies-known : (rs : List Raw) → Each KnownKind rs → bodiesIn rule (before rs ends) ≡ before rs ends
   unfolding bodiesIn
   bodies-known [] g = refl
-  bodies-known (r ∷ rs) g = rw (knows (r .kind) (g .0 .0) (g .0 .1)) (ap (more r) (bodies-known rs (g .1)))
+  bodies-known (r ∷ rs) g = rw (knows (r .kind) (g .0)) (ap (more r) (bodies-known rs (g .1)))
 
   numbered-reads : (rs : List Raw) (xs : List Item) → spread itemsOf (before rs ends) ≡ before xs ends
       → spread (λ (r : Raw). numbered (itemsOf r)) (before rs ends) ≡ before xs ends

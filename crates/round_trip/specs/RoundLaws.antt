@@ -12,7 +12,7 @@ use Rattle.word.specs.Word.{le32, put, header}
 use Rattle.word.specs.WordLaws.{header-length, le32-length, put-length}
 use Rattle.walk.specs.Listing.{Listing, ends, before}
 use Rattle.refusal.specs.Told.{Told}
-use Rattle.area.specs.Kind.{Sort}
+use Rattle.kinds.specs.Kind.{Sort}
 use Rattle.area.specs.Join.{join}
 use Rattle.body.specs.RunLaws.{Each, each-snoc}
 use Rattle.reading.specs.Reading.{Item, reading, opens}

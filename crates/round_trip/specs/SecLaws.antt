@@ -14,7 +14,7 @@ use Rattle.word.specs.WordLaws.{le32-length, u32-first}
 use Rattle.walk.specs.Listing.{Move, item, over, Listing, more, ends, fails, before, andThen, all, spread}
 use Rattle.refusal.specs.Told.{Told, longest}
 use Rattle.area.specs.Parts.{Raw}
-use Rattle.area.specs.Kind.{Sort}
+use Rattle.kinds.specs.Kind.{LINES, «FILE_CHECKSUMS», «INLINEE_LINES», «CROSS_SCOPE_IMPORTS», «CROSS_SCOPE_EXPORTS», knownKinds, among, Sort}
 use Rattle.area.specs.Subs.{bodiesIn, bodies}
 use Rattle.area.specs.Join.{join}
 use Rattle.area.specs.JoinLaws.{parts-whole}
@@ -33,7 +33,7 @@ use Rattle.body.specs.ExportsLaws.{pairs-length, pairs-forth}
 use Rattle.reading.specs.Reading.{Item, openLines, block, openChecksums, checksum, openInlinees, inlinee, openImports, imports, openExports, exports, Items, each, linesItems, checksumsItems, inlineesItems, importsItems, exportsItems, itemsOf, reading}
 use Rattle.reading.specs.BodiesLaws.{numbered, reading-bodies}
 use Rattle.plain.specs.Plain.{strict, blockFilled, plainBlock, sizeOf, tidy, plainChecksum, endsWhole, wholly, ascendsFrom, marked, linesMark, inlineesMark, isOpaque, markOf, Last, nothing-yet, plainFrom, plainOf, KnowsPlain}
-use Rattle.plain.specs.RecordLaws.{padding-two}
+use Rattle.plain.specs.RecordLaws.{padding-two, known-opaque}
 use Rattle.plain.specs.PlainLaws.{plain-block-sound, plain-block-ended, plain-checksum-sound, plain-checksum-ended}
 use Rattle.round_trip.specs.Secs.{Sec, linesOf, checksumsOf, inlineesOf, importsOf, exportsOf, opaqueOf, kindSec, bodySec, rawSec, callsSec, Sized, Ascend, floorAfter, GoodSec, markSec, rawsOf, callsOf, lastOf}
 
@@ -142,7 +142,8 @@ inlinees-marked n es l g =
     ∙ ap (λ (t : Bool). marked t n)
     (whole-forth (inlineeBite (extended n)) (inlineeBytes (extended n)) (Fits (extended n)) (inlinee-sound (extended n)) (inlinee-ended (extended n)) (inlinee-forth (extended n)) es g))
 
-pub opaque-kinds : (k : ℕ) → isOpaque k ≡ true → (k ≡ 0xf2 → ⊥) × (k ≡ 0xf4 → ⊥) × (k ≡ 0xf6 → ⊥) × (k ≡ 0xf7 → ⊥) × (k ≡ 0xf8 → ⊥)
+pub opaque-kinds : (k : ℕ) → isOpaque k ≡ true → (k ≡ LINES → ⊥) × (k ≡ «FILE_CHECKSUMS» → ⊥) × (k ≡ «INLINEE_LINES» → ⊥) × (k ≡ «CROSS_SCOPE_IMPORTS» → ⊥)
+    × (k ≡ «CROSS_SCOPE_EXPORTS» → ⊥)
 unfolding isOpaque
 opaque-kinds k h = (λ e. no (rw e at h), λ e. no (rw e at h), λ e. no (rw e at h), λ e. no (rw e at h), λ e. no (rw e at h))
   where
@@ -158,7 +159,8 @@ good-mark (importsOf ms) g = ap (λ (t : Bool). marked t 0) (whole-forth moduleB
 good-mark (exportsOf ps) g = ap (ascendsFrom 0) (pairs-forth ps) ∙ ascends-forth 0 ps g
 good-mark (opaqueOf k b) g =
     let n = opaque-kinds k (g .0) in
-    rw (ne-eqb k 0xf2 (n .0), ne-eqb k 0xf4 (n .1), ne-eqb k 0xf6 (n .2), ne-eqb k 0xf7 (n .3), ne-eqb k 0xf8 (n .4), g .0, eq-eqb (length b % 4) 0 (g .1))
+    rw (ne-eqb k LINES (n .0), ne-eqb k «FILE_CHECKSUMS» (n .1), ne-eqb k «INLINEE_LINES» (n .2), ne-eqb k «CROSS_SCOPE_IMPORTS» (n .3),
+        ne-eqb k «CROSS_SCOPE_EXPORTS» (n .4), g .0, eq-eqb (length b % 4) 0 (g .1))
 
 pub plain-from : (ss : List Sec) (p : ℕ) (last : Last) → Each GoodSec ss → plainFrom p last (before (rawsOf ss) ends) ≡ some (lastOf p last ss)
 unfolding plainFrom
@@ -203,30 +205,18 @@ good-reads (exportsOf ps) g =
     (ap (more openExports) (ap (each exports) (pairs-forth ps) ∙ each-before exports ps))
 good-reads (opaqueOf k b) g =
     let n = opaque-kinds k (g .0) in
-    rw (ne-eqb k 0xf2 (n .0), ne-eqb k 0xf4 (n .1), ne-eqb k 0xf6 (n .2), ne-eqb k 0xf7 (n .3), ne-eqb k 0xf8 (n .4))
+    rw (ne-eqb k LINES (n .0), ne-eqb k «FILE_CHECKSUMS» (n .1), ne-eqb k «INLINEE_LINES» (n .2), ne-eqb k «CROSS_SCOPE_IMPORTS» (n .3),
+        ne-eqb k «CROSS_SCOPE_EXPORTS» (n .4))
 
 -- ---- whichever rule for kinds the area is read by, if it knows the kinds of plain subsections
 
-opaque-kind : (k : ℕ) → isOpaque k ≡ true → (0xf1 ≤ k) × (k ≤ 0xfd)
-unfolding isOpaque
-opaque-kind k = go (eqb k 0xf1) refl (eqb k 0xf3) refl (eqb k 0xf5) refl (leb 0xf9 k) refl (leb k 0xfd) refl
-  where
-    go : (a : Bool) → eqb k 0xf1 ≡ a → (b : Bool) → eqb k 0xf3 ≡ b → (c : Bool) → eqb k 0xf5 ≡ c → (d : Bool) → leb 0xf9 k ≡ d → (e : Bool) → leb k 0xfd ≡ e
-        → cond a true (cond b true (cond c true (d && e))) ≡ true → (0xf1 ≤ k) × (k ≤ 0xfd)
-    go true ea b eb c ec d ed e ee q = omega (arith, eqb-true k 0xf1 ea)
-    go false ea true eb c ec d ed e ee q = omega (arith, eqb-true k 0xf3 eb)
-    go false ea false eb true ec d ed e ee q = omega (arith, eqb-true k 0xf5 ec)
-    go false ea false eb false ec true ed true ee q = omega (arith, leb-true 0xf9 k ed, leb-true k 0xfd ee)
-    go false ea false eb false ec true ed false ee q = let z : _≡_ {A = ℕ} 0 1 = cc in absurd (omega arith)
-    go false ea false eb false ec false ed e ee q = let z : _≡_ {A = ℕ} 0 1 = cc in absurd (omega arith)
-
-pub good-kind : (s : Sec) → GoodSec s → (0xf1 ≤ kindSec s) × (kindSec s ≤ 0xfd)
-good-kind (linesOf h bs) g = omega arith
-good-kind (checksumsOf cs) g = omega arith
-good-kind (inlineesOf n es) g = omega arith
-good-kind (importsOf ms) g = omega arith
-good-kind (exportsOf ps) g = omega arith
-good-kind (opaqueOf k b) g = opaque-kind k (g .0)
+pub good-kind : (s : Sec) → GoodSec s → among (kindSec s) knownKinds ≡ true
+good-kind (linesOf h bs) g = refl
+good-kind (checksumsOf cs) g = refl
+good-kind (inlineesOf n es) g = refl
+good-kind (importsOf ms) g = refl
+good-kind (exportsOf ps) g = refl
+good-kind (opaqueOf k b) g = let n = opaque-kinds k (g .0) in known-opaque k (n .0) (n .1) (n .2) (n .3) (n .4) ∙ g .0
 
 -- calls as a listing, with refusals as numbers
 pub numbered-before : (xs : List Item) → numbered (before xs ends) ≡ before xs ends
@@ -256,8 +246,7 @@ module _ (rule : ℕ → Sort) (knows : KnowsPlain rule) where
   unfolding bodiesIn
   bodies-from [] g = refl
   bodies-from (s ∷ ss) g =
-      let k = good-kind s (g .0) in
-      rw (knows (kindSec s) (k .0) (k .1)) (ap (more (rawSec s)) (bodies-from ss (g .1)))
+      rw (knows (kindSec s) (good-kind s (g .0))) (ap (more (rawSec s)) (bodies-from ss (g .1)))
 
   bodies-join : (ss : List Sec) → Each GoodSec ss → length (join (rawsOf ss)) ≤ longest → bodies rule (join (rawsOf ss)) ≡ before (rawsOf ss) ends
   unfolding bodies

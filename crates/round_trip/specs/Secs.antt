@@ -6,6 +6,7 @@ use mathlib.Core.List.{List, [], _∷_, _++_, map}
 use mathlib.Core.Bool.{true}
 use lib.ListN.{length}
 use Rattle.word.specs.Word.{le32}
+use Rattle.kinds.specs.Kind.{LINES, «FILE_CHECKSUMS», «INLINEE_LINES», «CROSS_SCOPE_IMPORTS», «CROSS_SCOPE_EXPORTS»}
 use Rattle.area.specs.Parts.{Raw}
 use Rattle.body.specs.Lines.{LineHead, columned, Block, lineHeadBytes, blockBytes}
 use Rattle.body.specs.Checksums.{Checksum, checksumBytes}
@@ -28,11 +29,11 @@ pub data Sec : Type 0 where
   opaqueOf : ℕ → List ℕ → Sec
 
 abbrev pub kindSec : Sec → ℕ
-kindSec (linesOf h bs) = 0xf2
-kindSec (checksumsOf cs) = 0xf4
-kindSec (inlineesOf g es) = 0xf6
-kindSec (importsOf ms) = 0xf7
-kindSec (exportsOf ps) = 0xf8
+kindSec (linesOf h bs) = LINES
+kindSec (checksumsOf cs) = «FILE_CHECKSUMS»
+kindSec (inlineesOf g es) = «INLINEE_LINES»
+kindSec (importsOf ms) = «CROSS_SCOPE_IMPORTS»
+kindSec (exportsOf ps) = «CROSS_SCOPE_EXPORTS»
 kindSec (opaqueOf k b) = k
 
 abbrev pub bodySec : Sec → List ℕ

@@ -14,7 +14,8 @@ use Rattle.walk.specs.Listing.{ends, before, Reply, nothing}
 use Rattle.walk.specs.Pick.{failure}
 use Rattle.refusal.specs.Told.{Told, longest}
 use Rattle.area.specs.Parts.{Raw, Lack, Parts, parts}
-use Rattle.area.specs.Kind.{crateRule}
+use Rattle.kinds.specs.Kind.{LINES, «FILE_CHECKSUMS», crateRule}
+use Rattle.kinds.specs.KindLaws.{known-not-ignored}
 use Rattle.body.specs.Lines.{lineHeadSize, lineHead, lineBytes, blockHeadSize, blockBite}
 use Rattle.body.specs.Checksums.{up4, checksumBite}
 use Rattle.body.specs.LinesLaws.{block-sound}
@@ -39,7 +40,7 @@ before-whole (x ∷ xs) = before-whole xs
 
 -- ---- the rules on the bytes
 
-lines-passed : (b : List ℕ) (m : ℕ) → markOf 0xf2 b ≡ some m → (t : List ℕ) → Lists (recordsAt (blockBite (haveColumns b)) (drop lineHeadSize b)) t
+lines-passed : (b : List ℕ) (m : ℕ) → markOf LINES b ≡ some m → (t : List ℕ) → Lists (recordsAt (blockBite (haveColumns b)) (drop lineHeadSize b)) t
     → ExactlyFilled (haveColumns b) t
 unfolding markOf linesMark
 lines-passed b m q t w = go (ltb (length b) lineHeadSize) q
@@ -72,7 +73,7 @@ tidy-zero t e i l h =
     one true e u x y = ap (λ (j : ℕ). getD t j 0) (eqb-true i (6 + n) e) ∙ x
     one false e u x y = let z : i ≡ 6 + n + 1 = omega (arith, l, eqb-false i (6 + n) e) in ap (λ (j : ℕ). getD t j 0) z ∙ y
 
-sums-passed : (b : List ℕ) (m : ℕ) → markOf 0xf4 b ≡ some m → (t : List ℕ) → Lists (recordsAt checksumBite b) t → PaddingZero t
+sums-passed : (b : List ℕ) (m : ℕ) → markOf «FILE_CHECKSUMS» b ≡ some m → (t : List ℕ) → Lists (recordsAt checksumBite b) t → PaddingZero t
 unfolding markOf
 sums-passed b m q t w = tidy-zero t (all-pass checksumBite tidy checksum-sound b (marked-some (wholly plainChecksum b) 0 m q) t w)
 
@@ -98,7 +99,7 @@ module _ (s : List ℕ) (A : Area s) (l : length s ≤ longest) where
   area-in-words =
       record {
         read = ap failure is-read ∙ before-whole items;
-        kinds = λ r w e. let k = raw-of KnownKind (A .secs .kinds) r w in omega (arith, k .1);
+        kinds = λ r w e. known-not-ignored (r .kind) (raw-of KnownKind (A .secs .kinds) r w) e;
         opaques = λ k b w. item-good (opaque k b) w;
         sizes = λ c w. item-good (checksum c) w;
         padding = λ r w e t v. let m = raw-of Marked (A .marked) r w in sums-passed (r .body) (m .0) (ap (λ (k : ℕ). markOf k (r .body)) (sym e) ∙ m .1) t v;

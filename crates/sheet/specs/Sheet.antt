@@ -10,7 +10,7 @@ use Rattle.word.specs.Word.{le32, header}
 use Rattle.walk.specs.Listing.{gives, none, refuses, Reply, gave, nothing, refused}
 use Rattle.walk.specs.Pick.{mapReply}
 use Rattle.refusal.specs.Told.{Told}
-use Rattle.area.specs.Kind.{crateRule}
+use Rattle.kinds.specs.Kind.{«CROSS_SCOPE_IMPORTS», IGNORE, crateRule}
 use Rattle.area.specs.Subs.{stepAt, crateStep}
 use Rattle.find.specs.Find.{same}
 use Rattle.table.specs.declared.TableWalk.the-variants as table
@@ -82,7 +82,7 @@ aLine = header 0 0x8000_000a
 
 -- an area with imports name 5, words 0x1003, 0x1004
 abbrev pub twoWords : List ℕ
-twoWords = header 0xf7 16 ++ (header 5 2 ++ header 0x1003 0x1004)
+twoWords = header «CROSS_SCOPE_IMPORTS» 16 ++ (header 5 2 ++ header 0x1003 0x1004)
 
 -- ---- THE TABLE
 
@@ -126,7 +126,7 @@ rows =
     -- kind 0xf0, length 0: 2; length 4, no body: 1. 0x80000000, length 4, its body: no subsections
     ∷ row (stepAt crateRule (header 0xf0 0) 0) (refuses (numberOn 2 0xf0))  -- area::sub_at
     ∷ row (stepAt crateRule (header 0xf0 4) 0) (refuses (number 1))  -- area::sub_at
-    ∷ row (stepAt crateRule (header 0x8000_0000 4 ++ le32 0x0403_0201) 0) none  -- area::sub_at
+    ∷ row (stepAt crateRule (header IGNORE 4 ++ le32 0x0403_0201) 0) none  -- area::sub_at
     -- flags 0x0c00000a: lines 10 to 10, Expression. 0x80feefee: marker
     ∷ row (entryTold 0x0c00_000a) (gave tenToTen)  -- line_record::entry_of
     ∷ row (entryTold 0x80fe_efee) nothing  -- line_record::entry_of

@@ -11,7 +11,7 @@ use Rattle.walk.specs.Listing.{Listing, more, ends, fails, before, Reply, gave,
 use Rattle.walk.specs.Pick.{orElse, firstBy, lastBy, mapReply}
 use Rattle.walk.specs.FailsLaws.{FailsBy}
 use Rattle.refusal.specs.Told.{Told}
-use Rattle.area.specs.Kind.{Sort}
+use Rattle.kinds.specs.Kind.{Sort}
 use Rattle.find.specs.Find.{same}
 use Rattle.lines.specs.Lines.{countLines, Body}
 use Rattle.lines.specs.Slots.{listOf}

@@ -12,7 +12,7 @@ use Rattle.walk.specs.ListingLaws.{Every}
 use Rattle.walk.specs.Pick.{orElse, firstBy, lastBy, mapReply}
 use Rattle.walk.specs.PickLaws.{Gives, map-or, first-map, last-map, first-holds, last-holds}
 use Rattle.refusal.specs.Told.{Told, longest}
-use Rattle.area.specs.Kind.{Sort}
+use Rattle.kinds.specs.Kind.{Sort}
 use Rattle.find.specs.Find.{same, Span}
 use Rattle.line_record.specs.LimitsLaws.{Limits}
 use Rattle.lines.specs.Lines.{countLines, Body, bodyOn}

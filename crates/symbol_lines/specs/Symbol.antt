@@ -11,7 +11,7 @@ use lib.Dec.{ltb, eqb}
 use Rattle.walk.specs.Listing.{Listing, more, ends, fails, before, Reply, gave, nothing, refused}
 use Rattle.walk.specs.Pick.{orElse, firstBy, lastBy, mapReply}
 use Rattle.refusal.specs.Told.{Told}
-use Rattle.area.specs.Kind.{Sort}
+use Rattle.kinds.specs.Kind.{Sort}
 use Rattle.body.specs.Lines.{LineHead, lineHead}
 use Rattle.find.specs.Find.{same}
 use Rattle.lines.specs.Lines.{Body}

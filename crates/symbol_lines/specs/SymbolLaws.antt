@@ -11,7 +11,7 @@ use Rattle.walk.specs.Listing.{Listing, more, ends, fails, Reply, gave, nothing
 use Rattle.walk.specs.Pick.{orElse, firstBy, lastBy, mapReply}
 use Rattle.walk.specs.PickLaws.{map-or, or-assoc, or-nothing}
 use Rattle.refusal.specs.Told.{Told}
-use Rattle.area.specs.Kind.{Sort}
+use Rattle.kinds.specs.Kind.{Sort}
 use Rattle.body.specs.Lines.{LineHead, lineHead}
 use Rattle.find.specs.Find.{same, Span, bytesAt}
 use Rattle.lines.specs.Lines.{countLines, Body, bodyOn}

@@ -4,7 +4,7 @@
 // The crate searches its sorted list by halves. Here the list is lent and may be wrong, so that each slot on the way is looked at; the area is
 // passed over once if the bodies ascend in it as in the list, and a few times at most where the area's list of bodies is lent beside it.
 ghost use mathlib.Core.Path.{_≡_};
-ghost use Rattle.area.specs.Kind.{crateRule};
+ghost use Rattle.kinds.specs.Kind.{crateRule};
 ghost use Rattle.lines.specs.Slots.{bodyAt, named};
 ghost use Rattle.lines.specs.Told.{toldHeader};
 ghost use Rattle.symbol_lines.specs.Symbol.{headIs, better, slotIn, walkOf, walkTo, symbolWalk};

@@ -13,7 +13,7 @@ use Rattle.walk.specs.Pick.{firstBy, lastBy, mapReply}
 use Rattle.walk.specs.PickLaws.{Gives}
 use Rattle.refusal.specs.Told.{Told, told, longest}
 use Rattle.refusal.specs.declared.Refusal.the-variants as why
-use Rattle.area.specs.Kind.{Sort}
+use Rattle.kinds.specs.Kind.{Sort}
 use Rattle.area.specs.Subs.{Sub, subsFrom}
 use Rattle.area.specs.SubsLaws.{subs-long}
 use Rattle.find.specs.Find.{same, Span, is, spanOf, firstSub, lastSub}

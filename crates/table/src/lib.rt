@@ -3,7 +3,7 @@
 // A new walk looks for the body first; behind its first record it knows the body's place, so that the area is searched once. What records with their
 // places are, and all records of a listing in a list, is said in specs/ for every table.
 ghost use mathlib.Core.Path.{_≡_};
-ghost use Rattle.area.specs.Kind.{crateRule};
+ghost use Rattle.kinds.specs.Kind.{crateRule};
 ghost use Rattle.find.specs.Find.{firstSub};
 ghost use Rattle.find.specs.Told.{toldFound};
 ghost use Rattle.table.specs.Table.{spotIn, spotNew, spotOf, wordIn};

@@ -15,6 +15,11 @@ ghost use Rattle.plain.specs.Plain.{sizeOf};
 ghost use Rattle.writer_decides.specs.Calls.{openAct, wrote, kept, answered, bufferAfter, callLines, callBlock, callChecksum, callInlinee, callModule, callPair, bytesFor};
 ghost use Rattle.writer.specs.LentLaws.{over};
 ghost use Rattle.writer.specs.Told.{toldWrote};
+use kinds::CROSS_SCOPE_EXPORTS;
+use kinds::CROSS_SCOPE_IMPORTS;
+use kinds::FILE_CHECKSUMS;
+use kinds::INLINEE_LINES;
+use kinds::LINES;
 use lines::BLOCK_HEAD;
 use lines::LINE_HEAD;
 use refusal::Refusal;
@@ -28,16 +33,6 @@ use writer_decides::module_step;
 use writer_decides::opaque_rule;
 use writer_decides::open_step;
 use writer_decides::pair_step;
-
-const LINES: u32 = 0xf2;
-
-const CHECKSUMS: u32 = 0xf4;
-
-const INLINEES: u32 = 0xf6;
-
-const IMPORTS: u32 = 0xf7;
-
-const EXPORTS: u32 = 0xf8;
 
 // The place behind what is written now, or why nothing was.
 pub enum Wrote {
@@ -186,7 +181,7 @@ pub fn open_checksums(buf: &mut [u8], written: usize) -> Wrote
     ensures { λ _. ⌜ now (buf .exit) ≡ bufferAfter openChecksums (now (buf .entry)) written ⌝ }
 {
     let none = [0u8; 0];
-    open_with(buf, written, CHECKSUMS, true, &none)
+    open_with(buf, written, FILE_CHECKSUMS, true, &none)
 }
 
 pub fn open_inlinees(buf: &mut [u8], written: usize, signature: u32) -> Wrote
@@ -195,7 +190,7 @@ pub fn open_inlinees(buf: &mut [u8], written: usize, signature: u32) -> Wrote
 {
     let mut head = [0u8; 4];
     put_u32(&mut head, 0, signature);
-    open_with(buf, written, INLINEES, signature <= 1, &head)
+    open_with(buf, written, INLINEE_LINES, signature <= 1, &head)
 }
 
 pub fn open_imports(buf: &mut [u8], written: usize) -> Wrote
@@ -203,7 +198,7 @@ pub fn open_imports(buf: &mut [u8], written: usize) -> Wrote
     ensures { λ _. ⌜ now (buf .exit) ≡ bufferAfter openImports (now (buf .entry)) written ⌝ }
 {
     let none = [0u8; 0];
-    open_with(buf, written, IMPORTS, true, &none)
+    open_with(buf, written, CROSS_SCOPE_IMPORTS, true, &none)
 }
 
 pub fn open_exports(buf: &mut [u8], written: usize) -> Wrote
@@ -211,7 +206,7 @@ pub fn open_exports(buf: &mut [u8], written: usize) -> Wrote
     ensures { λ _. ⌜ now (buf .exit) ≡ bufferAfter openExports (now (buf .entry)) written ⌝ }
 {
     let none = [0u8; 0];
-    open_with(buf, written, EXPORTS, true, &none)
+    open_with(buf, written, CROSS_SCOPE_EXPORTS, true, &none)
 }
 
 pub fn add_opaque(buf: &mut [u8], written: usize, kind: u32, body: &[u8]) -> Wrote

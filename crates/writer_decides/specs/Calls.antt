@@ -12,6 +12,7 @@ use Rattle.word.specs.Word.{le32, put, header}
 use Rattle.walk.specs.Listing.{Reply, gave, refused}
 use Rattle.refusal.specs.Told.{Told, told, longest}
 use Rattle.refusal.specs.declared.Refusal.the-variants as why
+use Rattle.kinds.specs.Kind.{LINES, «FILE_CHECKSUMS», «INLINEE_LINES», «CROSS_SCOPE_IMPORTS», «CROSS_SCOPE_EXPORTS»}
 use Rattle.body.specs.Lines.{columned, columnsOf, lineHeadBytes, blockBytes}
 use Rattle.body.specs.Checksums.{checksumBytes}
 use Rattle.body.specs.Inlinees.{extended, inlineeBytes}
@@ -24,16 +25,16 @@ use Rattle.plain.specs.Plain.{sizeOf, isOpaque, Last, plainOf}
 
 -- the kind of its subsection
 abbrev pub itemKind : Item → ℕ
-itemKind (openLines h) = 0xf2
-itemKind (block b) = 0xf2
-itemKind openChecksums = 0xf4
-itemKind (checksum c) = 0xf4
-itemKind (openInlinees s) = 0xf6
-itemKind (inlinee e) = 0xf6
-itemKind openImports = 0xf7
-itemKind (imports m) = 0xf7
-itemKind openExports = 0xf8
-itemKind (exports p) = 0xf8
+itemKind (openLines h) = LINES
+itemKind (block b) = LINES
+itemKind openChecksums = «FILE_CHECKSUMS»
+itemKind (checksum c) = «FILE_CHECKSUMS»
+itemKind (openInlinees s) = «INLINEE_LINES»
+itemKind (inlinee e) = «INLINEE_LINES»
+itemKind openImports = «CROSS_SCOPE_IMPORTS»
+itemKind (imports m) = «CROSS_SCOPE_IMPORTS»
+itemKind openExports = «CROSS_SCOPE_EXPORTS»
+itemKind (exports p) = «CROSS_SCOPE_EXPORTS»
 itemKind (opaque k b) = k
 
 -- the bytes of it, a subsection's header left out; m is the mark of the last subsection

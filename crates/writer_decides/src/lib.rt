@@ -7,12 +7,18 @@ ghost use mathlib.Core.Bool.{true};
 ghost use Prim.Native.Nat.{_+_, _*_};
 ghost use lib.ListN.{length};
 ghost use lib.Dec.{leb};
+ghost use Rattle.kinds.specs.Kind.{LINES, «FILE_CHECKSUMS», «INLINEE_LINES», «CROSS_SCOPE_IMPORTS», «CROSS_SCOPE_EXPORTS»};
 ghost use Rattle.body.specs.Lines.{blockHeadSize};
 ghost use Rattle.body.specs.Inlinees.{extended, extraLength};
 ghost use Rattle.body.specs.Checksums.{up4};
 ghost use Rattle.plain.specs.Told.{toldPlain};
 ghost use Rattle.writer_decides.specs.Calls.{blockRule, checksumRule, extraRule, opaqueRule, limit, place, ofKind, room, elseNotPlain, openAct, growAct};
 ghost use Rattle.writer_decides.specs.Told.{toldAct};
+use kinds::CROSS_SCOPE_EXPORTS;
+use kinds::CROSS_SCOPE_IMPORTS;
+use kinds::FILE_CHECKSUMS;
+use kinds::INLINEE_LINES;
+use kinds::LINES;
 use lines::BLOCK_HEAD;
 use plain::PlainAnswer;
 use plain::is_opaque;
@@ -104,13 +110,13 @@ pub fn open_step(buf: &[u8], written: usize, fine: bool, need: usize) -> Step
 }
 
 pub fn pair_step(buf: &[u8], written: usize, local: u32) -> Step
-    ensures { λ r. ⌜ toldAct r ≡ growAct 0xf8 (λ m. leb m local) (λ m. 8) (now (buf .entry)) written ⌝ }
+    ensures { λ r. ⌜ toldAct r ≡ growAct «CROSS_SCOPE_EXPORTS» (λ m. leb m local) (λ m. 8) (now (buf .entry)) written ⌝ }
 {
     let PlainAnswer::Yes {
         header,
         kind: _,
         mark,
-    } = last_of(buf, written, 0xf8)
+    } = last_of(buf, written, CROSS_SCOPE_EXPORTS)
     else {
         return Step::Stop(Refusal::WrongPlace);
     };
@@ -118,13 +124,13 @@ pub fn pair_step(buf: &[u8], written: usize, local: u32) -> Step
 }
 
 pub fn module_step(buf: &[u8], written: usize, words: &[u32]) -> Step
-    ensures { λ r. ⌜ toldAct r ≡ growAct 0xf7 (λ m. true) (λ m. 8 + 4 * length (now (words .entry))) (now (buf .entry)) written ⌝ }
+    ensures { λ r. ⌜ toldAct r ≡ growAct «CROSS_SCOPE_IMPORTS» (λ m. true) (λ m. 8 + 4 * length (now (words .entry))) (now (buf .entry)) written ⌝ }
 {
     let PlainAnswer::Yes {
         header,
         kind: _,
         mark,
-    } = last_of(buf, written, 0xf7)
+    } = last_of(buf, written, CROSS_SCOPE_IMPORTS)
     else {
         return Step::Stop(Refusal::WrongPlace);
     };
@@ -132,13 +138,13 @@ pub fn module_step(buf: &[u8], written: usize, words: &[u32]) -> Step
 }
 
 pub fn inlinee_step(buf: &[u8], written: usize, extra: &[u32]) -> Step
-    ensures { λ r. ⌜ toldAct r ≡ growAct 0xf6 (λ m. extraRule m (length (now (extra .entry)))) (λ m. 12 + extraLength (extended m) (length (now (extra .entry)))) (now (buf .entry)) written ⌝ }
+    ensures { λ r. ⌜ toldAct r ≡ growAct «INLINEE_LINES» (λ m. extraRule m (length (now (extra .entry)))) (λ m. 12 + extraLength (extended m) (length (now (extra .entry)))) (now (buf .entry)) written ⌝ }
 {
     let PlainAnswer::Yes {
         header,
         kind: _,
         mark,
-    } = last_of(buf, written, 0xf6)
+    } = last_of(buf, written, INLINEE_LINES)
     else {
         return Step::Stop(Refusal::WrongPlace);
     };
@@ -158,13 +164,13 @@ fn checksum_rule(kind: u8, n: usize) -> bool
 }
 
 pub fn checksum_step(buf: &[u8], written: usize, kind: u8, bytes: &[u8]) -> Step
-    ensures { λ r. ⌜ toldAct r ≡ growAct 0xf4 (λ m. checksumRule kind (length (now (bytes .entry)))) (λ m. up4 (6 + length (now (bytes .entry)))) (now (buf .entry)) written ⌝ }
+    ensures { λ r. ⌜ toldAct r ≡ growAct «FILE_CHECKSUMS» (λ m. checksumRule kind (length (now (bytes .entry)))) (λ m. up4 (6 + length (now (bytes .entry)))) (now (buf .entry)) written ⌝ }
 {
     let PlainAnswer::Yes {
         header,
         kind: _,
         mark,
-    } = last_of(buf, written, 0xf4)
+    } = last_of(buf, written, FILE_CHECKSUMS)
     else {
         return Step::Stop(Refusal::WrongPlace);
     };
@@ -192,13 +198,13 @@ fn block_rule(mark: u64, n: usize, k: usize) -> bool
 }
 
 pub fn block_step(buf: &[u8], written: usize, lines: &[u32], columns: &[u32]) -> Step
-    ensures { λ r. ⌜ toldAct r ≡ growAct 0xf2 (λ m. blockRule m (length (now (lines .entry))) (length (now (columns .entry)))) (λ m. blockHeadSize + 4 * length (now (lines .entry)) + 4 * length (now (columns .entry))) (now (buf .entry)) written ⌝ }
+    ensures { λ r. ⌜ toldAct r ≡ growAct LINES (λ m. blockRule m (length (now (lines .entry))) (length (now (columns .entry)))) (λ m. blockHeadSize + 4 * length (now (lines .entry)) + 4 * length (now (columns .entry))) (now (buf .entry)) written ⌝ }
 {
     let PlainAnswer::Yes {
         header,
         kind: _,
         mark,
-    } = last_of(buf, written, 0xf2)
+    } = last_of(buf, written, LINES)
     else {
         return Step::Stop(Refusal::WrongPlace);
     };

@@ -4,7 +4,7 @@ use Prim.Native.Nat.{_-_}
 use mathlib.Core.Path.{_≡_, refl, sym, ap, _∙_}
 use borrow.Author.Needs.{needs}
 use lib.ListN.{length}
-use Rattle.area.specs.Kind.{crateRule}
+use Rattle.kinds.specs.Kind.{crateRule}
 use Rattle.area.specs.Told.{toldHead}
 use Rattle.area.specs.Subs.{subsFrom, firstOf}
 use Rattle.area.specs.SubsLaws.{subs-is, head-falls, step-gives}

@@ -8,7 +8,7 @@ use mathlib.Core.Path.{sym, ap, _∙_}
 use lib.Seq.{length-take-le}
 use Rattle.line_step.specs.Told.{toldNextBlock}
 use Rattle.line_step.specs.TurnLaws.{next-block-opens}
-use Rattle.area.specs.Kind.{crateRule}
+use Rattle.kinds.specs.Kind.{crateRule}
 use Rattle.body_lines.specs.BodyLinesLaws.{BlocksPut, blocks-put-start, blocks-put-block, blocks-put-lines, body-put-stuck, body-put-refused, body-put-used}
 use Rattle.body_lines.proofs.blocks.Statement.{statement}
 use Rattle.body_lines.proofs.blocks.Tie as tie

@@ -4,7 +4,7 @@ use borrow.Author.Needs.{needs}
 use native.Mathlib.Omega.{arith}
 use Prim.Native.Nat.{_-_}
 use mathlib.Core.Path.{sym, _∙_}
-use Rattle.area.specs.Kind.{crateRule}
+use Rattle.kinds.specs.Kind.{crateRule}
 use Rattle.body_lines.specs.BodyLines.{LinesPut}
 use Rattle.body_lines.specs.BodyLinesLaws.{lines-put-start, lines-put-marker, lines-put-line}
 use Rattle.body_lines.proofs.put_lines.Statement.{statement}

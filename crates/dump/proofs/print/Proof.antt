@@ -7,7 +7,7 @@ use lib.ListN.{replicate, length-replicate}
 use lib.Dec.{ltb}
 use Rattle.walk.specs.Listing.{Listing}
 use Rattle.refusal.specs.Told.{Told}
-use Rattle.area.specs.Kind.{crateRule}
+use Rattle.kinds.specs.Kind.{crateRule}
 use Rattle.printed.specs.Printed.{Pieces}
 use Rattle.listing.specs.Dump.{sheetSize}
 use Rattle.dump.specs.LineLaws.{lastSize, enough, last-tells}

@@ -12,7 +12,7 @@ use lib.Dec.{ltb}
 use lib.Seq.{length-take-le}
 use types.Run.{OneOf, miss}
 use denote.Enum.Declared.{tagOf}
-use Rattle.area.specs.Kind.{crateRule}
+use Rattle.kinds.specs.Kind.{crateRule}
 use Rattle.listing.specs.Dump.{sheetSize}
 use Rattle.listing.specs.LessLaws.{textLeft, text-line}
 use Rattle.listing.specs.DumpLaws.{linesFrom}

@@ -4,7 +4,7 @@ use borrow.Author.Needs.{needs}
 use mathlib.Core.Path.{refl, sym, ap, _∙_}
 use native.Mathlib.Omega.{arith}
 use lib.ListN.{length}
-use Rattle.area.specs.Kind.{crateRule}
+use Rattle.kinds.specs.Kind.{crateRule}
 use Rattle.answer_words.specs.Given.{one}
 use Rattle.answer_words.specs.GivenLaws.{gives-none, gives-status}
 use Rattle.answer_words.specs.TableWords.{tableStateSize, walkIn, walkWords, overTable}

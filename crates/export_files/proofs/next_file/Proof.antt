@@ -2,7 +2,7 @@
 -- Assumes nothing.
 use borrow.Author.Needs.{needs}
 use mathlib.Core.Path.{sym, ap, _∙_}
-use Rattle.area.specs.Kind.{crateRule}
+use Rattle.kinds.specs.Kind.{crateRule}
 use Rattle.files.specs.Files.{fileStep}
 use Rattle.files.specs.Told.{toldFile}
 use Rattle.answer_words.specs.Given.{stepGiven}

@@ -4,7 +4,7 @@ use borrow.Author.Needs.{needs}
 use mathlib.Core.Path.{sym, ap, _∙_}
 use native.Mathlib.Omega.{arith}
 use lib.ListN.{length}
-use Rattle.area.specs.Kind.{crateRule}
+use Rattle.kinds.specs.Kind.{crateRule}
 use Rattle.answer_words.specs.GivenLaws.{gives-none}
 use Rattle.answer_words.specs.FillGivenLaws.{fill-short, fill-given}
 use Rattle.line_state_words.specs.LineWords.{stateSize, lineWalkIn, lineWalkWords, recordWords}

@@ -3,7 +3,7 @@
 use borrow.Author.Needs.{needs}
 use mathlib.Core.Path.{refl, sym, ap, _∙_}
 use lib.ListN.{replicate}
-use Rattle.area.specs.Kind.{crateRule}
+use Rattle.kinds.specs.Kind.{crateRule}
 use Rattle.line_state_words.specs.LineWords.{recordSize, stateSize, lineWords}
 use Rattle.answer_words.specs.Given.{stepGiven}
 use Rattle.answer_words.specs.GivenLaws.{gives-as, gives-none}

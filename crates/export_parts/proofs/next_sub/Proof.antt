@@ -2,7 +2,7 @@
 -- Assumes nothing.
 use borrow.Author.Needs.{needs}
 use mathlib.Core.Path.{sym, ap, _∙_}
-use Rattle.area.specs.Kind.{crateRule}
+use Rattle.kinds.specs.Kind.{crateRule}
 use Rattle.area.specs.Subs.{stepAt}
 use Rattle.area.specs.Told.{toldStep}
 use Rattle.answer_words.specs.Given.{stepGiven}

@@ -2,7 +2,7 @@
 -- Assumes nothing.
 use borrow.Author.Needs.{needs}
 use mathlib.Core.Path.{sym, ap, _∙_}
-use Rattle.area.specs.Kind.{crateRule}
+use Rattle.kinds.specs.Kind.{crateRule}
 use Rattle.exports.specs.Exports.{exportStep}
 use Rattle.exports.specs.Told.{toldExport, toldExportStep}
 use Rattle.answer_words.specs.Given.{stepGiven}

@@ -2,7 +2,7 @@
 -- Assumes nothing.
 use borrow.Author.Needs.{needs}
 use mathlib.Core.Path.{refl, sym, ap, _∙_}
-use Rattle.area.specs.Kind.{crateRule}
+use Rattle.kinds.specs.Kind.{crateRule}
 use Rattle.imports.specs.Imports.{importStep}
 use Rattle.imports.specs.Told.{toldImportStep}
 use Rattle.answer_words.specs.Given.{stepGiven}

@@ -2,7 +2,7 @@
 -- Assumes nothing.
 use borrow.Author.Needs.{needs}
 use mathlib.Core.Path.{refl, sym, ap, _∙_}
-use Rattle.area.specs.Kind.{crateRule}
+use Rattle.kinds.specs.Kind.{crateRule}
 use Rattle.inlinees.specs.Inlinees.{inlineeStep}
 use Rattle.inlinees.specs.Told.{toldInlinee}
 use Rattle.answer_words.specs.Given.{stepGiven}

@@ -3,7 +3,7 @@
 use borrow.Author.Needs.{needs}
 use native.Mathlib.Omega.{arith}
 use mathlib.Core.Path.{refl, _∙_}
-use Rattle.area.specs.Kind.{crateRule}
+use Rattle.kinds.specs.Kind.{crateRule}
 use Rattle.exports.specs.ExportsLaws.{export-steps}
 use Rattle.exports.proofs.next_export.Statement.{statement}
 use Rattle.exports.proofs.next_export.Tie as tie

@@ -3,7 +3,7 @@
 use borrow.Author.Needs.{needs}
 use native.Mathlib.Omega.{arith}
 use mathlib.Core.Path.{sym, ap, _∙_}
-use Rattle.area.specs.Kind.{crateRule}
+use Rattle.kinds.specs.Kind.{crateRule}
 use Rattle.checksums.specs.Told.{toldEntry}
 use Rattle.checksums.specs.EntryLaws.{entry-lies}
 use Rattle.files.specs.FilesLaws.{file-steps, file-entry}

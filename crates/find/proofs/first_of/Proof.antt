@@ -7,7 +7,7 @@ use borrow.Author.Needs.{needs}
 use borrow.Author.Tests.{eq-eqb, ne-eqb}
 use lib.ListN.{length}
 use Rattle.walk.specs.Pick.{firstBy, mapReply}
-use Rattle.area.specs.Kind.{crateRule}
+use Rattle.kinds.specs.Kind.{crateRule}
 use Rattle.area.specs.Told.{toldStep}
 use Rattle.area.specs.Subs.{subsFrom}
 use Rattle.area.specs.SubsLaws.{sub-next}

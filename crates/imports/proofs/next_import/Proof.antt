@@ -3,7 +3,7 @@
 use borrow.Author.Needs.{needs}
 use native.Mathlib.Omega.{arith}
 use mathlib.Core.Path.{sym, ap, _∙_}
-use Rattle.area.specs.Kind.{crateRule}
+use Rattle.kinds.specs.Kind.{crateRule}
 use Rattle.imports.specs.Told.{toldModule}
 use Rattle.imports.specs.ImportsLaws.{module-next, import-steps}
 use Rattle.imports.proofs.next_import.Statement.{statement}

@@ -3,7 +3,7 @@
 use borrow.Author.Needs.{needs}
 use native.Mathlib.Omega.{arith}
 use mathlib.Core.Path.{sym, ap, _∙_}
-use Rattle.area.specs.Kind.{crateRule}
+use Rattle.kinds.specs.Kind.{crateRule}
 use Rattle.inlinees.specs.Told.{toldSourceLine}
 use Rattle.inlinees.specs.SourceLineLaws.{line-lies}
 use Rattle.inlinees.specs.InlineesLaws.{inlinee-steps}

@@ -3,7 +3,7 @@
 use borrow.Author.Needs.{needs}
 use native.Mathlib.Omega.{arith}
 use mathlib.Core.Path.{sym, ap}
-use Rattle.area.specs.Kind.{crateRule}
+use Rattle.kinds.specs.Kind.{crateRule}
 use Rattle.listing.specs.Step.{stepOf}
 use Rattle.listing.specs.StepLaws.{step-none, step-is, none-shown}
 use Rattle.listing.proofs.next_text.Statement.{statement}

@@ -5,7 +5,7 @@ use native.Mathlib.Omega.{arith}
 use mathlib.Core.Path.{_≡_, refl, sym, ap, _∙_}
 use Prim.Native.Nat.{_/_, _-_}
 use lib.ListN.{length}
-use Rattle.area.specs.Kind.{crateRule}
+use Rattle.kinds.specs.Kind.{crateRule}
 use Rattle.walk.specs.Listing.{none, refuses}
 use Rattle.files.specs.Files.{fileStep}
 use Rattle.files.specs.FilesLaws.{file-leads}

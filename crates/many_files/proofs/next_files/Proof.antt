@@ -3,7 +3,7 @@
 use borrow.Author.Needs.{needs}
 use native.Mathlib.Omega.{arith}
 use mathlib.Core.Path.{_∙_}
-use Rattle.area.specs.Kind.{crateRule}
+use Rattle.kinds.specs.Kind.{crateRule}
 use Rattle.files.specs.Files.{fileStep}
 use Rattle.answer_words.specs.FillLaws.{fill-no-room}
 use Rattle.many_files.specs.Files.{fileSize, fileWords}

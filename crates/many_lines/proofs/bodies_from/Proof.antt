@@ -3,7 +3,7 @@
 use borrow.Author.Needs.{needs}
 use native.Mathlib.Omega.{arith}
 use mathlib.Core.Path.{subst}
-use Rattle.area.specs.Kind.{crateRule}
+use Rattle.kinds.specs.Kind.{crateRule}
 use Rattle.many_lines.specs.Bodies.{StandOf, StandingIs}
 use Rattle.many_lines.specs.BodiesLaws.{bodies-behind, bodies-at, comes-first}
 use Rattle.many_lines.proofs.bodies_from.Statement.{statement}

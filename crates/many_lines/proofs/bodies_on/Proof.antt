@@ -8,7 +8,7 @@ use mathlib.Core.Path.{_≡_, ap, subst}
 use mathlib.Core.Bool.{true, false}
 use lib.ListN.{length}
 use Rattle.refusal.specs.Told.{longest}
-use Rattle.area.specs.Kind.{crateRule}
+use Rattle.kinds.specs.Kind.{crateRule}
 use Rattle.line_state_words.specs.LineWords.{recordSize}
 use Rattle.line_step.specs.declared.Rest.{Rest}
 use Rattle.many_lines.specs.Bodies.{Knows, walkAt, OnwardIs}

@@ -2,7 +2,7 @@
 -- Assumes nothing.
 use borrow.Author.Needs.{needs}
 use mathlib.Core.Path.{sym, ap, _∙_}
-use Rattle.area.specs.Kind.{crateRule}
+use Rattle.kinds.specs.Kind.{crateRule}
 use Rattle.line_step.specs.Told.{toldEndBody}
 use Rattle.many_lines.specs.BodiesLaws.{passed-stays, passed-stuck, passed-end}
 use Rattle.many_lines.proofs.body_on.Statement.{statement}

@@ -2,7 +2,7 @@
 -- Assumes nothing.
 use borrow.Author.Needs.{needs}
 use native.Mathlib.Omega.{arith}
-use Rattle.area.specs.Kind.{crateRule}
+use Rattle.kinds.specs.Kind.{crateRule}
 use Rattle.many_lines.specs.BodiesLaws.{filled-full, filled-over, filled-on}
 use Rattle.many_lines.proofs.fill.Statement.{statement}
 use Rattle.many_lines.proofs.fill.Tie as tie

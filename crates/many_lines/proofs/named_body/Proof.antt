@@ -5,7 +5,7 @@ use native.Mathlib.Omega.{arith}
 use mathlib.Core.Path.{refl, sym, subst}
 use mir.Facts.{fits-32-64}
 use Rattle.lines.specs.SlotsLaws.{slot-missing}
-use Rattle.area.specs.Kind.{crateRule}
+use Rattle.kinds.specs.Kind.{crateRule}
 use Rattle.body_list.specs.SearchLaws.{located-right, located-known}
 use Rattle.many_lines.specs.Bodies.{Look, LookedIs}
 use Rattle.many_lines.specs.BodiesLaws.{crate-lines, look-slot, located-as}

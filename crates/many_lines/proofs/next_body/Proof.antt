@@ -5,7 +5,7 @@ use native.Mathlib.Omega.{arith}
 use Prim.Native.Nat.{_<_, _^_}
 use lib.ListN.{length}
 use mathlib.Core.Path.{_≡_, sym, ap, _∙_}
-use Rattle.area.specs.Kind.{crateRule}
+use Rattle.kinds.specs.Kind.{crateRule}
 use Rattle.lines.specs.Told.{toldNamed}
 use Rattle.line_step.specs.Told.{toldEntered}
 use Rattle.many_lines.specs.BodiesLaws.{knows-at, pass-in, in-less, in-scan}

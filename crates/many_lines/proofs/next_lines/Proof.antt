@@ -3,7 +3,7 @@
 use borrow.Author.Needs.{needs}
 use native.Mathlib.Omega.{arith}
 use mathlib.Core.Path.{refl}
-use Rattle.area.specs.Kind.{crateRule}
+use Rattle.kinds.specs.Kind.{crateRule}
 use Rattle.many_lines.specs.BodiesLaws.{lines-short}
 use Rattle.many_lines.proofs.next_lines.Statement.{statement}
 use Rattle.many_lines.proofs.next_lines.Tie as tie

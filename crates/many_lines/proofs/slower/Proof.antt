@@ -4,7 +4,7 @@ use borrow.Author.Needs.{needs}
 use native.Mathlib.Omega.{arith}
 use mathlib.Core.Path.{sym}
 use lib.Seq.{length-take-le}
-use Rattle.area.specs.Kind.{crateRule}
+use Rattle.kinds.specs.Kind.{crateRule}
 use Rattle.many_lines.specs.BodiesLaws.{take-fits, answers-none, answers-exact, answers-again}
 use Rattle.many_lines.proofs.slower.Statement.{statement}
 use Rattle.many_lines.proofs.slower.Tie as tie

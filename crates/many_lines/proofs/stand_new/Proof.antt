@@ -2,7 +2,7 @@
 -- Assumes nothing.
 use borrow.Author.Needs.{needs}
 use mathlib.Core.Path.{refl, sym, ap, _∙_}
-use Rattle.area.specs.Kind.{crateRule}
+use Rattle.kinds.specs.Kind.{crateRule}
 use Rattle.lines.specs.Told.{toldCounted}
 use Rattle.line_step.specs.declared.LineWalk.the-variants.{New}
 use Rattle.many_lines.specs.BodiesLaws.{stand-new}

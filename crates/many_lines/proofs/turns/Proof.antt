@@ -5,7 +5,7 @@ use native.Mathlib.Omega.{arith}
 use Prim.Native.Nat.{_/_}
 use mathlib.Core.Path.{_≡_, refl, sym, ap, _∙_}
 use lib.ListN.{length}
-use Rattle.area.specs.Kind.{crateRule}
+use Rattle.kinds.specs.Kind.{crateRule}
 use Rattle.line_state_words.specs.LineWords.{recordSize}
 use Rattle.line_step.specs.Told.{toldTurn}
 use Rattle.line_walk.specs.Next.{todo}

@@ -1,7 +1,7 @@
 -- `plain::is_opaque` meets its contract: each arm is a case of `isOpaque`.
 -- Assumes nothing.
 use native.Mathlib.Omega.{arith}
-use Rattle.plain.specs.RecordLaws.{opaque-f1, opaque-f3, opaque-f5, opaque-high, opaque-below, opaque-above}
+use Rattle.plain.specs.RecordLaws.{opaque-single, opaque-below, opaque-above, opaque-high}
 use Rattle.plain.proofs.is_opaque.Statement.{statement}
 use Rattle.plain.proofs.is_opaque.Tie as tie
 
@@ -9,9 +9,7 @@ pub is-opaque-spec : {M : Type 1} → statement M
 is-opaque-spec =
     tie.close
     (tie.spec
-    (λ c. opaque-f1 _ (omega arith))
-    (λ c. opaque-f3 _ (omega arith))
-    (λ c. opaque-f5 _ (omega arith))
-    (λ c. opaque-high _ (omega arith) (omega arith))
-    (λ c. opaque-below _ (λ e. omega arith) (λ e. omega arith) (λ e. omega arith) (omega arith))
-    (λ c. opaque-above _ (λ e. omega arith) (λ e. omega arith) (λ e. omega arith) (omega arith) (omega arith)))
+    (λ c. opaque-below _ (c .before .match .rest .1) (omega arith))
+    (λ c. opaque-above _ (c .before .before .match .rest .1) (omega arith) (omega arith))
+    (λ c. opaque-single _ (c .match .keys1))
+    (λ c. opaque-high _ (c .before .before .match .rest .1) (omega arith) (omega arith)))

@@ -7,7 +7,7 @@ use mathlib.Core.Path.{_≡_, sym, ap, _∙_}
 use native.Mathlib.Nat.{add-sub-cancel-left}
 use native.Mathlib.Omega.{arith}
 use Rattle.walk.specs.Listing.{gave}
-use Rattle.area.specs.Kind.{crateRule}
+use Rattle.kinds.specs.Kind.{crateRule}
 use Rattle.lines.specs.Slots.{bodyAt, named, Scans}
 use Rattle.lines.specs.SlotsLaws.{scans-start, slot-inside, slot-scans}
 use Rattle.lines.specs.Told.{toldNamed}

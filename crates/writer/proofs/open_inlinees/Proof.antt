@@ -3,6 +3,7 @@
 use mathlib.Core.Path.{refl}
 use lib.Dec.{leb}
 use borrow.Author.Needs.{needs}
+use Rattle.kinds.specs.Kind.{«INLINEE_LINES»}
 use Rattle.writer_decides.specs.CallLaws.{opened}
 use Rattle.writer.specs.LentLaws.{signature-made}
 use Rattle.writer.proofs.open_inlinees.Statement.{statement}
@@ -12,7 +13,8 @@ returns : tie.Need-returns
 returns c =
     let p = c .before .before in
     let a = p .before .before .before .before .before .before .before .args in
-    opened (leb (a .signature) 1) _ (a .buf .now) (a .written) 0xf6 refl (signature-made (a .signature) _ (p .before .before .before .before .put-u32 .ensures)) (p .open-with .ensures .0) (p .open-with .ensures .1)
+    opened (leb (a .signature) 1) _ (a .buf .now) (a .written) «INLINEE_LINES» refl
+        (signature-made (a .signature) _ (p .before .before .before .before .put-u32 .ensures)) (p .open-with .ensures .0) (p .open-with .ensures .1)
 
 pub open-inlinees-spec : {M : Type 1} → statement M
 open-inlinees-spec =

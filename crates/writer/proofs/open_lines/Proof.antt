@@ -3,6 +3,7 @@
 use mathlib.Core.Bool.{true}
 use mathlib.Core.Path.{refl}
 use borrow.Author.Needs.{needs}
+use Rattle.kinds.specs.Kind.{LINES}
 use Rattle.writer_decides.specs.CallLaws.{opened}
 use Rattle.writer.specs.LentLaws.{head-made}
 use Rattle.writer.proofs.open_lines.Statement.{statement}
@@ -16,7 +17,7 @@ returns c =
     let h₂ = h₃ .before .before .before in
     let h₁ = h₂ .before .before .before in
     let a = h₁ .before .before .before .args in
-    opened true _ (a .buf .now) (a .written) 0xf2 refl
+    opened true _ (a .buf .now) (a .written) LINES refl
     (head-made (a .offset) (a .section) (a .flags) (a .code) _ _ _ _ (h₁ .put-u32 .ensures) (h₂ .put-u16 .ensures) (h₃ .put-u162 .ensures) (h₄ .put-u322 .ensures))
     (p .open-with .ensures .0) (p .open-with .ensures .1)
 

@@ -6,6 +6,7 @@ use mathlib.Core.Bool.{Bool}
 use mathlib.Core.Path.{sym, ap, _∙_}
 use native.Mathlib.Omega.{arith}
 use lib.ListN.{length}
+use Rattle.kinds.specs.Kind.{LINES}
 use Rattle.body.specs.Lines.{columned}
 use Rattle.plain.specs.Told.{toldPlain}
 use Rattle.writer_decides.specs.Calls.{blockRule, room, elseNotPlain}
@@ -18,7 +19,8 @@ returns c =
     let a = c .before .before .before .before .before .before .args in
     let n = length (a .lines .now) in
     let k = length (a .columns .now) in
-    grow-none 0xf2 (λ m. blockRule m n k) (λ m. 12 + 4 * n + 4 * k) (a .buf .now) (a .written) (ap toldPlain (sym (c .enum-told .given .1)) ∙ c .before .before .last-of .ensures)
+    grow-none LINES (λ m. blockRule m n k) (λ m. 12 + 4 * n + 4 * k) (a .buf .now) (a .written)
+        (ap toldPlain (sym (c .enum-told .given .1)) ∙ c .before .before .last-of .ensures)
 
 add-room-for-2 : tie.Need-add-room-for-2
 add-room-for-2 c =
@@ -33,7 +35,7 @@ returns-2 c =
     let n = length (a .lines .now) in
     let k = length (a .columns .now) in
     let l = c .before .before .before .before .header .given .0 in
-    grow-some 0xf2 (λ m. blockRule m n k) (λ m. 12 + 4 * n + 4 * k) (a .buf .now) (a .written) _ _
+    grow-some LINES (λ m. blockRule m n k) (λ m. 12 + 4 * n + 4 * k) (a .buf .now) (a .written) _ _
     (ap toldPlain (sym (c .before .before .before .before .header .given .1)) ∙ c .before .before .before .before .before .before .last-of .ensures)
     (c .room-for .ensures ∙ ap (λ (t : Bool). elseNotPlain t (room (length (a .buf .now)) (a .written) (l .0) (l .1 .1 .0) (12 + 4 * n + 4 * k))) (sym (c .before .if1 .taken) ∙ c .before .before .block-rule .ensures))
 
@@ -43,7 +45,7 @@ returns-3 c =
     let n = length (a .lines .now) in
     let k = length (a .columns .now) in
     let l = c .before .before .before .header .given .0 in
-    grow-some 0xf2 (λ m. blockRule m n k) (λ m. 12 + 4 * n + 4 * k) (a .buf .now) (a .written) _ _
+    grow-some LINES (λ m. blockRule m n k) (λ m. 12 + 4 * n + 4 * k) (a .buf .now) (a .written) _ _
     (ap toldPlain (sym (c .before .before .before .header .given .1)) ∙ c .before .before .before .before .before .last-of .ensures)
     (ap (λ (t : Bool). elseNotPlain t (room (length (a .buf .now)) (a .written) (l .0) (l .1 .1 .0) (12 + 4 * n + 4 * k))) (sym (c .if1 .left) ∙ c .before .block-rule .ensures))
 

@@ -5,6 +5,7 @@ use Prim.Native.Nat.{_+_, _*_}
 use mathlib.Core.Bool.{true}
 use mathlib.Core.Path.{sym, ap, _∙_}
 use lib.ListN.{length}
+use Rattle.kinds.specs.Kind.{«CROSS_SCOPE_IMPORTS»}
 use Rattle.plain.specs.Told.{toldPlain}
 use Rattle.writer_decides.specs.CallLaws.{grow-none, grow-some}
 use Rattle.writer_decides.proofs.module_step.Statement.{statement}
@@ -13,12 +14,13 @@ use Rattle.writer_decides.proofs.module_step.Tie as tie
 returns : tie.Need-returns
 returns c =
     let a = c .before .before .before .before .before .args in
-    grow-none 0xf7 (λ m. true) (λ m. 8 + 4 * length (a .words .now)) (a .buf .now) (a .written) (ap toldPlain (sym (c .enum-told .given .1)) ∙ c .before .before .last-of .ensures)
+    grow-none «CROSS_SCOPE_IMPORTS» (λ m. true) (λ m. 8 + 4 * length (a .words .now)) (a .buf .now) (a .written)
+        (ap toldPlain (sym (c .enum-told .given .1)) ∙ c .before .before .last-of .ensures)
 
 returns-2 : tie.Need-returns-2
 returns-2 c =
     let a = c .before .before .before .before .before .before .before .args in
-    grow-some 0xf7 (λ m. true) (λ m. 8 + 4 * length (a .words .now)) (a .buf .now) (a .written) _ _
+    grow-some «CROSS_SCOPE_IMPORTS» (λ m. true) (λ m. 8 + 4 * length (a .words .now)) (a .buf .now) (a .written) _ _
     (ap toldPlain (sym (c .before .before .header .given .1)) ∙ c .before .before .before .before .last-of .ensures) (c .plain-room .ensures)
 
 pub module-step-spec : {M : Type 1} → statement M

@@ -1,0 +1,26 @@
+-- The end line of a line entry as the crate reads it. Source: the crate's text, `LineNumberHeader::parse` in src/modi/c13.rs, step by step; document
+-- 01, "Line subsections".
+-- Definitions only; a reader must believe them.
+use Prim.Native.Nat.{ℕ, _+_, _-_, _/_, _^_}
+use mathlib.Core.Bool.{Bool, cond}
+use lib.Bits.{bitAnd, bitOr}
+use lib.Dec.{ltb}
+use Rattle.line_record.specs.Flags.{startLine}
+
+-- `flags & 0x7f00_0000 >> 24`: the mask is shifted, and not what it masks
+abbrev pub crateLow : ℕ → ℕ
+crateLow flags = bitAnd flags (0x7f00_0000 / 2 ^ 24)
+
+-- `start_line & !0x7f | low`: the high bits of the start line above the low bits
+abbrev pub joinedLine : ℕ → ℕ → ℕ
+joinedLine start low = bitOr (bitAnd start (0xffff_ffff - 0x7f)) low
+
+-- whether that lies below the start line, so that 128 is added
+abbrev pub fallsBelow : ℕ → ℕ → Bool
+fallsBelow start low = ltb (joinedLine start low) start
+
+abbrev pub endFrom : ℕ → ℕ → ℕ
+endFrom start low = cond (fallsBelow start low) (joinedLine start low + 2 ^ 7) (joinedLine start low)
+
+unfoldable pub endLine : ℕ → ℕ
+endLine flags = endFrom (startLine flags) (crateLow flags)
