@@ -42,7 +42,7 @@ inlinees-walk rule s n =
 pub inlinees-mean : (rule : ℕ → Sort) (s : List ℕ) → mapped (inlineeSpelt s) same (inlineesIn rule s) ≡ ofBody inlineesOf (firstBytes rule «INLINEE_LINES» s)
 inlinees-mean rule s =
     table-means (λ (b : List ℕ). sourceLinesFrom b 0) show In (λ b. lines-in b 0) s inlineeSpelt inlineeSpelt moves (firstSub rule «INLINEE_LINES» s)
-        (first-finds rule «INLINEE_LINES» s)
+    (first-finds rule «INLINEE_LINES» s)
     ∙ ap (λ (f : List ℕ → Listing Inlinee Told). ofBody f (firstBytes rule «INLINEE_LINES» s)) (λ i b. lines-mean b i)
   where
     moves : (start n : ℕ) (e : SourceLine) → start + n ≤ length s → length s ≤ longest → In n e → inlineeSpelt s (show start e) ≡ inlineeSpelt (take n (drop start s)) e

@@ -3,12 +3,12 @@ use Prim.Native.Nat.{ℕ, zero, suc, _+_, _≤_, _<_}
 use mathlib.Core.Path.{_≡_, refl, sym, ap, _∙_}
 use mathlib.Core.Logic.{_⊎_, inl, inr}
 use mathlib.Core.List.{List, [], _∷_, _++_}
-use mathlib.Core.Bool.{Bool, true, false, cond, _&&_}
+use mathlib.Core.Bool.{true, false, cond, _&&_}
 use native.Mathlib.Omega.{arith}
 use lib.Dec.{leb, eqb}
 use borrow.Author.Tests.{ne-eqb, eqb-false, le-leb, lt-leb}
 use Rattle.walk.specs.Cases.{by-cases, le-or-gt}
-use Rattle.kinds.specs.Kind.{IGNORE, knownKinds, among, Sort, known, skipped, unknown, crateRule}
+use Rattle.kinds.specs.Kind.{IGNORE, knownKinds, among, known, skipped, unknown, crateRule}
 
 -- n numbers from a on
 abbrev pub upFrom : ℕ → ℕ → List ℕ

@@ -1,5 +1,5 @@
-// The kinds of subsection, each number once, under the name that cvinfo.h gives it behind `DEBUG_S_`. Whoever reads, decides over or writes a kind
-// uses these names; an answer carries the number itself.
+// The kinds of subsection (crate: `DebugSubsectionKind`, whose names these are, in capitals), each number once. Whoever reads, decides over or writes a
+// kind uses these names; an answer carries the number itself.
 ghost use mathlib.Core.Path.{_≡_};
 ghost use Rattle.kinds.specs.Kind.{knownKinds};
 

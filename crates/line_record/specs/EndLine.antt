@@ -1,5 +1,5 @@
--- The end line of a line entry as the crate reads it. Source: the crate's text, `LineNumberHeader::parse` in src/modi/c13.rs, step by step; document
--- 01, "Line subsections".
+-- The end line of a line entry as the crate reads it. Source: the crate's text, `LineNumberHeader::parse` in src/modi/c13.rs, step by step behind the
+-- start line, which is that of Flags.antt; document 01, "Line subsections".
 -- Definitions only; a reader must believe them.
 use Prim.Native.Nat.{ℕ, _+_, _-_, _/_, _^_}
 use mathlib.Core.Bool.{Bool, cond}
@@ -19,8 +19,10 @@ joinedLine start low = bitOr (bitAnd start (0xffff_ffff - 0x7f)) low
 abbrev pub fallsBelow : ℕ → ℕ → Bool
 fallsBelow start low = ltb (joinedLine start low) start
 
+-- the end line of a start line and the low seven bits of an end line
 abbrev pub endFrom : ℕ → ℕ → ℕ
 endFrom start low = cond (fallsBelow start low) (joinedLine start low + 2 ^ 7) (joinedLine start low)
 
+-- THE CRATE'S READING
 unfoldable pub endLine : ℕ → ℕ
 endLine flags = endFrom (startLine flags) (crateLow flags)

@@ -68,9 +68,9 @@ pub fn start_line(flags: u32) -> u32
     flags % (LineRecord::MAX_START_LINE + 1)
 }
 
-// The end line as the crate reads it. The crate joins bits and then adds 128 where the result lies below the start line; that step is never reached
-// (`step-never` of specs/EndLineLaws.antt), and what it joins is the start line (`end-is-start`), so neither stands here. This is the one place where
-// an end line is read.
+// The end line as the crate reads it. The crate joins bits, and adds 128 where that lies below the start line. The step that adds is never reached
+// (`step-never` of specs/EndLineLaws.antt) and the end line is always the start line (`end-is-start`), so that is what is taken here. This is the one
+// place where an end line is read.
 pub fn end_line(flags: u32) -> u32
     ensures { λ r. ⌜ r ≡ endLine flags ⌝ }
 {

@@ -177,7 +177,7 @@ module _ (rule : ℕ → Sort) (s : List ℕ) (n : ℕ) (e : gave n ≡ countLin
   unfolding sorted bs
   bodies-are =
       map-sort (weightOf s) keyOf (bodyOf s) bs (each-map (λ b. 12 ≤ b .len) (λ b. keyOf (bodyOf s b) ≡ weightOf s b) (same-key s) bs
-          (whole (only (is LINES) (subsFrom rule s 0)) n e))
+      (whole (only (is LINES) (subsFrom rule s 0)) n e))
 
   -- THE THEOREM for the slots: they hold where the line bodies start, in walk order
   pub order-starts : map bodyStart (inOrder rule s) ≡ orderOf rule s

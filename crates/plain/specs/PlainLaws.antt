@@ -143,8 +143,13 @@ module _ (b : List ℕ) where
       (g : k ≡ «CROSS_SCOPE_EXPORTS» → ⊥) where
     on-opaque : markOf k b ≡ marked (isOpaque k && eqb (length b % 4) 0) 0
     unfolding markOf
-    on-opaque = rw (ne-eqb k LINES a, ne-eqb k «FILE_CHECKSUMS» d, ne-eqb k «INLINEE_LINES» e, ne-eqb k «CROSS_SCOPE_IMPORTS» f,
-        ne-eqb k «CROSS_SCOPE_EXPORTS» g)
+    on-opaque = rw (
+      ne-eqb k LINES a,
+      ne-eqb k «FILE_CHECKSUMS» d,
+      ne-eqb k «INLINEE_LINES» e,
+      ne-eqb k «CROSS_SCOPE_IMPORTS» f,
+      ne-eqb k «CROSS_SCOPE_EXPORTS» g,
+    )
 
     pub mark-opaque : length b % 4 ≡ 0 → (t : Bool) (o : Option ℕ) → t ≡ isOpaque k → o ≡ marked t 0 → o ≡ markOf k b
     mark-opaque h t o et eo =

@@ -295,14 +295,14 @@ module _ (k : ℕ) where
         ∙ among-but k «CROSS_SCOPE_IMPORTS» (SYMBOLS ∷ «STRING_TABLE» ∷ «FRAME_DATA» ∷ []) (drop 7 knownKinds) e
         ∙ among-but k «CROSS_SCOPE_EXPORTS» (SYMBOLS ∷ «STRING_TABLE» ∷ «FRAME_DATA» ∷ []) (drop 8 knownKinds) f
 
-  -- the last five of the names are numbers in a row, and the code tests them so
+  -- the last five of the names are numbers in a row, of which the compiler makes the test of a range
   pub opaque-range : isOpaque k
       ≡ cond (eqb k SYMBOLS) true (cond (eqb k «STRING_TABLE») true (cond (eqb k «FRAME_DATA») true (leb «IL_LINES» k && leb k «COFF_SYMBOL_RVA»)))
   unfolding isOpaque
   opaque-range =
       ap (λ (t : Bool). cond (eqb k SYMBOLS) true (cond (eqb k «STRING_TABLE») true (cond (eqb k «FRAME_DATA») true t))) (among-range k 4 «IL_LINES»)
 
-  -- the single numbers of the code's arm
+  -- the other three, which it tests one by one
   abbrev Single : Type 0
   Single = (k ≡ SYMBOLS) ⊎ ((k ≡ «STRING_TABLE») ⊎ (k ≡ «FRAME_DATA»))
 

@@ -150,7 +150,7 @@ module _ (rule : ℕ → Sort) (s : List ℕ) (h : Whole (reading rule s)) where
       mapped-whole (file.fileSpelt s) (filesIn rule s)
       (mapped-whole checksum (mapped (file.fileSpelt s) same (filesIn rule s))
       (ap failure (sym (files-agree rule s h)) ∙ whole-mapped dropped (recordsIn (lastBy (begins «FILE_CHECKSUMS») (chapters (reading rule s))))
-          (last-whole «FILE_CHECKSUMS»)))
+      (last-whole «FILE_CHECKSUMS»)))
 
   counted : {B : Type 0} (l : Listing B Told) → failure l ≡ nothing → NotRefused (countOf l)
   unfolding failure countOf

@@ -71,12 +71,12 @@ unfolding itemsOf checksumsItems importsItems
 opened-items r =
     by-cases P (eqb k LINES) (λ e. of-kind k LINES (linesItems b) e (lines-opened b))
     (λ e. by-cases P (eqb k «FILE_CHECKSUMS») (λ e. of-kind k «FILE_CHECKSUMS» (checksumsItems b) e
-        (refl, (λ w. refl), all-records checksum (λ x. refl) (checksums b)))
+    (refl, (λ w. refl), all-records checksum (λ x. refl) (checksums b)))
     (λ e. by-cases P (eqb k «INLINEE_LINES») (λ e. of-kind k «INLINEE_LINES» (inlineesItems b) e (inlinees-opened b))
     (λ e. by-cases P (eqb k «CROSS_SCOPE_IMPORTS») (λ e. of-kind k «CROSS_SCOPE_IMPORTS» (importsItems b) e
-        (refl, (λ w. refl), all-records imports (λ x. refl) (modules b)))
+    (refl, (λ w. refl), all-records imports (λ x. refl) (modules b)))
     (λ e. by-cases P (eqb k «CROSS_SCOPE_EXPORTS») (λ e. of-kind k «CROSS_SCOPE_EXPORTS» (exportsItems b) e (exports-opened b))
-        (λ e. (refl, (λ w. refl), tt))))))
+    (λ e. (refl, (λ w. refl), tt))))))
   where
     k : ℕ
     k = r .kind

@@ -208,7 +208,7 @@ module _ (rule : ℕ → Sort) (s : List ℕ) (h : Whole (reading rule s)) where
     where
       go : (t : Bool) → (t ≡ true → items b ≡ lineItemsAt b) → mapped items same (only (is LINES) l) ≡ mapped lineItemsAt same (only (is LINES) l)
           → mapped items same (cond t (more b (only (is LINES) l)) (only (is LINES) l))
-              ≡ mapped lineItemsAt same (cond t (more b (only (is LINES) l)) (only (is LINES) l))
+          ≡ mapped lineItemsAt same (cond t (more b (only (is LINES) l)) (only (is LINES) l))
       go true f e = λ i. more (f refl i) (e i)
       go false f e = e
   each-line ends q = refl
@@ -267,7 +267,7 @@ module _ (rule : ℕ → Sort) (s : List ℕ) (h : Whole (reading rule s)) where
   files-agree =
       let x = lastBytes rule «FILE_CHECKSUMS» s in
       ap (mapped dropped same) (last-records rule s «FILE_CHECKSUMS» (λ (b : List ℕ). each checksum (checksums b)) checksums-right h
-          ∙ of-body checksum checksums x)
+      ∙ of-body checksum checksums x)
       ∙ mapped-mapped dropped checksum (ofBody checksums x)
       ∙ sym (mapped-mapped checksum shown (ofBody checksums x))
       ∙ ap (each checksum)

@@ -15,7 +15,7 @@ use mathlib.Core.Option.{none, some}
 use native.Mathlib.Omega.{arith}
 use lib.ListN.{length, drop}
 use lib.Dec.{ltb}
-use borrow.Author.Tests.{ltb-false, le-leb}
+use borrow.Author.Tests.{ltb-false}
 use Rattle.word.specs.Word.{Bytes}
 use Rattle.walk.specs.Listing.{Reply, gave, refused, ends, before}
 use Rattle.refusal.specs.Told.{Told, told, longest}

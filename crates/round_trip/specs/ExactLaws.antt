@@ -88,7 +88,7 @@ module _ (is : List Item) where
 
   pairs-after : (f : ℕ) (ps : List Pair)
       → (kindAfter «CROSS_SCOPE_EXPORTS» (map exports ps ++ is) ≡ kindAfter «CROSS_SCOPE_EXPORTS» is)
-          × (markAfter f (map exports ps ++ is) ≡ markAfter (floorAfter f ps) is)
+      × (markAfter f (map exports ps ++ is) ≡ markAfter (floorAfter f ps) is)
   pairs-after f [] = (refl, refl)
   pairs-after f (p ∷ ps) = pairs-after (p .local + 1) ps
 

@@ -1,5 +1,5 @@
 -- An area that is plain in the words of document 01 is plain.
-use Prim.Native.Nat.{ℕ, _+_, _*_, _%_, _≤_}
+use Prim.Native.Nat.{ℕ, _+_, _*_, _%_}
 use mathlib.Core.Path.{_≡_, refl, sym, ap, _∙_, subst}
 use mathlib.Core.Logic.{inl, inr}
 use mathlib.Core.List.{List, [], _∷_, _++_, map}
@@ -7,10 +7,9 @@ use mathlib.Core.Bool.{Bool, true, false, cond, _&&_}
 use mathlib.Core.Option.{none, some}
 use native.Mathlib.Omega.{arith}
 use lib.ListN.{length, drop, getD}
-use lib.Dec.{ltb, leb, eqb}
-use borrow.Author.Tests.{eqb-true, eqb-false, eq-eqb, leb-true, le-leb, le-ltb}
+use lib.Dec.{ltb, eqb}
+use borrow.Author.Tests.{eqb-true, eqb-false, eq-eqb, le-ltb}
 use Rattle.word.specs.Word.{u16At, u32At}
-use Rattle.walk.specs.Cases.{and-true}
 use Rattle.walk.specs.Listing.{Move, item, Listing, more, ends, fails, before, andThen, all, nothing, spread}
 use Rattle.walk.specs.ListingLaws.{Holds}
 use Rattle.walk.specs.Pick.{failure}
@@ -228,8 +227,7 @@ body-marked r xs B = go (eqb k LINES) refl (eqb k «FILE_CHECKSUMS») refl (eqb 
     b = r .body
 
     go : (t₂ : Bool) → eqb k LINES ≡ t₂ → (t₄ : Bool) → eqb k «FILE_CHECKSUMS» ≡ t₄ → (t₆ : Bool) → eqb k «INLINEE_LINES» ≡ t₆ → (t₇ : Bool)
-        → eqb k «CROSS_SCOPE_IMPORTS» ≡ t₇ → (t₈ : Bool)
-        → eqb k «CROSS_SCOPE_EXPORTS» ≡ t₈
+        → eqb k «CROSS_SCOPE_IMPORTS» ≡ t₇ → (t₈ : Bool) → eqb k «CROSS_SCOPE_EXPORTS» ≡ t₈
         → cond t₂ (linesItems b) (cond t₄ (checksumsItems b) (cond t₆ (inlineesItems b) (cond t₇ (importsItems b)
         (cond t₈ (exportsItems b) (more (opaque k b) ends))))) ≡ before xs ends
         → (m : ℕ) × (cond t₂ (linesMark b) (cond t₄ (marked (wholly plainChecksum b) 0) (cond t₆ (inlineesMark b) (cond t₇ (marked (wholly moduleBite b) 0)
@@ -244,7 +242,7 @@ body-marked r xs B = go (eqb k LINES) refl (eqb k «FILE_CHECKSUMS») refl (eqb 
         let gs : Each GoodItem (opaque k b ∷ H .rest) = rw (H .is) at (B .good) in
         let o =
         known-opaque k (eqb-false k LINES e₂) (eqb-false k «FILE_CHECKSUMS» e₄) (eqb-false k «INLINEE_LINES» e₆) (eqb-false k «CROSS_SCOPE_IMPORTS» e₇)
-            (eqb-false k «CROSS_SCOPE_EXPORTS» e₈) in
+        (eqb-false k «CROSS_SCOPE_EXPORTS» e₈) in
         (0, rw (sym o ∙ B .kind, eq-eqb (length b % 4) 0 (gs .0)))
 
 -- ---- the crate's rule for kinds

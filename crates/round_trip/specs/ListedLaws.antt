@@ -255,8 +255,7 @@ mark-listed k b m = go (eqb k LINES) refl (eqb k «FILE_CHECKSUMS») refl (eqb k
     (eqb k «CROSS_SCOPE_EXPORTS») refl
   where
     go : (t₂ : Bool) → eqb k LINES ≡ t₂ → (t₄ : Bool) → eqb k «FILE_CHECKSUMS» ≡ t₄ → (t₆ : Bool) → eqb k «INLINEE_LINES» ≡ t₆ → (t₇ : Bool)
-        → eqb k «CROSS_SCOPE_IMPORTS» ≡ t₇ → (t₈ : Bool)
-        → eqb k «CROSS_SCOPE_EXPORTS» ≡ t₈
+        → eqb k «CROSS_SCOPE_IMPORTS» ≡ t₇ → (t₈ : Bool) → eqb k «CROSS_SCOPE_EXPORTS» ≡ t₈
         → cond t₂ (linesMark b) (cond t₄ (marked (wholly plainChecksum b) 0) (cond t₆ (inlineesMark b) (cond t₇ (marked (wholly moduleBite b) 0)
         (cond t₈ (ascendsFrom 0 (pairs b)) (marked (isOpaque k && eqb (length b % 4) 0) 0))))) ≡ some m → Listed k b
     go true e₂ t₄ e₄ t₆ e₆ t₇ e₇ t₈ e₈ q = of-kind k LINES b (eqb-true k LINES e₂) (lines-listed b m q)

@@ -2,13 +2,12 @@
 use Prim.Native.Nat.{ℕ, _+_, _-_, _/_, _%_, _≤_}
 use mathlib.Core.Path.{_≡_, refl, sym, ap, _∙_}
 use mathlib.Core.List.{List, [], _∷_, _++_, map, append-assoc}
-use mathlib.Core.Bool.{Bool, true, false, cond, _&&_}
+use mathlib.Core.Bool.{Bool, true, false}
 use mathlib.Core.Option.{some}
 use native.Mathlib.Omega.{arith}
 use lib.ListN.{length, drop, getD, length-append}
 use lib.Seq.{drop-at}
-use lib.Dec.{leb, eqb}
-use borrow.Author.Tests.{le-ltb, le-leb, eq-eqb, ne-eqb, eqb-true, leb-true}
+use borrow.Author.Tests.{le-ltb, le-leb, eq-eqb, ne-eqb}
 use Rattle.word.specs.Word.{u16At, u32At, le16, le32}
 use Rattle.word.specs.WordLaws.{le32-length, u32-first}
 use Rattle.walk.specs.Listing.{Move, item, over, Listing, more, ends, fails, before, andThen, all, spread}
@@ -159,8 +158,15 @@ good-mark (importsOf ms) g = ap (λ (t : Bool). marked t 0) (whole-forth moduleB
 good-mark (exportsOf ps) g = ap (ascendsFrom 0) (pairs-forth ps) ∙ ascends-forth 0 ps g
 good-mark (opaqueOf k b) g =
     let n = opaque-kinds k (g .0) in
-    rw (ne-eqb k LINES (n .0), ne-eqb k «FILE_CHECKSUMS» (n .1), ne-eqb k «INLINEE_LINES» (n .2), ne-eqb k «CROSS_SCOPE_IMPORTS» (n .3),
-        ne-eqb k «CROSS_SCOPE_EXPORTS» (n .4), g .0, eq-eqb (length b % 4) 0 (g .1))
+    rw (
+      ne-eqb k LINES (n .0),
+      ne-eqb k «FILE_CHECKSUMS» (n .1),
+      ne-eqb k «INLINEE_LINES» (n .2),
+      ne-eqb k «CROSS_SCOPE_IMPORTS» (n .3),
+      ne-eqb k «CROSS_SCOPE_EXPORTS» (n .4),
+      g .0,
+      eq-eqb (length b % 4) 0 (g .1),
+    )
 
 pub plain-from : (ss : List Sec) (p : ℕ) (last : Last) → Each GoodSec ss → plainFrom p last (before (rawsOf ss) ends) ≡ some (lastOf p last ss)
 unfolding plainFrom
@@ -205,8 +211,13 @@ good-reads (exportsOf ps) g =
     (ap (more openExports) (ap (each exports) (pairs-forth ps) ∙ each-before exports ps))
 good-reads (opaqueOf k b) g =
     let n = opaque-kinds k (g .0) in
-    rw (ne-eqb k LINES (n .0), ne-eqb k «FILE_CHECKSUMS» (n .1), ne-eqb k «INLINEE_LINES» (n .2), ne-eqb k «CROSS_SCOPE_IMPORTS» (n .3),
-        ne-eqb k «CROSS_SCOPE_EXPORTS» (n .4))
+    rw (
+      ne-eqb k LINES (n .0),
+      ne-eqb k «FILE_CHECKSUMS» (n .1),
+      ne-eqb k «INLINEE_LINES» (n .2),
+      ne-eqb k «CROSS_SCOPE_IMPORTS» (n .3),
+      ne-eqb k «CROSS_SCOPE_EXPORTS» (n .4),
+    )
 
 -- ---- whichever rule for kinds the area is read by, if it knows the kinds of plain subsections
 

@@ -1,4 +1,4 @@
--- `plain::is_opaque` meets its contract: each arm is a case of `isOpaque`.
+-- `plain::is_opaque` meets its contract: each way out is a case of `isOpaque`.
 -- Assumes nothing.
 use native.Mathlib.Omega.{arith}
 use Rattle.plain.specs.RecordLaws.{opaque-single, opaque-below, opaque-above, opaque-high}

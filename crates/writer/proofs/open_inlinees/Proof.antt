@@ -14,7 +14,7 @@ returns c =
     let p = c .before .before in
     let a = p .before .before .before .before .before .before .before .args in
     opened (leb (a .signature) 1) _ (a .buf .now) (a .written) «INLINEE_LINES» refl
-        (signature-made (a .signature) _ (p .before .before .before .before .put-u32 .ensures)) (p .open-with .ensures .0) (p .open-with .ensures .1)
+    (signature-made (a .signature) _ (p .before .before .before .before .put-u32 .ensures)) (p .open-with .ensures .0) (p .open-with .ensures .1)
 
 pub open-inlinees-spec : {M : Type 1} → statement M
 open-inlinees-spec =

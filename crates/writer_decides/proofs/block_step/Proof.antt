@@ -20,7 +20,7 @@ returns c =
     let n = length (a .lines .now) in
     let k = length (a .columns .now) in
     grow-none LINES (λ m. blockRule m n k) (λ m. 12 + 4 * n + 4 * k) (a .buf .now) (a .written)
-        (ap toldPlain (sym (c .enum-told .given .1)) ∙ c .before .before .last-of .ensures)
+    (ap toldPlain (sym (c .enum-told .given .1)) ∙ c .before .before .last-of .ensures)
 
 add-room-for-2 : tie.Need-add-room-for-2
 add-room-for-2 c =

@@ -17,7 +17,7 @@ returns c =
     let a = c .before .before .before .before .before .args in
     let n = length (a .bytes .now) in
     grow-none «FILE_CHECKSUMS» (λ m. checksumRule (a .kind) n) (λ m. up4 (6 + n)) (a .buf .now) (a .written)
-        (ap toldPlain (sym (c .enum-told .given .1)) ∙ c .before .before .last-of .ensures)
+    (ap toldPlain (sym (c .enum-told .given .1)) ∙ c .before .before .last-of .ensures)
 
 returns-2 : tie.Need-returns-2
 returns-2 c =

@@ -18,7 +18,7 @@ returns c =
     let a = c .before .before .before .before .before .args in
     let n = length (a .extra .now) in
     grow-none «INLINEE_LINES» (λ m. extraRule m n) (λ m. 12 + extraLength (extended m) n) (a .buf .now) (a .written)
-        (ap toldPlain (sym (c .enum-told .given .1)) ∙ c .before .before .last-of .ensures)
+    (ap toldPlain (sym (c .enum-told .given .1)) ∙ c .before .before .last-of .ensures)
 
 returns-2 : tie.Need-returns-2
 returns-2 c =

@@ -15,7 +15,7 @@ returns : tie.Need-returns
 returns c =
     let a = c .before .before .before .before .before .args in
     grow-none «CROSS_SCOPE_IMPORTS» (λ m. true) (λ m. 8 + 4 * length (a .words .now)) (a .buf .now) (a .written)
-        (ap toldPlain (sym (c .enum-told .given .1)) ∙ c .before .before .last-of .ensures)
+    (ap toldPlain (sym (c .enum-told .given .1)) ∙ c .before .before .last-of .ensures)
 
 returns-2 : tie.Need-returns-2
 returns-2 c =

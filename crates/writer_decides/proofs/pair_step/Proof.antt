@@ -13,7 +13,7 @@ returns : tie.Need-returns
 returns c =
     let a = c .before .before .before .before .args in
     grow-none «CROSS_SCOPE_EXPORTS» (λ m. leb m (a .local)) (λ m. 8) (a .buf .now) (a .written)
-        (ap toldPlain (sym (c .enum-told .given .1)) ∙ c .before .before .last-of .ensures)
+    (ap toldPlain (sym (c .enum-told .given .1)) ∙ c .before .before .last-of .ensures)
 
 returns-2 : tie.Need-returns-2
 returns-2 c =
