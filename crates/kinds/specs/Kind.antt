@@ -1,6 +1,6 @@
 -- The kinds of subsection, by name, and which of them are known. Source: cvinfo.h, `DEBUG_S_SUBSECTION_TYPE` and `DEBUG_S_IGNORE`; document 01, "Area
 -- and subsections": known, skipped with its body, all else refused. The names are those of the crate's `DebugSubsectionKind`, in capitals; where
--- cvinfo.h spells one otherwise behind `DEBUG_S_`, it stands above.
+-- cvinfo.h spells one otherwise behind `DEBUG_S_`, that is said.
 -- Definitions only; a reader must believe them.
 use Prim.Native.Nat.{ℕ}
 use mathlib.Core.List.{List, [], _∷_}
@@ -13,27 +13,27 @@ SYMBOLS = 0xf1
 abbrev pub LINES : ℕ
 LINES = 0xf2
 
--- STRINGTABLE
+-- in cvinfo.h: STRINGTABLE
 abbrev pub «STRING_TABLE» : ℕ
 «STRING_TABLE» = 0xf3
 
--- FILECHKSMS
+-- in cvinfo.h: FILECHKSMS
 abbrev pub «FILE_CHECKSUMS» : ℕ
 «FILE_CHECKSUMS» = 0xf4
 
--- FRAMEDATA
+-- in cvinfo.h: FRAMEDATA
 abbrev pub «FRAME_DATA» : ℕ
 «FRAME_DATA» = 0xf5
 
--- INLINEELINES
+-- in cvinfo.h: INLINEELINES
 abbrev pub «INLINEE_LINES» : ℕ
 «INLINEE_LINES» = 0xf6
 
--- CROSSSCOPEIMPORTS
+-- in cvinfo.h: CROSSSCOPEIMPORTS
 abbrev pub «CROSS_SCOPE_IMPORTS» : ℕ
 «CROSS_SCOPE_IMPORTS» = 0xf7
 
--- CROSSSCOPEEXPORTS
+-- in cvinfo.h: CROSSSCOPEEXPORTS
 abbrev pub «CROSS_SCOPE_EXPORTS» : ℕ
 «CROSS_SCOPE_EXPORTS» = 0xf8
 
@@ -46,7 +46,7 @@ abbrev pub «FUNC_MDTOKEN_MAP» : ℕ
 abbrev pub «TYPE_MDTOKEN_MAP» : ℕ
 «TYPE_MDTOKEN_MAP» = 0xfb
 
--- MERGED_ASSEMBLYINPUT
+-- in cvinfo.h: MERGED_ASSEMBLYINPUT
 abbrev pub «MERGED_ASSEMBLY_INPUT» : ℕ
 «MERGED_ASSEMBLY_INPUT» = 0xfc
 
