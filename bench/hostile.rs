@@ -5,7 +5,7 @@
 use crate::input::{bytes_of, subsection, Lists};
 use crate::keys::ORDERS;
 use crate::time::cpu_time;
-use c13::calls::{self, FILE_RECORD, GIVEN, LAST, LINE_STATE, NONE, RECORD, TABLE_STATE};
+use c13::calls::{self, END_LINES_CRATE, FILE_RECORD, GIVEN, LAST, LINE_STATE, NONE, RECORD, TABLE_STATE};
 use std::collections::BTreeMap;
 use std::hint::black_box;
 
@@ -193,7 +193,7 @@ fn lines(name: &str, area: &[u8], times: &mut Times) {
         let room = || (vec![1; area.len() / 8 * RECORD], out());
         let seconds = timed(room, |(records, out)| calls::c13_lines(area, &slots, &lists.bodies, records, out));
         times.insert(("c13_lines", name.clone()), seconds);
-        let seconds = timed(out, |out| calls::c13_lines_for_symbol(area, &slots, &lists.bodies, 1, u32::MAX, out));
+        let seconds = timed(out, |out| calls::c13_lines_for_symbol(area, &slots, &lists.bodies, 1, u32::MAX, END_LINES_CRATE, out));
         times.insert(("c13_lines_for_symbol", name), seconds);
     }
 }

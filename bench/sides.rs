@@ -2,7 +2,7 @@
 
 use crate::answers::{FileWords, Taker};
 use crate::input::{Input, Lists};
-use c13::calls::{self, RecordWord, FILE_RECORD, GIVEN, LAST, LINE_STATE, NONE, RECORD, TABLE_STATE};
+use c13::calls::{self, RecordWord, END_LINES_CRATE, FILE_RECORD, GIVEN, LAST, LINE_STATE, NONE, RECORD, TABLE_STATE};
 use pdb::{FallibleIterator, FileIndex, LineIterator, Local, PdbInternalSectionOffset, StringRef, TypeIndex};
 use std::hint::black_box;
 
@@ -78,7 +78,7 @@ pub mod calls_side {
         let area = black_box(i.bytes.as_slice());
         for (section, offset) in symbols {
             let mut out = [0; LINE_STATE + 2];
-            given(calls::c13_lines_for_symbol(area, &lists.slots, &lists.bodies, *section, *offset, &mut out));
+            given(calls::c13_lines_for_symbol(area, &lists.slots, &lists.bodies, *section, *offset, END_LINES_CRATE, &mut out));
             records(area, lists, &mut out, room, t);
         }
     }

@@ -2,13 +2,16 @@
 //! call and again many a call, lines also with other body lists than the area's, and lookups again in what was found once; an answer that is another one
 //! then is written out, and so differs from the crate's.
 
-use c13::calls::{self, RecordWord, FILE_RECORD, GIVEN, LAST, LINE_STATE, NONE, RECORD, REFUSED, SUB_STATE, TABLE_STATE};
+use c13::calls::{self, RecordWord, END_LINES_CRATE, FILE_RECORD, GIVEN, LAST, LINE_STATE, NONE, RECORD, REFUSED, SUB_STATE, TABLE_STATE};
 use std::collections::HashMap;
 use std::fmt::Write as _;
 use std::io::{BufRead, BufReader, BufWriter, Write};
 
 /// The words lent to a call: a walk's state in front, and the answer.
-struct Words([u64; 40]);
+struct Words([u64; MOST]);
+
+/// The most that a call asks for.
+const MOST: usize = LINE_STATE + RECORD;
 
 /// What a call answered.
 enum Said {
@@ -20,9 +23,9 @@ enum Said {
 }
 
 impl Words {
-    /// A walk at its start.
+    /// A walk at its start. All zeros is also the crate's reading of end lines, which is the one that is compared.
     fn new() -> Words {
-        Words([0; 40])
+        Words([0; MOST])
     }
 
     /// The same state again.
@@ -355,7 +358,7 @@ fn symbol_lines(b: &mut Block, symbol: &str, area: &[u8], slots: &[u32], lists: 
     let (section, offset) = (section.parse().expect("section"), u32::from_str_radix(offset, 16).expect("offset in hex"));
     let asked = |bodies: &[u32]| {
         let mut words = Words::new();
-        let status = calls::c13_lines_for_symbol(area, slots, bodies, section, offset, &mut words.0);
+        let status = calls::c13_lines_for_symbol(area, slots, bodies, section, offset, END_LINES_CRATE, &mut words.0);
         (status, words)
     };
     let (status, words) = asked(&lists[0]);
@@ -387,7 +390,7 @@ fn lines(b: &mut Block, case: &Case, area: &[u8]) {
             line_walk(b, Words::new(), "line", area, &[], &[vec![], vec![8]]);
             for symbol in case.list("syms") {
                 let mut words = Words::new();
-                let status = calls::c13_lines_for_symbol(area, &[], &[], 1, 0, &mut words.0);
+                let status = calls::c13_lines_for_symbol(area, &[], &[], 1, 0, END_LINES_CRATE, &mut words.0);
                 match words.said(0, status) {
                     Said::Refused(why) => b.put(&format!("sym {symbol} {why}")),
                     _ => b.put(&format!("sym {symbol} NOT-REFUSED")),

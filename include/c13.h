@@ -22,20 +22,24 @@
  *   C13_LAST       an answer as C13_GIVEN, and nothing comes behind it: the next call from there answers C13_NONE. Only a call that gives many records
  *                  answers it; C13_GIVEN does not say that there are more.
  *   C13_REFUSED    a refusal: its number (enum c13_refusal) and what it carries, or 0. The words stand at out[0] and out[1], or behind the state if the
- *                  call steps a walk: at out[1], out[4] or out[27].
+ *                  call steps a walk: at out[1], out[4] or out[28].
  *   C13_TOO_SHORT  the words of the answer do not fit in `out`. `out` is left as it was. C13_MOST words are always enough. A call that writes to other
  *                  memory asks for two words, behind the state if it steps a walk, before it does anything.
+ *   C13_NO_SUCH_CHOICE  what the caller chose is none of the choices: the reading of end lines, in the state of a walk over lines or as a parameter, is no
+ *                  number of enum c13_end_lines. It is tested before everything else, C13_TOO_SHORT too. `out` is left as it was. No number that names
+ *                  nothing is taken for a default.
  *
- * Words that are not named are left as they were. A call that is refused, or has too few words, changes no other lent memory.
+ * Words that are not named are left as they were. A call that is refused, has too few words or names no choice changes no other lent memory.
  *
- * WALKS. The first words of `out` are the state of a walk; all zeros is a new walk, and a word that is not lent counts as 0. A call that gives a
- * record puts the next state in front of it, so that calling again with the same `out` gives the next record. At its end a walk leaves its state and
- * answers C13_NONE, again and again; a walk that is refused leaves its state and gives the same refusal again. A state that no call gave is no
- * fault: it has one answer, too. So words that another call answered are a state as well, and may be that of a walk at its end: begin each walk with
- * zeros in an `out` of its own, or with a struct of those below.
+ * WALKS. The first words of `out` are the state of a walk; all zeros is a new walk, and a word that is not lent counts as 0. The last word of the state of a
+ * walk over lines is a choice, which each step keeps: zeros before it are a new walk by the reading that it names. A call that gives a record puts the next
+ * state in front of it, so that calling again with the same `out` gives the next record. At its end a walk leaves its state and answers C13_NONE, again and
+ * again; a walk that is refused leaves its state and gives the same refusal again. A state that no call gave is no fault: it has one answer, too. So words
+ * that another call answered are a state as well, and may be that of a walk at its end: begin each walk with zeros in an `out` of its own, or with a struct
+ * of those below.
  *
- * An area, a stream or a body that is lent alone of more than 16,777,216 bytes is refused with C13_TOO_LONG, before anything else; the buffer of the
- * writer may be longer. */
+ * An area, a stream or a body that is lent alone of more than 16,777,216 bytes is refused with C13_TOO_LONG, before every other refusal; the buffer of
+ * the writer may be longer. */
 #ifndef C13_H
 #define C13_H
 
@@ -49,7 +53,7 @@ extern "C" {
 /* The version of this header and of the library that it is for. */
 #define C13_VERSION "0.1.0"
 
-enum c13_status { C13_NONE = 0, C13_GIVEN = 1, C13_REFUSED = 2, C13_TOO_SHORT = 3, C13_LAST = 4 };
+enum c13_status { C13_NONE = 0, C13_GIVEN = 1, C13_REFUSED = 2, C13_TOO_SHORT = 3, C13_LAST = 4, C13_NO_SUCH_CHOICE = 5 };
 
 /* The numbers of refusals (document 01, "Refusal numbers"). */
 enum c13_refusal {
@@ -75,7 +79,7 @@ enum c13_refusal {
 };
 
 /* Lengths in words: the states of walks, a line record, a file of c13_files, and what is always enough for `out`. */
-enum { C13_SUB_STATE = 1, C13_TABLE_STATE = 4, C13_LINE_STATE = 27, C13_RECORD = 12, C13_FILE_RECORD = 5, C13_MOST = 39 };
+enum { C13_SUB_STATE = 1, C13_TABLE_STATE = 4, C13_LINE_STATE = 28, C13_RECORD = 12, C13_FILE_RECORD = 5, C13_MOST = 40 };
 
 /* ---- subsections */
 
@@ -131,7 +135,7 @@ enum c13_line_word {
     C13_LENGTH = 3,
     C13_FILE = 4, /* the file's index, for c13_file_at */
     C13_START_LINE = 5,
-    C13_END_LINE = 6,
+    C13_END_LINE = 6, /* by the reading that was chosen, enum c13_end_lines */
     C13_HAS_START_COLUMN = 7,
     C13_START_COLUMN = 8,
     C13_HAS_END_COLUMN = 9,
@@ -139,29 +143,45 @@ enum c13_line_word {
     C13_IS_STATEMENT = 11 /* 1 a statement, 0 an expression */
 };
 
+/* How end lines are read. A line has seven bits for its end line, bits 24 to 30 of its flags word; no field of an area says how they are meant, so the caller
+ * does, once for a walk.
+ *   C13_END_LINES_CRATE     as the crate pdb 0.8.0 reads them: the end line is always the start line
+ *   C13_END_LINES_LOW_BITS  the seven bits are the lowest of the end line, its other bits are those of the start line; plus 128 where that is below the start
+ *                           line. The flags 0x8c00000a are line 10 to 12; start line 127 with 2 in the seven bits is 127 to 130
+ * The end line alone depends on it: all other words of a record, which records there are and each refusal are the same by every reading; that is tested on
+ * real areas, and not proved. */
+enum c13_end_lines { C13_END_LINES_CRATE = 0, C13_END_LINES_LOW_BITS = 1 };
+
+/* The word of a line walk's state that holds the reading. */
+enum { C13_STATE_END_LINES = 27 };
+
 /* The next line record of the walk over an area and its order list.
- * State, 27 words. Given: the state behind the record, and at out[27] the 12 words of the record.
+ * State, 28 words. Given: the state behind the record, and at out[28] the 12 words of the record.
  *   out[0] 0 a new walk, 1 between two subsections, 2 inside one   out[1] next slot   out[2] line subsections left   out[3] how far the area was searched
  *   out[4] 1 if a record is held back   out[5] its 12 words   out[17] offset, section, flags and code size of the line header   out[21] end of the body
  *   out[22] next block   out[23] file   out[24] lines left in the block   out[25] next line   out[26] next column
+ *   out[27] the reading of end lines, C13_STATE_END_LINES: each step leaves it as it is; C13_NO_SUCH_CHOICE where it is none. The record that is held back
+ *   keeps the end line that it was read with, also where the caller changes this word
+ * All zeros is a new walk by the crate's reading; zeros, and C13_END_LINES_LOW_BITS at out[27], a new walk by low bits.
  * A record is held back until its end is known, so that its length is right. With the list that c13_order_list made of the same area no slot is wrong;
  * with any other a slot that is missing or names no line body is C13_WRONG_SLOT when the walk comes to it. */
 uint32_t c13_next_line(const uint8_t *area, size_t area_len, const uint32_t *slots, size_t slots_len, const uint32_t *bodies, size_t bodies_len,
                        uint64_t *out, size_t out_len);
 
-/* Many line records in one call: those from the walk on, as many as `records` has room for, 12 words of 32 bits each. State as above, 27 words of 64.
- * Given: the state behind the last of them, and at out[27] how many there are; C13_LAST where the walk is over behind them, so that a short walk is one
+/* Many line records in one call: those from the walk on, as many as `records` has room for, 12 words of 32 bits each. State as above, 28 words of 64.
+ * Given: the state behind the last of them, and at out[28] how many there are; C13_LAST where the walk is over behind them, so that a short walk is one
  * call. The records before a refusal are given first; the next call tells it, as c13_next_line would. With room for no record C13_NO_ROOM; with
- * fewer than 29 words of `out` too short, and nothing changes. */
+ * fewer than 30 words of `out` too short, and nothing changes. */
 uint32_t c13_lines(const uint8_t *area, size_t area_len, const uint32_t *slots, size_t slots_len, const uint32_t *bodies, size_t bodies_len,
                    uint32_t *records, size_t records_len, uint64_t *out, size_t out_len);
 
 /* The lines of the symbol at a section and offset: the state of a walk for c13_lines or c13_next_line. The walk is over the list's first line subsection
  * with just that section and offset; where there is none, over the last one in list order of the same section with a smaller offset, whether or
- * not it covers the offset asked; where there is none of these either, it has no records.
- *   out[0] .. out[26] the state */
+ * not it covers the offset asked; where there is none of these either, it has no records. Its end lines are read as `end_lines` says, a number of
+ * enum c13_end_lines; C13_NO_SUCH_CHOICE where it is none. What `out` holds before the call is not looked at.
+ *   out[0] .. out[27] the state */
 uint32_t c13_lines_for_symbol(const uint8_t *area, size_t area_len, const uint32_t *slots, size_t slots_len, const uint32_t *bodies,
-                              size_t bodies_len, uint16_t section, uint32_t offset, uint64_t *out, size_t out_len);
+                              size_t bodies_len, uint16_t section, uint32_t offset, uint32_t end_lines, uint64_t *out, size_t out_len);
 
 /* ---- files and their checksums: the entries of the area's last checksum subsection, after the tests of c13_order_list over the whole area */
 
@@ -335,7 +355,8 @@ uint32_t c13_add_opaque(uint8_t *buf, size_t buf_len, size_t place, uint32_t kin
  * A walk is a struct of its own. c13_.._walk_begin makes it, c13_.._walk_next stores the next record, c13_.._walk_many as many as there is room for. A
  * call that steps no walk has the name c13_ask_.. here. Each answers what its call answers: C13_GIVEN, and the answer is stored; C13_LAST of
  * c13_.._walk_many, the same; C13_NONE; C13_REFUSED, and why is stored, in the walk or, where it is not null, behind the last pointer. C13_TOO_SHORT does
- * not come. A loop over c13_.._walk_many uses `count` records at each turn, whatever the status is, and goes on while that is C13_GIVEN.
+ * not come, and C13_NO_SUCH_CHOICE only where a walk over lines is begun with a number that is no reading: it is no refusal, no reason is stored, and the
+ * status alone tells it. A loop over c13_.._walk_many uses `count` records at each turn, whatever the status is, and goes on while that is C13_GIVEN.
  *
  *     struct c13_line_walk walk = c13_line_walk_begin(area, area_len, slots, used, bodies, used);
  *     struct c13_line line;
@@ -374,7 +395,7 @@ static inline const char *c13_refusal_text(uint32_t number) {
     }
 }
 
-/* A file's index or a name's offset for a call that takes 32 bits: a larger number names nothing, and neither does the largest of these. */
+/* A file's index, a name's offset or a reading for a call that takes 32 bits: a larger number names nothing, and neither does the largest of these. */
 static inline uint32_t c13_number(uint64_t number) { return number > UINT32_MAX ? UINT32_MAX : (uint32_t)number; }
 
 /* The status of a call, with why it was refused out of the two words where that stands. */
@@ -491,13 +512,23 @@ static inline struct c13_line_walk c13_line_walk_begin(const uint8_t *area, size
     struct c13_line_walk walk = {area, area_len, slots, slots_len, bodies, bodies_len, {0}, {0, 0}};
     return walk;
 }
-/* The lines of a symbol: c13_lines_for_symbol. C13_GIVEN: the walk is begun. A walk that was not begun gives the same refusal at each step. */
+/* The same by a reading of end lines, of enum c13_end_lines; c13_line_walk_begin is by the crate's. Begun with a number that is none, each step answers
+ * C13_NO_SUCH_CHOICE. The number has all bits of the state's word, so that none is cut off on its way. */
+static inline struct c13_line_walk c13_line_walk_begin_by(const uint8_t *area, size_t area_len, const uint32_t *slots, size_t slots_len,
+                                                          const uint32_t *bodies, size_t bodies_len, uint64_t end_lines) {
+    struct c13_line_walk walk = c13_line_walk_begin(area, area_len, slots, slots_len, bodies, bodies_len);
+    walk.out[C13_STATE_END_LINES] = end_lines;
+    return walk;
+}
+/* The lines of a symbol by a reading of end lines: c13_lines_for_symbol. C13_GIVEN: the walk is begun. A walk that was not begun gives the same refusal, or
+ * C13_NO_SUCH_CHOICE, at each step. */
 static inline enum c13_status c13_line_walk_begin_symbol(struct c13_line_walk *walk, const uint8_t *area, size_t area_len, const uint32_t *slots,
                                                          size_t slots_len, const uint32_t *bodies, size_t bodies_len, uint16_t section,
-                                                         uint32_t offset) {
-    *walk = c13_line_walk_begin(area, area_len, slots, slots_len, bodies, bodies_len);
-    return c13_told(c13_lines_for_symbol(area, area_len, slots, slots_len, bodies, bodies_len, section, offset, walk->out, C13_LINE_STATE), walk->out,
-                    &walk->refused);
+                                                         uint32_t offset, uint64_t end_lines) {
+    *walk = c13_line_walk_begin_by(area, area_len, slots, slots_len, bodies, bodies_len, end_lines);
+    return c13_told(c13_lines_for_symbol(area, area_len, slots, slots_len, bodies, bodies_len, section, offset, c13_number(end_lines), walk->out,
+                                         C13_LINE_STATE),
+                    walk->out, &walk->refused);
 }
 /* A line's words, of 64 bits where c13_next_line gives them. */
 static inline void c13_line_of(struct c13_line *line, const uint64_t *words) {

@@ -13,11 +13,18 @@ pub const REFUSED: u32 = 2;
 pub const TOO_SHORT: u32 = 3;
 /// An answer as [`GIVEN`], and nothing comes behind it.
 pub const LAST: u32 = 4;
+/// What was chosen, in the state or as a parameter, is none of the choices; nothing was put.
+pub const NO_SUCH_CHOICE: u32 = 5;
 
 /// How many words the state of a walk takes at the front of `out`: of the subsections, of a table, of the lines.
 pub const SUB_STATE: usize = 1;
 pub const TABLE_STATE: usize = 4;
-pub const LINE_STATE: usize = 27;
+pub const LINE_STATE: usize = 28;
+/// The word of the lines' state that is the reading of end lines, and its numbers: the crate's, and low bits. The same numbers are a parameter of
+/// `c13_lines_for_symbol`.
+pub const STATE_END_LINES: usize = 27;
+pub const END_LINES_CRATE: u32 = 0;
+pub const END_LINES_LOW_BITS: u32 = 1;
 /// The words of a line record, and of a file of `c13_files`.
 pub const RECORD: usize = 12;
 pub const FILE_RECORD: usize = 5;
@@ -62,7 +69,7 @@ calls! {
     c13_body_list([area: u8] [mut bodies: u32]);
     c13_next_line([area: u8] [slots: u32] [bodies: u32]);
     c13_lines([area: u8] [slots: u32] [bodies: u32] [mut records: RecordWord]);
-    c13_lines_for_symbol([area: u8] [slots: u32] [bodies: u32] (section: u16) (offset: u32));
+    c13_lines_for_symbol([area: u8] [slots: u32] [bodies: u32] (section: u16) (offset: u32) (end_lines: u32));
     c13_next_file([area: u8]);
     c13_files([area: u8] [mut records: RecordWord]);
     c13_file_at([area: u8] (index: u32));

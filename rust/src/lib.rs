@@ -35,7 +35,7 @@
 #![warn(missing_docs, clippy::missing_errors_doc)]
 
 mod area;
-// The raw calls are no part of the interface. With the feature `calls` the programs of bench/ and compare/, which count and compare them, reach them.
+// The raw calls are no part of the interface. With the feature `calls` the programs of bench/, compare/ and tests/, which count and compare them, reach them.
 #[cfg(feature = "calls")]
 #[doc(hidden)]
 #[allow(unsafe_code, missing_docs)]
@@ -54,7 +54,9 @@ mod writer;
 
 pub use area::{Area, Subsection, Subsections};
 pub use kind::SubsectionKind;
-pub use lines::{FileChecksum, FileIndex, FileInfo, FileIterator, LineInfo, LineInfoKind, LineIterator, LineProgram, PdbInternalSectionOffset};
+pub use lines::{
+    EndLines, FileChecksum, FileIndex, FileInfo, FileIterator, LineInfo, LineInfoKind, LineIterator, LineProgram, PdbInternalSectionOffset,
+};
 pub use module::ModuleInfo;
 pub use refusal::Refusal;
 pub use strings::{StringRef, StringTable};

@@ -1,6 +1,6 @@
 //! Lines and files.
 
-use crate::calls::{self, RecordWord, FILE_RECORD, LINE_STATE, RECORD, TABLE_STATE};
+use crate::calls::{self, RecordWord, FILE_RECORD, LINE_STATE, RECORD, STATE_END_LINES, TABLE_STATE};
 use crate::words::{one, optional, part, size, within, word, word32, Many, Walk};
 use crate::{Refusal, StringRef};
 use std::fmt;
@@ -35,6 +35,28 @@ pub enum LineInfoKind {
     Statement,
 }
 
+/// How end lines are read. A line has seven bits for its end line, bits 24 to 30 of its flags, and nothing in an area says how they are meant. Who reads it
+/// does: [`LineProgram::with_end_lines`]. [`LineInfo::line_end`] alone depends on it.
+#[derive(Clone, Copy, Debug, Default, Eq, Hash, PartialEq)]
+pub enum EndLines {
+    /// As the crate pdb 0.8.0 reads them: the end line is always the start line.
+    #[default]
+    Crate,
+    /// The seven bits are the lowest of the end line, and its other bits are those of the start line; plus 128 where that is below the start line. The flags
+    /// 0x8c00000a are line 10 to 12; start line 127 with 2 in the seven bits is 127 to 130.
+    LowBits,
+}
+
+impl EndLines {
+    /// The number that names it to the calls.
+    fn number(self) -> u32 {
+        match self {
+            EndLines::Crate => calls::END_LINES_CRATE,
+            EndLines::LowBits => calls::END_LINES_LOW_BITS,
+        }
+    }
+}
+
 /// A line record: which source a piece of code is from. Markers, which say that code has no source line, give no record.
 #[derive(Clone, Debug, Eq, PartialEq)]
 pub struct LineInfo {
@@ -46,8 +68,8 @@ pub struct LineInfo {
     pub file_index: FileIndex,
     /// The line where the source starts, the first line being 1.
     pub line_start: u32,
-    /// The line where the source ends, as the crate pdb 0.8.0 reads it: always the start line. LLVM reads a count of further lines in bits 24 to 30 of the
-    /// flags, so that its end line may be greater: see docs/DIFFERENCES.md.
+    /// The line where the source ends, by the reading that [`LineProgram::with_end_lines`] chose. Without a choice it is as the crate pdb 0.8.0 reads it,
+    /// always the start line. It is never below the start line. LLVM reads it in yet another way: see docs/DIFFERENCES.md.
     pub line_end: u32,
     /// The column where the source starts. None where the subsection has no columns.
     pub column_start: Option<u32>,
@@ -230,10 +252,12 @@ pub struct LineProgram<'a> {
     /// The second list; empty where the first ascends, which then is the second as well.
     bodies: Vec<u32>,
     checksums: ChecksumPart,
+    end_lines: EndLines,
 }
 
 impl<'a> LineProgram<'a> {
-    /// Tests the whole area, subsection by subsection, and puts those of lines in order. What stands in their bodies is tested when it is read.
+    /// Tests the whole area, subsection by subsection, and puts those of lines in order. What stands in their bodies is tested when it is read. End lines are
+    /// read as the crate pdb reads them, [`EndLines::Crate`].
     ///
     /// # Errors
     ///
@@ -250,7 +274,14 @@ impl<'a> LineProgram<'a> {
             bodies.resize(slots.len(), 0);
             let _: [u64; 2] = one(|out| calls::c13_body_list(area, &mut bodies, out))?;
         }
-        Ok(LineProgram { area, slots, bodies, checksums: ChecksumPart::unknown() })
+        Ok(LineProgram { area, slots, bodies, checksums: ChecksumPart::unknown(), end_lines: EndLines::default() })
+    }
+
+    /// The same with another reading of end lines: by it [`lines`](LineProgram::lines), [`lines_for_symbol`](LineProgram::lines_for_symbol) and
+    /// [`line_at`](LineProgram::line_at) read from then on. Nothing else of what they answer changes.
+    #[must_use]
+    pub fn with_end_lines(self, end_lines: EndLines) -> Self {
+        LineProgram { end_lines, ..self }
     }
 
     /// The list of the line subsections in the order of the area.
@@ -264,14 +295,17 @@ impl<'a> LineProgram<'a> {
 
     /// All line records, by ascending section and offset of their subsections.
     pub fn lines(&self) -> LineIterator<'_> {
+        let mut state = [0; LINE_STATE + 2];
+        state[STATE_END_LINES] = self.end_lines.number().into();
         // As many records at first as there are subsections: that takes no longer than the lists did.
-        LineIterator { program: self, records: Ok(Many::of(Walk::new(), self.slots.len())) }
+        LineIterator { program: self, records: Ok(Many::of(Walk::from(state), self.slots.len())) }
     }
 
     /// The line records of the symbol at a place: those of the line subsection that starts there, or else of the last one of the section that starts
     /// before it, whether or not that reaches so far.
     pub fn lines_for_symbol(&self, place: PdbInternalSectionOffset) -> LineIterator<'_> {
-        let walk = one(|out| calls::c13_lines_for_symbol(self.area, &self.slots, self.bodies(), place.section, place.offset, out));
+        let end_lines = self.end_lines.number();
+        let walk = one(|out| calls::c13_lines_for_symbol(self.area, &self.slots, self.bodies(), place.section, place.offset, end_lines, out));
         LineIterator { program: self, records: walk.map(|out| Many::of(Walk::from(out), 0)).map_err(Some) }
     }
 

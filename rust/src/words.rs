@@ -45,7 +45,8 @@ fn empty<'a>() -> &'a [u8] {
 fn refused(status: u32, words: &[u64]) -> Refusal {
     match status {
         REFUSED => Refusal::of(word(words, 0), word(words, 1)),
-        // The words lent are always enough; "none" and the last of many are told before, and calls that `one` asks do not answer them. So this does not come.
+        // The words lent are always enough; a choice is a case of an enum; "none" and the last of many are told before, and calls that `one` asks do not answer
+        // them. So this does not come.
         _ => Refusal::of(0, u64::from(status)),
     }
 }

@@ -12,8 +12,9 @@ pub struct LineEntry {
     pub offset: u32,
     /// The line where its source starts, at most [`LineEntry::LARGEST_LINE`]. The numbers of the two markers, 0xfeefee and 0xf00f00, are no source lines.
     pub line_start: u32,
-    /// The end-line field, bits 24 to 30 of the flags, at most [`LineEntry::LARGEST_END`]. LLVM reads it as a count of further lines; the crate pdb,
-    /// and so this library, gives the start line as the end line whatever it is (docs/DIFFERENCES.md).
+    /// The end-line field, bits 24 to 30 of the flags, at most [`LineEntry::LARGEST_END`]. How it is read the
+    /// reader says, [`EndLines`](crate::EndLines): by default as the crate pdb does, whose end line is the start line whatever this is. LLVM reads it as a count
+    /// of further lines (docs/DIFFERENCES.md).
     pub end_field: u32,
     /// What it is of.
     pub kind: LineInfoKind,

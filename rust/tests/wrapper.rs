@@ -56,6 +56,69 @@ fn a_symbol_has_the_lines_of_its_subsection() {
     assert!(starts(place(0, 0)).is_empty());
 }
 
+/// Three flags words with the end lines that low bits give them: in the same 128 lines, past their end, and behind the last start line.
+const ENDS: [(u32, u32, u32); 3] = [(0x8c00_000a, 10, 12), (0x0200_007f, 127, 130), (0x00ff_ffff, 0xff_ffff, 0x100_0000)];
+
+/// An area of two line subsections, the second one in front, each with the lines of `ENDS` in two blocks.
+fn ends() -> Vec<u8> {
+    let [first, second, third] = ENDS.map(|(flags, ..)| flags);
+    let sub = |offset| subsection(0xf2, &[offset, 1, 12, 0, 2, 28, 0, first, 4, second, 0, 1, 20, 8, third]);
+    [sub(0x2000), sub(0x1000)].concat()
+}
+
+/// Where the lines of a walk start and end.
+fn starts_and_ends(lines: LineIterator<'_>) -> Vec<(u32, u32)> {
+    lines.map(|line| line.map(|line| (line.line_start, line.line_end))).collect::<Result<_, _>>().expect("lines")
+}
+
+#[test]
+fn end_lines_are_read_as_chosen() {
+    let area = ends();
+    let by_crate = ENDS.map(|(_, start, _)| (start, start));
+    let by_low_bits = ENDS.map(|(_, start, end)| (start, end));
+    let program = Area::new(&area).line_program().expect("program");
+    assert_eq!(EndLines::default(), EndLines::Crate);
+    let readings = [
+        (program.clone(), by_crate),
+        (program.clone().with_end_lines(EndLines::default()), by_crate),
+        (program.clone().with_end_lines(EndLines::Crate), by_crate),
+        (program.clone().with_end_lines(EndLines::LowBits), by_low_bits),
+        // the last choice holds, and a copy has it, too
+        (program.clone().with_end_lines(EndLines::LowBits).with_end_lines(EndLines::Crate), by_crate),
+        (program.clone().with_end_lines(EndLines::Crate).with_end_lines(EndLines::LowBits).clone(), by_low_bits),
+    ];
+    for (program, wanted) in readings {
+        assert_eq!(starts_and_ends(program.lines()), [wanted, wanted].concat());
+        // a symbol's own subsection, and one before it
+        for at in [0x1000, 0x2000, 0x2001] {
+            assert_eq!(starts_and_ends(program.lines_for_symbol(place(1, at))), wanted);
+        }
+        for (i, (start, end)) in wanted.into_iter().enumerate() {
+            let line = program.line_at(place(1, 0x2000 + 4 * i as u32)).expect("a line").expect("there");
+            assert_eq!((line.line_start, line.line_end), (start, end));
+        }
+    }
+}
+
+/// The end line by low bits, written another way: the first line from the start line on whose low seven bits are the field.
+fn by_low_bits(flags: u32) -> u32 {
+    let (start, field) = (flags & 0xff_ffff, flags >> 24 & 0x7f);
+    (start..start + 128).find(|line| line & 0x7f == field).expect("one of 128")
+}
+
+#[test]
+fn every_field_has_its_end_line() {
+    for start in [0, 1, 10, 126, 127, 128, 129, 255, 256, 0x1234, 0xf0_0eff, 0xfe_efef, 0xff_ff7f, 0xff_ff80, 0xff_ffff] {
+        let flags: Vec<u32> = (0..=0xff).map(|high| high << 24 | start).collect();
+        let block = flags.iter().flat_map(|flags| [0, *flags]);
+        let area = subsection(0xf2, &[0, 1, 4, 0, 256, 12 + 8 * 256].into_iter().chain(block).collect::<Vec<_>>());
+        let program = Area::new(&area).line_program().expect("program");
+        assert_eq!(starts_and_ends(program.lines()), flags.iter().map(|_| (start, start)).collect::<Vec<_>>());
+        let program = program.with_end_lines(EndLines::LowBits);
+        assert_eq!(starts_and_ends(program.lines()), flags.iter().map(|flags| (start, by_low_bits(*flags))).collect::<Vec<_>>());
+    }
+}
+
 #[test]
 fn files_are_listed_and_found() {
     let program = Area::new(AREA).line_program().expect("program");
@@ -119,6 +182,10 @@ fn many_lines_are_all_given() {
             let (given, refused) = all(program.lines_for_symbol(place(1, 0x1000 * i)), area.len());
             assert_eq!((refused, given.iter().map(|l| l.line_start).collect::<Vec<_>>()), (None, (lines * i + 1..=lines * i + lines).collect()));
         }
+        // the reading is kept from call to call: the fields are 0, so that each end is the next multiple of 128
+        let (given, refused) = all(program.clone().with_end_lines(EndLines::LowBits).lines(), area.len());
+        assert_eq!((refused, given.len() as u32), (None, subs * lines));
+        assert!(given.iter().zip(1..).all(|(l, start)| (l.line_start, l.line_end) == (start, (start + 127) / 128 * 128)));
         let area = backward(subs, lines, true);
         let program = Area::new(&area).line_program().expect("program");
         let (given, refused) = all(program.lines(), area.len());
@@ -434,6 +501,17 @@ fn all<T>(mut from: impl Iterator<Item = Result<T, Refusal>>, limit: usize) -> (
     (taken, refused)
 }
 
+/// Tests that the lines of a program, which were read by the crate's reading of end lines, are the same by low bits but for the end lines.
+fn same_by_low_bits(program: LineProgram<'_>, lines: &[LineInfo], refused: Option<Refusal>) {
+    let program = program.with_end_lines(EndLines::LowBits);
+    let (others, also) = all(program.lines(), usize::MAX);
+    assert_eq!((others.len(), also), (lines.len(), refused));
+    for (other, line) in others.into_iter().zip(lines) {
+        assert!((other.line_start..other.line_start + 128).contains(&other.line_end) && line.line_end == line.line_start);
+        assert_eq!(LineInfo { line_end: line.line_end, ..other }, *line);
+    }
+}
+
 /// Asks everything of an area.
 fn ask(bytes: &[u8], chance: &mut Chance) -> usize {
     let (area, limit) = (Area::new(bytes), bytes.len());
@@ -443,6 +521,7 @@ fn ask(bytes: &[u8], chance: &mut Chance) -> usize {
             let (lines, refused) = all(program.lines(), limit);
             answers += lines.len();
             assert!(refused != Some(Refusal::WrongSlot), "a list as it was made has no wrong slot");
+            same_by_low_bits(program.clone(), &lines, refused);
             for line in &lines {
                 let _ = program.get_file_info(line.file_index);
                 answers += all(program.lines_for_symbol(line.offset), limit).0.len();

@@ -12,6 +12,9 @@
 
 enum { ROOM = 1 << 20, WORDS = 64, RECORDS = 2 * C13_RECORD };
 
+/* How many readings of end lines there are: from this number on a number names none. */
+enum { READINGS = C13_END_LINES_LOW_BITS + 1 };
+
 /* ---- memory that ends where a page ends */
 
 static uint8_t *page_end(void) {
@@ -34,6 +37,7 @@ static const uint8_t *lent(const void *bytes, size_t n) { return n ? (const uint
 static uint32_t slots[16], places[16];
 static size_t slots_used, bodies_used, places_used;
 static uint32_t number;             /* the number that a function takes beside the bytes */
+static uint32_t reading;            /* the reading of end lines: a parameter, or in the state of a walk */
 static uint32_t sizes[] = {4, 0, 8}; /* the sizes of a module */
 
 typedef uint32_t call(const uint8_t *, size_t, uint64_t *, size_t);
@@ -50,7 +54,7 @@ static uint32_t files(const uint8_t *a, size_t n, uint64_t *o, size_t m) {
     return c13_files(a, n, records_end - 2 * C13_FILE_RECORD, 2 * C13_FILE_RECORD, o, m);
 }
 static uint32_t symbol(const uint8_t *a, size_t n, uint64_t *o, size_t m) {
-    return c13_lines_for_symbol(a, n, slots, slots_used, bodies_end - bodies_used, bodies_used, 1, number, o, m);
+    return c13_lines_for_symbol(a, n, slots, slots_used, bodies_end - bodies_used, bodies_used, 1, number, reading, o, m);
 }
 static uint32_t file_at(const uint8_t *a, size_t n, uint64_t *o, size_t m) { return c13_file_at(a, n, number, o, m); }
 static uint32_t file_in(const uint8_t *a, size_t n, uint64_t *o, size_t m) { return c13_file_in(a, n, number, o, m); }
@@ -167,7 +171,8 @@ static void writes(const struct writer *w) {
 
 /* ---- examples */
 
-static const char *const status_names[] = {"none", "given", "refused", "too short", "last"};
+static const char *const status_names[] = {"none", "given", "refused", "too short", "last", "no such choice"};
+enum { STATUSES = sizeof status_names / sizeof *status_names };
 static int answered(uint32_t status) { return status == C13_GIVEN || status == C13_LAST; }
 
 static void show(const struct function *f, uint32_t status, const uint64_t *out) {
@@ -349,6 +354,15 @@ static void other_bodies(const struct function *f, const uint8_t *bytes, size_t 
     bodies_used = used;
 }
 
+/* A choice that is none is told before anything else, and never told where it is one: a word that is not lent is 0. A walk keeps its choice. */
+static void chosen(const struct function *f, const uint64_t *state, size_t m, uint32_t status, const uint64_t *out) {
+    uint64_t choice = 0;
+    if (f->f == next_line || f->f == lines) choice = m > C13_STATE_END_LINES ? state[C13_STATE_END_LINES] : 0;
+    if (f->f == symbol) choice = reading;
+    if ((status == C13_NO_SUCH_CHOICE) != (choice >= READINGS)) fail(f, "a choice that is none, or told to be none");
+    if (answered(status) && f->words >= C13_LINE_STATE && out[C13_STATE_END_LINES] != choice) fail(f, "the choice is not kept");
+}
+
 /* A call with m words lent that hold `state`: what must hold of every answer. */
 static uint32_t tried(const struct function *f, const uint8_t *bytes, size_t n, const uint64_t *state, size_t m) {
     static uint8_t before[4096];
@@ -367,7 +381,8 @@ static uint32_t tried(const struct function *f, const uint8_t *bytes, size_t n, 
     if (f->f == next_line || f->f == lines || f->f == symbol) other_bodies(f, bytes, n, state, m, status);
     if (n <= sizeof before && memcmp(before, bytes, n)) fail(f, "lent bytes changed");
     size_t from = status == C13_REFUSED ? f->state : 0, to = answered(status) ? f->words : status == C13_REFUSED ? f->state + 2 : 0;
-    if (status > C13_LAST || to > m) fail(f, "no such status");
+    if (status >= STATUSES || to > m) fail(f, "no such status");
+    chosen(f, state, m, status, out);
     for (size_t i = 0; i < m; i++)
         if ((i < from || i >= to) && out[i] != state[i]) fail(f, "a word that is no part of the answer changed");
     if (status == C13_REFUSED && (out[from] < 1 || out[from] > 19)) fail(f, "no such refusal");
@@ -438,15 +453,27 @@ static void lists_by_chance(const uint8_t *area, size_t n) {
     for (size_t i = 1; i <= bodies_used; i++) bodies_end[-(ptrdiff_t)i] = (uint32_t)number_by_chance();
 }
 
+/* Each reading, and numbers that are none, in turn: the least, the largest, and now and then the one that is there. */
+static uint64_t choice_in_turn(int turn, uint64_t there) {
+    switch (turn % 16) {
+    case 13: return READINGS;
+    case 14: return UINT64_MAX;
+    case 15: return there;
+    default: return turn % READINGS;
+    }
+}
+
 /* Bytes cut, spoilt and by chance, with states, slots and numbers by chance. */
 static void by_chance(void) {
     printf("-- by chance\n");
-    static uint64_t told[FUNCTIONS][5], refusals[20];
+    static uint64_t told[FUNCTIONS][STATUSES], refusals[20];
     for (int round = 0; round < 40000; round++) {
         uint64_t state[WORDS];
         int forged = chance() % 4;
         for (size_t i = 0; i < WORDS; i++) state[i] = forged ? number_by_chance() : 0;
         if (forged == 1) state[0] = chance() % 3, state[1] = chance() % 4, state[2] = chance() % 4;
+        state[C13_STATE_END_LINES] = choice_in_turn(round / FUNCTIONS, state[C13_STATE_END_LINES]);
+        reading = (uint32_t)state[C13_STATE_END_LINES];
         number = (uint32_t)(chance() % 4 ? chance() % 2 << 31 | chance() % 40 : number_by_chance());
         for (size_t i = 0; i < 3; i++) sizes[i] = (uint32_t)(chance() % 4 ? 4 * (chance() % 3) : number_by_chance());
         const struct function *f = functions + round % FUNCTIONS;
@@ -458,13 +485,79 @@ static void by_chance(void) {
     }
     for (size_t f = 0; f < FUNCTIONS; f++) {
         printf("%s:", functions[f].name);
-        for (size_t i = 0; i <= C13_LAST; i++)
+        for (size_t i = 0; i < STATUSES; i++)
             if (i < C13_LAST || told[f][i]) printf("%s %s %llu", i ? "," : "", status_names[i], (unsigned long long)told[f][i]);
         printf("\n");
     }
     for (int i = 1; i < 20; i++)
         if (refusals[i]) printf("refusal %d: %llu\n", i, (unsigned long long)refusals[i]);
     printf("sum %016llx\n", (unsigned long long)sum);
+    reading = C13_END_LINES_CRATE;
+}
+
+/* ---- end lines */
+
+/* Two line subsections, the second one in front, each with lines whose low bits end them in the same 128 lines, past these, and behind the last start line. */
+static const uint32_t ends[] = {
+    0xf2, 60, 0x2000, 1, 12, 0, 2, 28, 0, 0x8c00000a, 4, 0x0200007f, 0, 1, 20, 8, 0x00ffffff,
+    0xf2, 60, 0x1000, 1, 12, 0, 2, 28, 0, 0x8c00000a, 4, 0x0200007f, 0, 1, 20, 8, 0x00ffffff,
+};
+
+/* The start and end lines of a walk from a state on, one a call and many a call, which are the same ones. */
+static void show_ends(const struct function *f, const char *what, const uint8_t *area, size_t n, const uint64_t *state) {
+    uint64_t one[WORDS], many[WORDS];
+    memcpy(one, state, sizeof one), memcpy(many, state, sizeof many);
+    printf("%s, reading %u:", what, reading);
+    while (answered(lines(area, n, many, WORDS)))
+        for (size_t i = 0; i < many[C13_LINE_STATE]; i++) {
+            const uint32_t *record = records_end - RECORDS + i * C13_RECORD;
+            if (next_line(area, n, one, WORDS) != C13_GIVEN) fail(f, "fewer lines one a call");
+            for (size_t k = 0; k < C13_RECORD; k++)
+                if (one[C13_LINE_STATE + k] != record[k]) fail(f, "another line one a call");
+            if (one[C13_STATE_END_LINES] != reading || many[C13_STATE_END_LINES] != reading) fail(f, "the choice is not kept");
+            printf(" %u to %u", record[C13_START_LINE], record[C13_END_LINE]);
+        }
+    if (next_line(area, n, one, WORDS) != C13_NONE) fail(f, "more lines one a call");
+    printf("\n");
+}
+
+/* Numbers that name no reading, in the state and as a parameter, with 0 to WORDS words, on a whole area and on one that is refused: what `tried` holds. A
+ * parameter has 32 bits. */
+static void no_such_choice(const struct function *f, const uint8_t *area, size_t n) {
+    static const uint64_t none[] = {READINGS, READINGS + 1, UINT32_MAX, UINT64_C(1) << 32, UINT64_MAX};
+    uint64_t told[STATUSES] = {0};
+    for (size_t i = 0; i < sizeof none / sizeof *none; i++)
+        for (size_t m = 0; m <= WORDS; m++) {
+            uint64_t state[WORDS] = {0};
+            state[C13_STATE_END_LINES] = none[i], reading = c13_number(none[i]);
+            told[tried(f, area, n, state, m)]++;
+            told[tried(f, area + n - 3, 3, state, m)]++;
+        }
+    printf("%s:", f->name);
+    for (size_t i = 0; i < STATUSES; i++)
+        if (told[i]) printf(" %s %llu", status_names[i], (unsigned long long)told[i]);
+    printf("\n");
+}
+
+static void end_lines(void) {
+    static uint8_t bytes[sizeof ends];
+    size_t n = words_to(bytes, ends, sizeof ends / 4);
+    const uint8_t *area = lent(bytes, n);
+    const struct function *f = functions;
+    printf("-- end lines\n");
+    use_lists(area, n);
+    while (f->f != symbol) f++;
+    for (reading = C13_END_LINES_CRATE; reading < READINGS; reading++) {
+        uint64_t state[WORDS] = {0};
+        state[C13_STATE_END_LINES] = reading;
+        show_ends(f, "all", area, n, state);
+        number = 0x1fff;
+        if (symbol(area, n, state, WORDS) != C13_GIVEN) fail(f, "no walk");
+        show_ends(f, "those of a symbol", area, n, state);
+    }
+    for (f = functions; f < functions + FUNCTIONS; f++)
+        if (f->f == next_line || f->f == lines || f->f == symbol) no_such_choice(f, area, n);
+    reading = C13_END_LINES_CRATE;
 }
 
 /* A walk, or one answer, with each body list at each step; told counts its statuses. */
@@ -472,6 +565,7 @@ static void walked(call *named, const uint8_t *area, size_t n, uint64_t *told) {
     uint64_t state[WORDS] = {0};
     const struct function *f = functions;
     uint32_t status;
+    state[C13_STATE_END_LINES] = reading;
     while (f->f != named) f++;
     do {
         status = tried(f, area, n, state, WORDS);
@@ -485,7 +579,7 @@ static void body_lists(void) {
     enum { SUBS = 16, SUB_WORDS = 10 };
     static uint32_t words[SUBS * SUB_WORDS];
     static uint8_t bytes[sizeof words];
-    static uint64_t told[3][5];
+    static uint64_t told[3][STATUSES];
     static const char *const names[] = {"c13_next_line", "c13_lines", "c13_lines_for_symbol"};
     call *const calls[] = {next_line, lines, symbol};
     uint32_t all[SUBS];
@@ -503,13 +597,14 @@ static void body_lists(void) {
         if (round % 8 == 2) slots_used = chance() % SUBS;
         for (size_t i = 0; round && i < slots_used; i++) slots[i] = all[chance() % SUBS];
         if (round % 4 == 1) slots[chance() % SUBS] = (uint32_t)(chance() % n);
-        number = (uint32_t)(0x1000 + chance() % 0x200);
+        number = (uint32_t)(0x1000 + chance() % 0x200), reading = round % READINGS;
         for (size_t f = 0; f < 3; f++) walked(calls[f], area, n, told[f]);
     }
     for (size_t f = 0; f < 3; f++)
         printf("%s: given %llu, last %llu, none %llu, refused %llu\n", names[f], (unsigned long long)told[f][C13_GIVEN], (unsigned long long)told[f][C13_LAST],
                (unsigned long long)told[f][C13_NONE], (unsigned long long)told[f][C13_REFUSED]);
     printf("sum %016llx\n", (unsigned long long)sum);
+    reading = C13_END_LINES_CRATE;
 }
 
 /* Calls of the writer by chance, at places by chance, on buffers that end with their page: a refused one changes nothing, an accepted one nothing behind
@@ -569,6 +664,12 @@ static void too_long(void) {
         uint32_t status = f->f(area, n, out, WORDS);
         printf("%s: %u %llu\n", f->name, status, (unsigned long long)out[f->state]);
     }
+    /* a choice that is none is told before that */
+    for (const struct function *f = functions; f < functions + FUNCTIONS; f++)
+        if (f->words >= C13_LINE_STATE) {
+            out[C13_STATE_END_LINES] = reading = READINGS;
+            printf("%s by no reading: %u\n", f->name, f->f(area, n, out, WORDS));
+        }
     free(area);
 }
 
@@ -598,6 +699,7 @@ int main(int argc, char **argv) {
     nothing_lent();
     few_words();
     by_chance();
+    end_lines();
     body_lists();
     writing_by_chance();
     too_long();

@@ -11,6 +11,9 @@
 
 typedef unsigned long long shown;
 
+/* How many readings of end lines there are: from this number on a number names none. */
+enum { READINGS = C13_END_LINES_LOW_BITS + 1 };
+
 /* ---- the example, by structs alone */
 
 static void read_area(const uint8_t *area, size_t n, const uint8_t *names, size_t k) {
@@ -44,7 +47,7 @@ static void read_area(const uint8_t *area, size_t n, const uint8_t *names, size_
     } while (status == C13_GIVEN);
     printf("the last ones came with %s; behind them is %s\n", status == C13_LAST ? "the end" : "?",
            c13_line_walk_many(&lines, four, 4, &count) == C13_NONE ? "nothing" : "?");
-    if (c13_line_walk_begin_symbol(&lines, area, n, slots, used, bodies, used, 1, 0x71) != C13_GIVEN) exit(1);
+    if (c13_line_walk_begin_symbol(&lines, area, n, slots, used, bodies, used, 1, 0x71, C13_END_LINES_CRATE) != C13_GIVEN) exit(1);
     while (c13_line_walk_next(&lines, &line) == C13_GIVEN)
         if (line.offset <= 0x88 && line.has_length && 0x88 < line.offset + line.length) {
             if (c13_ask_file_at(area, n, line.file, &file, &why) != C13_GIVEN || c13_ask_name(names, k, file.name, &name, &why) != C13_GIVEN) exit(1);
@@ -67,6 +70,29 @@ static void words_of_another(const uint8_t *area, size_t n) {
     walk = c13_line_walk_begin(area, n, slots, used, NULL, 0);
     if (c13_line_walk_next(&walk, &line) != C13_GIVEN) exit(1);
     printf("c13_line_walk_next: given, line %llu\n", (shown)line.start_line);
+}
+
+/* End lines by each reading, in walks over all lines and over those of a symbol. */
+static void read_ends(void) {
+    static const uint32_t words[] = {
+        0xf2, 32, 0x2000, 1, 4, 0, 1, 20, 0, 0x8c00000a,
+        0xf2, 40, 0x1000, 1, 8, 0, 2, 28, 0, 0x0200007f, 4, 0x00ffffff,
+    };
+    uint8_t area[sizeof words];
+    uint32_t slots[2];
+    size_t used = 0;
+    struct c13_line line;
+    for (size_t i = 0; i < sizeof words; i++) area[i] = (uint8_t)(words[i / 4] >> 8 * (i % 4));
+    printf("-- end lines\n");
+    if (c13_ask_order_list(area, sizeof area, slots, 2, &used, NULL) != C13_GIVEN) exit(1);
+    for (uint32_t reading = C13_END_LINES_CRATE; reading < READINGS; reading++) {
+        struct c13_line_walk walk = c13_line_walk_begin_by(area, sizeof area, slots, used, NULL, 0, reading);
+        printf("reading %u:", reading);
+        while (c13_line_walk_next(&walk, &line) == C13_GIVEN) printf(" %u to %u,", line.start_line, line.end_line);
+        if (c13_line_walk_begin_symbol(&walk, area, sizeof area, slots, used, NULL, 0, 1, 0x2003, reading) != C13_GIVEN) exit(1);
+        printf(" of a symbol");
+        while (c13_line_walk_next(&walk, &line) == C13_GIVEN) printf(" %u to %u\n", line.start_line, line.end_line);
+    }
 }
 
 /* ---- every inline function against its call */
@@ -99,11 +125,12 @@ static void as_area(const char *what, int right) {
     exit(1);
 }
 
-/* Both walks, record by record, and their last answer a second time. */
-#define SAME_WALK(what, call, state, walk_next, walk, record)                                    \
+/* Both walks, record by record, and their last answer a second time. The choice is that of a walk over lines, to others it is no part of their state. */
+#define SAME_WALK(what, choice, call, state, walk_next, walk, record)                            \
     do {                                                                                         \
         uint64_t out[C13_MOST] = {0};                                                            \
         uint32_t status, ended = 0;                                                              \
+        out[C13_STATE_END_LINES] = choice;                                                       \
         do {                                                                                     \
             status = call;                                                                       \
             enum c13_status told = walk_next(&walk, &record);                                    \
@@ -131,13 +158,14 @@ static enum c13_status next_line(struct c13_line_walk *walk, struct line_words *
     return status;
 }
 
-static void lines_many(const uint8_t *area, size_t n, size_t used) {
+static void lines_many(const uint8_t *area, size_t n, size_t used, uint64_t reading) {
     uint64_t out[C13_MOST] = {0};
     uint32_t words[3 * C13_RECORD];
     struct c13_line three[3];
-    struct c13_line_walk walk = c13_line_walk_begin(area, n, slots, used, bodies, used);
+    struct c13_line_walk walk = c13_line_walk_begin_by(area, n, slots, used, bodies, used, reading);
     size_t count, room = 0;
     uint32_t status;
+    out[C13_STATE_END_LINES] = reading;
     do {
         status = c13_lines(area, n, slots, used, wrong, 3, words, room * C13_RECORD, out, C13_MOST);
         enum c13_status told = c13_line_walk_many(&walk, three, room, &count);
@@ -180,12 +208,12 @@ static void files_many(const uint8_t *area, size_t n) {
     } while (status == C13_GIVEN || room == 1);
 }
 
-static void symbol_lines(const uint8_t *area, size_t n, size_t used, uint32_t offset) {
+static void symbol_lines(const uint8_t *area, size_t n, size_t used, uint32_t offset, uint32_t reading) {
     uint64_t out[C13_MOST] = {0};
     struct c13_line_walk walk;
     struct line_words line;
-    uint32_t status = c13_lines_for_symbol(area, n, slots, used, wrong, 3, 1, offset, out, C13_MOST);
-    enum c13_status told = c13_line_walk_begin_symbol(&walk, area, n, slots, used, bodies, used, 1, offset);
+    uint32_t status = c13_lines_for_symbol(area, n, slots, used, wrong, 3, 1, offset, reading, out, C13_MOST);
+    enum c13_status told = c13_line_walk_begin_symbol(&walk, area, n, slots, used, bodies, used, 1, offset, reading);
     same("c13_line_walk_begin_symbol", status, out, told, walk.out, C13_LINE_STATE * sizeof *out, &walk.refused);
     while (status == C13_GIVEN) {
         status = c13_next_line(area, n, slots, used, NULL, 0, out, C13_MOST);
@@ -194,6 +222,41 @@ static void symbol_lines(const uint8_t *area, size_t n, size_t used, uint32_t of
     }
     /* a walk that was not begun is refused, and not begun at the area's start */
     if (told == C13_REFUSED && next_line(&walk, &line) != C13_REFUSED) exit(1);
+}
+
+/* All lines, one and many a call, and those of symbols: by a reading. */
+static void lines_by(const uint8_t *area, size_t n, size_t used, uint32_t reading) {
+    struct line_words line;
+    struct c13_line_walk lines = c13_line_walk_begin_by(area, n, slots, used, bodies, used, reading);
+    if (reading == C13_END_LINES_CRATE) lines = c13_line_walk_begin(area, n, slots, used, bodies, used);
+    SAME_WALK("c13_line_walk_next", reading, c13_next_line(area, n, slots, used, NULL, 0, out, C13_MOST), C13_LINE_STATE, next_line, lines, line);
+    lines_many(area, n, used, reading);
+    symbol_lines(area, n, used, 0x1000, reading);
+    symbol_lines(area, n, used, 0x1001, reading);
+    symbol_lines(area, n, used, 0, reading);
+    symbol_lines(area, n, used + 1, 0x1000, reading); /* a slot that is not of this area */
+}
+
+/* A number that names no reading: each way to begin a walk leads to C13_NO_SUCH_CHOICE at each step, without a refusal, and stores no line. */
+static void no_such_choice(const uint8_t *area, size_t n, size_t used, uint64_t none) {
+    struct c13_line line, kept;
+    struct c13_line_walk walk = c13_line_walk_begin_by(area, n, slots, used, bodies, used, none);
+    size_t count = 1;
+    memset(&line, 0xee, sizeof line), kept = line;
+    for (int begun = 0; begun < 2; begun++) {
+        int right = 1;
+        if (begun) right = c13_line_walk_begin_symbol(&walk, area, n, slots, used, bodies, used, 1, 0x1000, none) == C13_NO_SUCH_CHOICE;
+        for (int step = 0; step < 2; step++) {
+            right = right && c13_line_walk_next(&walk, &line) == C13_NO_SUCH_CHOICE;
+            right = right && c13_line_walk_many(&walk, &line, 1, &count) == C13_NO_SUCH_CHOICE && count == 0;
+            right = right && !walk.refused.number && walk.out[C13_STATE_END_LINES] == none;
+        }
+        if (!right || memcmp(&line, &kept, sizeof line)) {
+            printf("no such choice: another answer\n");
+            exit(1);
+        }
+        compared++;
+    }
 }
 
 /* A file of the checksum data alone: as from the call, and as c13_file_at finds it in the area, but for the place of its bytes. */
@@ -282,7 +345,6 @@ static void hold_area(const uint8_t *area, size_t n) {
     size_t used = 0;
     struct c13_refused why;
     struct c13_sub sub;
-    struct line_words line;
     struct file_words file;
     struct c13_inlinee inlinee;
     struct c13_import imported;
@@ -292,7 +354,6 @@ static void hold_area(const uint8_t *area, size_t n) {
     struct c13_inlinee_walk inlinees = c13_inlinee_walk_begin(area, n);
     struct c13_import_walk imports = c13_import_walk_begin(area, n);
     struct c13_export_walk exports = c13_export_walk_begin(area, n);
-    struct c13_line_walk lines;
     uint32_t status = c13_order_list(area, n, slots, 16, out, 2);
     enum c13_status told = c13_ask_order_list(area, n, slots, 16, &used, &why);
     uint64_t listed = used;
@@ -301,19 +362,16 @@ static void hold_area(const uint8_t *area, size_t n) {
     told = c13_ask_body_list(area, n, bodies, 16, &used, &why);
     listed = used;
     same("c13_ask_body_list", status, out, told, &listed, 8, &why);
-    lines = c13_line_walk_begin(area, n, slots, used, bodies, used);
-    SAME_WALK("c13_sub_walk_next", c13_next_sub(area, n, out, C13_MOST), C13_SUB_STATE, c13_sub_walk_next, subs, sub);
-    SAME_WALK("c13_line_walk_next", c13_next_line(area, n, slots, used, NULL, 0, out, C13_MOST), C13_LINE_STATE, next_line, lines, line);
-    SAME_WALK("c13_file_walk_next", c13_next_file(area, n, out, C13_MOST), C13_TABLE_STATE, next_file, files, file);
-    SAME_WALK("c13_inlinee_walk_next", c13_next_inlinee(area, n, out, C13_MOST), C13_TABLE_STATE, c13_inlinee_walk_next, inlinees, inlinee);
-    SAME_WALK("c13_import_walk_next", c13_next_import(area, n, out, C13_MOST), C13_TABLE_STATE, c13_import_walk_next, imports, imported);
-    SAME_WALK("c13_export_walk_next", c13_next_export(area, n, out, C13_MOST), C13_TABLE_STATE, c13_export_walk_next, exports, exported);
-    lines_many(area, n, used);
+    SAME_WALK("c13_sub_walk_next", 0, c13_next_sub(area, n, out, C13_MOST), C13_SUB_STATE, c13_sub_walk_next, subs, sub);
+    SAME_WALK("c13_file_walk_next", 0, c13_next_file(area, n, out, C13_MOST), C13_TABLE_STATE, next_file, files, file);
+    SAME_WALK("c13_inlinee_walk_next", 0, c13_next_inlinee(area, n, out, C13_MOST), C13_TABLE_STATE, c13_inlinee_walk_next, inlinees, inlinee);
+    SAME_WALK("c13_import_walk_next", 0, c13_next_import(area, n, out, C13_MOST), C13_TABLE_STATE, c13_import_walk_next, imports, imported);
+    SAME_WALK("c13_export_walk_next", 0, c13_next_export(area, n, out, C13_MOST), C13_TABLE_STATE, c13_export_walk_next, exports, exported);
+    for (uint32_t reading = C13_END_LINES_CRATE; reading < READINGS; reading++) lines_by(area, n, used, reading);
+    no_such_choice(area, n, used, READINGS);
+    no_such_choice(area, n, used, UINT64_C(1) << 32); /* its low half is a reading */
+    no_such_choice(area, n, used, UINT64_MAX);
     files_many(area, n);
-    symbol_lines(area, n, used, 0x1000);
-    symbol_lines(area, n, used, 0x1001);
-    symbol_lines(area, n, used, 0);
-    symbol_lines(area, n, used + 1, 0x1000); /* a slot that is not of this area */
     area_questions(area, n);
     found_once(area, n);
 }
@@ -388,6 +446,7 @@ int main(int argc, char **argv) {
     size_t n = read_file(argv[1], area), k = read_file(argv[2], names);
     read_area(area, n, names, k);
     words_of_another(area, n);
+    read_ends();
     printf("-- against the calls\n");
     for (size_t i = 0; i < sizeof every; i++) bytes[i] = (uint8_t)(every[i / 4] >> 8 * (i % 4));
     damaged("area", hold_area, bytes, sizeof bytes);

@@ -196,9 +196,9 @@ static void prepare(const char *path) {
     memcpy(before.bytes, area, area_len);
 }
 
-/* The parameters of a call: the area or, where it writes to it, a buffer with nothing in it; the words; small numbers; above a small number what is no part
- * of it. */
-static void parameters(uint32_t call, uint64_t *given) {
+/* The parameters of a call: the area or, where it writes to it, a buffer with nothing in it; the words; a small number wherever one is asked for, above which
+ * the caller puts what is no part of it. */
+static void parameters(uint32_t call, uint64_t small, uint64_t *given) {
     unsigned bits[MOST];
     size_t n = bits_of(call, bits), middle = 0;
     memset(given, 0, MOST * sizeof *given);
@@ -206,7 +206,7 @@ static void parameters(uint32_t call, uint64_t *given) {
         int is_first = i == 0, is_last = i + 2 == n;
         if (bits[i] == 1) given[i] = (uint64_t)(uintptr_t)(is_first ? (void *)lent.bytes : is_last ? (void *)lent.out : (void *)lent.words[middle++ % 2]);
         else if (i && bits[i - 1] == 1) given[i] = i == 1 ? area_len : i + 1 == n ? C13_MOST : 24;
-        else if (bits[i] != 64) given[i] = 1;
+        else if (bits[i] != 64) given[i] = small;
     }
 }
 
@@ -215,7 +215,7 @@ static void tried(uint32_t call, uint64_t down) {
     uint64_t g[MOST];
     unsigned bits[MOST];
     size_t n = bits_of(call, bits);
-    parameters(call, g);
+    parameters(call, down / 16 % 2 ? 100 : 1, g); /* as a reading of end lines 1 is one, and 100 is none */
     lent = before;
     uint32_t status = codes[call](g[0], g[1], g[2], g[3], g[4], g[5], g[6], g[7], g[8], g[9], g[10], g[11]);
     first = lent, lent = before;

@@ -1,7 +1,7 @@
 -- Laws of a call that gives many records: each way out of it, that only an answer changes the words lent for records, and that nothing comes behind the
 -- last ones.
 use Prim.Native.Nat.{ℕ, zero, suc, _+_, _/_, _≤_, _<_}
-use mathlib.Core.Path.{_≡_, refl, sym, ap, _∙_, subst}
+use mathlib.Core.Path.{_≡_, refl, sym, ap, _∙_, subst, subst⁻¹}
 use mathlib.Core.Logic.{_⊎_, inl, inr, ⊎-elim}
 use mathlib.Core.List.{List, [], _∷_}
 use mathlib.Core.Bool.{Bool, true, false, cond}
@@ -93,28 +93,27 @@ module _ {S B : Type 0} (k : ℕ) (over : S → Bool) (g : S → List ℕ) (f : 
       by none l = inr refl
       by (refuses t) l = inr refl
 
-  -- THE LAW: behind an answer of status 4 the walk is at its end, if it is so at each state that is over and stands behind a record; `read` has the
-  -- state that words say
-  pub fill-last : (read : List ℕ → S) → ((w : S) (n : ℕ) → over w ≡ true → read (put o 0 (countWords g n w)) ≡ w) → (next : S → Answer S B Told)
-      → Behind (λ w. over w ≡ true → next w ≡ none) a → {left : List ℕ} → Gives o (fillGiven k over g o a) 4 left → next (read left) ≡ none
-  fill-last read same next h {left} q = room (leb (askedSize k) (length o)) q
+  -- THE LAW: behind an answer of status 4 the walk is at its end, if it is so at each state that is over and stands behind a record; P says of words that
+  -- their walk is
+  pub fill-last : (P : List ℕ → Type 0) (next : S → Answer S B Told) → ((w : S) (n : ℕ) → over w ≡ true → next w ≡ none → P (put o 0 (countWords g n w)))
+      → Behind (λ w. over w ≡ true → next w ≡ none) a → {left : List ℕ} → Gives o (fillGiven k over g o a) 4 left → P left
+  fill-last P next at h {left} q = room (leb (askedSize k) (length o)) q
     where
-      other : (n : ℕ) → 4 ≡ n → (n ≡ 4 → ⊥) → next (read left) ≡ none
+      other : (n : ℕ) → 4 ≡ n → (n ≡ 4 → ⊥) → P left
       other n e z = absurd (z (sym e))
 
       is-over : (t : Bool) → 4 ≡ answerStatus t → t ≡ true
       is-over true e = refl
       is-over false e = absurd (omega arith)
 
-      by : (b : Answer S (List B) Told) → Behind (λ w. over w ≡ true → next w ≡ none) b → Gives o (manyGiven k over g (counted b)) 4 left
-          → next (read left) ≡ none
+      by : (b : Answer S (List B) Told) → Behind (λ w. over w ≡ true → next w ≡ none) b → Gives o (manyGiven k over g (counted b)) 4 left → P left
       by (gives rs w) h q =
           let f = gives-fits q (λ e. omega arith) in
           let e = is-over (over w) (f .0) in
-          ap (λ l. next (read l)) (f .1) ∙ ap next (same w (length rs) e) ∙ h e
+          subst⁻¹ P (f .1) (at w (length rs) e (h e))
       by none h q = other 0 (gives-fits q (λ e. omega arith) .0) (λ e. omega arith)
       by (refuses t) h q = other 2 (gives-fits q (λ e. omega arith) .0) (λ e. omega arith)
 
-      room : (t : Bool) → Gives o (cond t (manyGiven k over g (counted a)) shortGiven) 4 left → next (read left) ≡ none
+      room : (t : Bool) → Gives o (cond t (manyGiven k over g (counted a)) shortGiven) 4 left → P left
       room true q = by a h q
       room false q = other 3 (gives-fits q (λ e. omega arith) .0) (λ e. omega arith)

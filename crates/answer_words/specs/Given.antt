@@ -1,11 +1,13 @@
 -- What an exported call answers: a status, and words that are put into the lent ones at a place. Where they do not fit the status is 3 and
--- nothing is put. Status 0: none. Status 1: an answer. Status 2: a refusal, whose number of document 01 and what it carries are the words.
--- Source: docs/DECISIONS.md, 32.
+-- nothing is put. Status 0: none. Status 1: an answer. Status 2: a refusal, whose number of document 01 and what it carries are the words. Status 5: a
+-- number that should name a choice of the caller's names none; nothing is put.
+-- Source: docs/DECISIONS.md, 32 and 59.
 -- Definitions only; a reader must believe them.
 use Prim.Native.Nat.{ℕ, _+_}
 use mathlib.Core.Path.{_≡_}
 use mathlib.Core.List.{List, [], _∷_}
 use mathlib.Core.Bool.{cond}
+use mathlib.Core.Option as option
 use lib.ListN.{length}
 use lib.Dec.{leb}
 use Rattle.word.specs.Word.{store}
@@ -71,3 +73,11 @@ ifRoom k o a b = cond (leb k (length o)) a b
 
 abbrev pub shortGiven : Given
 shortGiven = given 3 0 []
+
+-- A call that goes by a choice of the caller's: f has what it gives or leaves by the choice, and b is that where a number names none.
+abbrev pub ifChosen : {C A : Type 0} → A → (C → A) → option.Option C → A
+ifChosen b f option.none = b
+ifChosen b f (option.some c) = f c
+
+abbrev pub choiceGiven : Given
+choiceGiven = given 5 0 []

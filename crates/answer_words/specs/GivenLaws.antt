@@ -1,6 +1,7 @@
 -- Laws of what an exported call answers: the two ways of `put`, and a loop that copies words one by one.
 use Prim.Native.Nat.{ℕ, _+_, _≤_, _<_}
 use mathlib.Core.Path.{_≡_, refl, sym, ap, _∙_, subst, subst⁻¹}
+use mathlib.Core.Option.{Option, none, some}
 use mathlib.Core.List.{List, [], _++_, append-assoc}
 use native.Mathlib.Omega.{arith}
 use native.Mathlib.Nat.{le-antisymm}
@@ -16,7 +17,7 @@ use Rattle.word.specs.Word.{put, store}
 use Rattle.word.specs.WordLaws.{put-before, put-behind}
 use Rattle.walk.specs.Listing.{Reply, gave, nothing, refused}
 use Rattle.refusal.specs.Told.{Told}
-use Rattle.answer_words.specs.Given.{Given, given, Gives, statusIn, noneGiven, refusalSize, one, replyGiven, ifRoom, shortGiven}
+use Rattle.answer_words.specs.Given.{Given, given, Gives, statusIn, noneGiven, ifChosen, choiceGiven, refusalSize, one, replyGiven, ifRoom, shortGiven}
 
 module _ (o : List ℕ) (g : Given) where
   -- words that fit are put
@@ -68,6 +69,14 @@ gives-none o = gives-nothing 0 o
 -- what is given of an answer m is given of every n that it equals
 pub gives-as : {A : Type 0} (f : A → Given) {m n : A} {o left : List ℕ} {r : ℕ} → m ≡ n → Gives o (f m) r left → Gives o (f n) r left
 gives-as f {o = o} {left = left} {r = r} e h = subst (λ x. Gives o (f x) r left) e h
+
+-- by a choice c of the caller's, which m names; and where m names none
+module _ {C : Type 0} (f : C → Given) (m : Option C) {o : List ℕ} where
+  pub gives-chosen : (c : C) → some c ≡ m → {left : List ℕ} {r : ℕ} → Gives o (f c) r left → Gives o (ifChosen choiceGiven f m) r left
+  gives-chosen c e h = gives-as (ifChosen choiceGiven f) e h
+
+  pub gives-unchosen : none ≡ m → Gives o (ifChosen choiceGiven f m) 5 o
+  gives-unchosen e = gives-as (ifChosen choiceGiven f) e (gives-nothing 5 o)
 
 pub gives-status : {o left ws : List ℕ} {at m n r : ℕ} → m ≡ n → Gives o (given m at ws) r left → Gives o (given n at ws) r left
 gives-status {ws = ws} {at = at} e h = gives-as (λ s. given s at ws) e h

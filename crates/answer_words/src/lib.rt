@@ -24,6 +24,9 @@ pub const TOO_SHORT: u32 = 3;
 // An answer as `GIVEN`, and nothing comes behind it.
 pub const LAST: u32 = 4;
 
+// A number that should name a choice of the caller's names none. It is never taken for one.
+pub const NO_SUCH_CHOICE: u32 = 5;
+
 // The words that a refusal takes. A call that changes other lent memory too asks for as many before it does anything.
 pub const REFUSAL_WORDS: usize = 2;
 

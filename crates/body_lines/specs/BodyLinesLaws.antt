@@ -64,7 +64,7 @@ module _ (rule : ℕ → Sort) (s v : List ℕ) (p : Place) (f : LinesFit s p) (
       let a : p .lines - i - 1 ≡ p .lines - (i + 1) = omega arith in
       let b : p .line + 8 * i + 8 ≡ p .line + 8 * (i + 1) = omega arith in
       let c : p .column + 4 * i + 4 ≡ p .column + 4 * (i + 1) = omega arith in
-      λ j. record { head = p .head; end = p .end; next = p .next; file = p .file; lines = a j; line = b j; column = c j }
+      λ j. record { head = p .head; how = p .how; end = p .end; next = p .next; file = p .file; lines = a j; line = b j; column = c j }
 
   -- o and g are the line's words, and w its column word where it has one
   module _ (o g w : ℕ) (eo : o ≡ u32At s (p .line + 8 * i)) (eg : g ≡ u32At s (p .line + 8 * i + 4))
@@ -185,7 +185,7 @@ at-none p =
     let a : p .lines - 0 ≡ p .lines = omega arith in
     let b : p .line + 8 * 0 ≡ p .line = omega arith in
     let c : p .column + 4 * 0 ≡ p .column = omega arith in
-    λ j. record { head = p .head; end = p .end; next = p .next; file = p .file; lines = a j; line = b j; column = c j }
+    λ j. record { head = p .head; how = p .how; end = p .end; next = p .next; file = p .file; lines = a j; line = b j; column = c j }
 
 lines-fit-on : (s : List ℕ) (p : Place) → LinesFit s p → (i : ℕ) → i ≤ p .lines → LinesFit s (linesOn p i)
 lines-fit-on s p f i h =

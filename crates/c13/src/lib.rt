@@ -265,11 +265,14 @@ pub extern "C" fn c13_lines_for_symbol(
     bodies: &[u32],
     section: u16,
     offset: u32,
+    end_lines: u32,
     out: &mut [u64],
 ) -> u32
-    ensures { λ r. ⌜ Gives (now (out .entry)) (symbolGiven crateRule (now (area .entry)) (now (slots .entry)) section offset) r (now (out .exit)) ⌝ }
+    ensures { λ r. ⌜ Gives (now (out .entry))
+        (symbolGiven crateRule (now (area .entry)) (now (slots .entry)) section offset «end_lines»)
+        r (now (out .exit)) ⌝ }
 {
-    export_lines::lines_for_symbol(area, slots, bodies, section, offset, out)
+    export_lines::lines_for_symbol(area, slots, bodies, section, offset, end_lines, out)
 }
 
 #[no_mangle]

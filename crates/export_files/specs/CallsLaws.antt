@@ -1,6 +1,6 @@
 -- Laws of the call for many files: only an answer changes the words lent for records, and behind the last files there is none.
 use Prim.Native.Nat.{ℕ}
-use mathlib.Core.Path.{_≡_}
+use mathlib.Core.Path.{_≡_, ap, _∙_}
 use mathlib.Core.List.{List, [], _∷_}
 use lib.ListN.{length}
 use Rattle.walk.specs.Listing.{none}
@@ -22,5 +22,6 @@ files-careful rule s x o = fill-careful tableStateSize overTable walkWords fileW
 -- THE LAW: behind an answer of status 4 the walk that is left is at its end
 pub files-last : (rule : ℕ → Sort) (s x o : List ℕ) {left : List ℕ} → Gives o (filesGiven rule s (length x) o) 4 left → fileStep rule s (walkIn left) ≡ none
 files-last rule s x o =
-    fill-last tableStateSize overTable walkWords fileWords o x (filesOf rule s (length x) (walkIn o)) walkIn (λ w n. over-read w o (n ∷ [])) (fileStep rule s)
+    fill-last tableStateSize overTable walkWords fileWords o x (filesOf rule s (length x) (walkIn o)) (λ l. fileStep rule s (walkIn l) ≡ none) (fileStep rule s)
+    (λ w n e q. ap (fileStep rule s) (over-read w o (n ∷ []) e) ∙ q)
     (files-over rule s (length x) (walkIn o))

@@ -3,6 +3,7 @@ use Prim.Native.Nat.{ℕ, _+_, _≤_}
 use mathlib.Core.Path.{_≡_, refl, sym, ap, _∙_}
 use mathlib.Core.List.{List, [], _∷_, _++_}
 use mathlib.Core.Bool.{Bool, false, not}
+use mathlib.Core.Option.{Option, none, some}
 use lib.ListN.{length, length-append}
 use native.Mathlib.Omega.{arith}
 use Rattle.walk.specs.Listing.{Reply, gave, nothing, refused}
@@ -10,14 +11,15 @@ use Rattle.refusal.specs.Told.{Told}
 use Rattle.kinds.specs.Kind.{Sort}
 use Rattle.order.specs.Order.{orderOf, ordered, slotsAfter}
 use Rattle.body_list.specs.BodyList.{startsFrom, bodyList, slotsHolding, bodiesAfter}
-use Rattle.answer_words.specs.Given.{Gives, given}
+use Rattle.answer_words.specs.Given.{Gives, given, ifChosen, choiceGiven}
 use Rattle.answer_words.specs.GivenLaws.{Still, room-careful, gives-put}
 use Rattle.export_lines.specs.Calls.{orderGiven, slotsLeft, bodiesGiven, bodiesLeft, holdsOne, overWalk, linesGiven, recordsLeft}
 use Rattle.word.specs.Word.{put}
 use Rattle.word.specs.WordLaws.{put-length, store-put}
-use Rattle.answer_words.specs.FillGiven.{askedSize}
+use Rattle.answer_words.specs.FillGiven.{askedSize, fillGiven, fillLeft}
 use Rattle.answer_words.specs.FillGivenLaws.{fill-careful}
 use Rattle.walk.specs.Cases.{tests}
+use Rattle.line_record.specs.declared.EndLines.{EndLines}
 use Rattle.line_step.specs.declared.Rest.{Rest}
 use Rattle.line_step.specs.declared.LineWalk.{LineWalk}
 use Rattle.line_step.specs.declared.LineWalk.the-variants.{Between}
@@ -61,11 +63,16 @@ module _ (o p q : List ℕ) (w : LineWalk) (n r k m : ℕ) (room : askedSize sta
 -- THE LAW: with any status but 1 and 4 the words lent for records are as they were
 pub lines-careful : (rule : ℕ → Sort) (s v x o : List ℕ) {r : ℕ} {left : List ℕ} → Gives o (linesGiven rule s v (length x) o) r left → (r ≡ 1 → ⊥) → (r ≡ 4 → ⊥)
     → recordsLeft rule s v x o ≡ x
-lines-careful rule s v x o = fill-careful stateSize overWalk lineWalkWords recordWords o x (linesOf rule s v (length x) (lineWalkIn o)) walk-length
+lines-careful rule s v x o {r} {left} = by (lineWalkIn o)
+  where
+    by : (m : Option LineWalk) → Gives o (ifChosen choiceGiven (λ w. fillGiven stateSize overWalk lineWalkWords o (linesOf rule s v (length x) w)) m) r left
+        → (r ≡ 1 → ⊥) → (r ≡ 4 → ⊥) → ifChosen x (λ w. fillLeft stateSize recordWords o x (linesOf rule s v (length x) w)) m ≡ x
+    by none g z u = refl
+    by (some w) g z u = fill-careful stateSize overWalk lineWalkWords recordWords o x (linesOf rule s v (length x) w) walk-length g z u
 
 -- ---- the end of a walk, as code sees it
 
-module _ (w : LineWalk) (t : Rest) (e : w ≡ Between t) where
+module _ (how : EndLines) (w : LineWalk) (t : Rest) (e : w ≡ Between how t) where
   pub over-last : t .left ≡ 0 → (b : Bool) → b ≡ holdsOne (t .held) → not b ≡ overWalk w
   over-last z b q = ap not q ∙ sym (simp tests) ∙ ap overWalk (sym e)
 

@@ -4,6 +4,8 @@ use mathlib.Core.Path.{_≡_, refl, sym, ap, _∙_, subst}
 use mathlib.Core.Logic.{⊎-elim}
 use mathlib.Core.List.{List, [], _∷_, _++_, append-assoc}
 use mathlib.Core.Bool.{Bool, true, false, not, cond}
+use mathlib.Core.Option.{Option, some}
+use mathlib.Core.Option as option
 use native.Mathlib.Omega.{arith}
 use lib.ListN.{length, drop}
 use lib.Dec.{eqb}
@@ -15,7 +17,7 @@ use Rattle.refusal.specs.Told.{Told, told, longest}
 use Rattle.refusal.specs.declared.Refusal.the-variants as why
 use Rattle.kinds.specs.Kind.{Sort}
 use Rattle.line_record.specs.declared.LineRecord.{LineRecord}
-use Rattle.line_state_words.specs.LineWords.{recordSize, stateSize, lineWalkIn, lineWalkWords, recordWords}
+use Rattle.line_state_words.specs.LineWords.{recordSize, stateSize, lineWalkIn, lineWalkWords, lineWords, recordWords}
 use Rattle.line_state_words.specs.ReadBackLaws.{FitsHeld, state-read}
 use Rattle.line_step.specs.Turn.{finishIn, turnOf}
 use Rattle.line_step.specs.TurnLaws.{between-end, turn-is, turn-long}
@@ -26,11 +28,12 @@ use Rattle.line_step.specs.declared.LineWalk.{LineWalk}
 use Rattle.line_step.specs.declared.LineWalk.the-variants.{New, Between, Inside}
 use Rattle.line_walk.specs.Next.{nextOf}
 use Rattle.line_walk.specs.NextLaws.{next-is}
-use Rattle.answer_words.specs.Given.{Gives}
-use Rattle.answer_words.specs.FillGiven.{countWords}
+use Rattle.answer_words.specs.Given.{Given, Gives, stepGiven, noneGiven, ifChosen, choiceGiven}
+use Rattle.answer_words.specs.GivenLaws.{gives-fits}
+use Rattle.answer_words.specs.FillGiven.{countWords, fillGiven}
 use Rattle.answer_words.specs.FillGivenLaws.{Behind, fill-behind-each, fill-last}
 use Rattle.many_lines.specs.Lines.{linesOf}
-use Rattle.export_lines.specs.Calls.{holdsOne, overRest, overWalk, linesGiven}
+use Rattle.export_lines.specs.Calls.{holdsOne, overRest, overWalk, lineGiven, linesGiven}
 
 not-true : {A : Type 0} → false ≡ true → A
 not-true e = let z : _≡_ {A = ℕ} 0 1 = cc in absurd (omega arith)
@@ -44,11 +47,11 @@ rest-over t = by-cases (λ b. b ≡ true → (t .left ≡ 0) × (holdsOne (t .he
     turned false e = refl
 
 -- such a walk is read back from its words
-over-read : (w : LineWalk) (o : List ℕ) (n : ℕ) → overWalk w ≡ true → lineWalkIn (put o 0 (countWords lineWalkWords n w)) ≡ w
-over-read New o n e = not-true e
-over-read (Between t) o n e =
-    ap lineWalkIn (append-assoc (lineWalkWords (Between t)) (n ∷ []) (drop (0 + length (countWords lineWalkWords n (Between t))) o))
-    ∙ state-read (Between t) (n ∷ drop (0 + length (countWords lineWalkWords n (Between t))) o) (fits (t .held) (rest-over t e .1))
+over-read : (w : LineWalk) (o : List ℕ) (n : ℕ) → overWalk w ≡ true → lineWalkIn (put o 0 (countWords lineWalkWords n w)) ≡ some w
+over-read (New how) o n e = not-true e
+over-read (Between how t) o n e =
+    ap lineWalkIn (append-assoc (lineWalkWords (Between how t)) (n ∷ []) (drop (0 + length (countWords lineWalkWords n (Between how t))) o))
+    ∙ state-read (Between how t) (n ∷ drop (0 + length (countWords lineWalkWords n (Between how t))) o) (fits (t .held) (rest-over t e .1))
   where
     fits : (h : Held) → holdsOne h ≡ false → FitsHeld h
     fits Nothing q = tt
@@ -58,12 +61,12 @@ over-read (Inside p t) o n e = not-true e
 module _ (rule : ℕ → Sort) (s v : List ℕ) where
   -- and no record comes behind it
   over-none : length s ≤ longest → (w : LineWalk) → overWalk w ≡ true → nextOf rule s v w ≡ none
-  over-none f New e = not-true e
-  over-none f (Between t) e =
+  over-none f (New how) e = not-true e
+  over-none f (Between how t) e =
       let q = rest-over t e in
-      sym (next-is rule s v (Between t) over (held (t .held) (q .1) ∙ between-end rule s v t (q .0) ∙ turn-is rule s v (Between t) f (Between t) refl))
+      sym (next-is rule s v (Between how t) over (held (t .held) (q .1) ∙ between-end rule s v how t (q .0) ∙ turn-is rule s v (Between how t) f (Between how t) refl))
     where
-      held : (h : Held) → holdsOne h ≡ false → over ≡ finishIn h t
+      held : (h : Held) → holdsOne h ≡ false → over ≡ finishIn how h t
       held Nothing q = refl
       held (One r) q = not-true (sym q)
   over-none f (Inside p t) e = not-true e
@@ -84,8 +87,17 @@ module _ (rule : ℕ → Sort) (s v : List ℕ) where
       by none e = tt
       by (refuses t) e = tt
 
-  -- THE LAW: behind an answer of status 4 the walk that is left is at its end
-  pub lines-last : (x o : List ℕ) {left : List ℕ} → Gives o (linesGiven rule s v (length x) o) 4 left → nextOf rule s v (lineWalkIn left) ≡ none
-  lines-last x o =
-      fill-last stateSize overWalk lineWalkWords recordWords o x (linesOf rule s v (length x) (lineWalkIn o)) lineWalkIn (λ w n. over-read w o n) (nextOf rule s v)
-      (fill-behind-each (nextOf rule s v) (λ t. overWalk t ≡ true → nextOf rule s v t ≡ none) each-over recordSize (length x) (lineWalkIn o) (omega arith))
+  -- THE LAW: behind an answer of status 4 the walk that is left is at its end: the next call gives none
+  pub lines-last : (x o : List ℕ) {left : List ℕ} → Gives o (linesGiven rule s v (length x) o) 4 left → lineGiven rule s v left ≡ noneGiven
+  lines-last x o {left} = by (lineWalkIn o)
+    where
+      line : LineWalk → Given
+      line w = stepGiven stateSize lineWords (nextOf rule s v w)
+
+      by : (m : Option LineWalk) → Gives o (ifChosen choiceGiven (λ w. fillGiven stateSize overWalk lineWalkWords o (linesOf rule s v (length x) w)) m) 4 left
+          → lineGiven rule s v left ≡ noneGiven
+      by option.none g = let q = gives-fits g (λ e. omega arith) .0 in absurd (omega arith)
+      by (some w) g =
+          fill-last stateSize overWalk lineWalkWords recordWords o x (linesOf rule s v (length x) w) (λ l. lineGiven rule s v l ≡ noneGiven) (nextOf rule s v)
+          (λ u n e q. ap (ifChosen choiceGiven line) (over-read u o n e) ∙ ap (stepGiven stateSize lineWords) q)
+          (fill-behind-each (nextOf rule s v) (λ t. overWalk t ≡ true → nextOf rule s v t ≡ none) each-over recordSize (length x) w (omega arith)) g

@@ -44,8 +44,8 @@ stateOf x (gives n w) = w
 stateOf x none = x
 stateOf x (refuses t) = x
 
--- x are the words lent, of which there are as many as a record has, and y what they are then; w is the walk that was read from the lent words, which is u
-module _ (rule : ℕ → Sort) (s v x : List ℕ) (size : length x ≡ recordSize) (w u : LineWalk) (eu : w ≡ u) where
+-- x are the words lent, of which there are as many as a record has, and y what they are then; w is the walk
+module _ (rule : ℕ → Sort) (s v x : List ℕ) (size : length x ≡ recordSize) (w : LineWalk) where
   abbrev first : Many LineWalk LineRecord
   first = many (nextOf rule s v) 1 w
 
@@ -53,11 +53,11 @@ module _ (rule : ℕ → Sort) (s v x : List ℕ) (size : length x ≡ recordSiz
   unfolding fillOf
   one-is = ap (λ (n : ℕ). linesOf rule s v n w) size
 
-  pub one-none : none ≡ counted (linesOf rule s v (length x) w) → none ≡ nextOf rule s v u
-  one-none e = step-none first (nextOf rule s v w) (e ∙ ap counted one-is) ∙ ap (nextOf rule s v) eu
+  pub one-none : none ≡ counted (linesOf rule s v (length x) w) → none ≡ nextOf rule s v w
+  one-none e = step-none first (nextOf rule s v w) (e ∙ ap counted one-is)
 
-  pub one-refused : (t : Told) → refuses t ≡ counted (linesOf rule s v (length x) w) → refuses t ≡ nextOf rule s v u
-  one-refused t e = step-refused first t (nextOf rule s v w) (e ∙ ap counted one-is) ∙ ap (nextOf rule s v) eu
+  pub one-refused : (t : Told) → refuses t ≡ counted (linesOf rule s v (length x) w) → refuses t ≡ nextOf rule s v w
+  one-refused t e = step-refused first t (nextOf rule s v w) (e ∙ ap counted one-is)
 
   whole : (ws : List ℕ) → length ws ≡ recordSize → put x 0 (ws ++ []) ≡ ws
   whole ws l =
@@ -66,9 +66,8 @@ module _ (rule : ℕ → Sort) (s v x : List ℕ) (size : length x ≡ recordSiz
 
   -- the state t and the words y behind it are those of the step
   pub one-line : (n : ℕ) (t : LineWalk) (y : List ℕ) → gives n t ≡ counted (linesOf rule s v (length x) w) → y ≡ filled recordWords x (linesOf rule s v (length x) w)
-      → (o : List ℕ) (r : ℕ) (left : List ℕ) → Gives o (given 1 0 (lineWalkWords t ++ y)) r left → Gives o (stepGiven stateSize lineWords (nextOf rule s v u)) r left
-  one-line n t y e q o r left g =
-      subst (λ k. Gives o (stepGiven stateSize lineWords k) r left) (ap (nextOf rule s v) eu) (on (nextOf rule s v w) refl)
+      → (o : List ℕ) (r : ℕ) (left : List ℕ) → Gives o (given 1 0 (lineWalkWords t ++ y)) r left → Gives o (stepGiven stateSize lineWords (nextOf rule s v w)) r left
+  one-line n t y e q o r left g = on (nextOf rule s v w) refl
     where
       on : (b : Answer LineWalk LineRecord Told) → b ≡ nextOf rule s v w → Gives o (stepGiven stateSize lineWords b) r left
       on (gives c z) k =

@@ -7,20 +7,26 @@ ghost use lib.ListN.{length};
 ghost use mathlib.Core.List.{[], _∷_, _++_};
 ghost use Prim.Native.Nat.{_≤_};
 ghost use Rattle.kinds.specs.Kind.{crateRule};
-ghost use Rattle.answer_words.specs.Given.{Gives, given};
-ghost use Rattle.answer_words.specs.FillGiven.{answerStatus, askedSize};
+ghost use Rattle.answer_words.specs.Given.{Gives, given, stepGiven};
+ghost use Rattle.answer_words.specs.FillGiven.{answerStatus, askedSize, fillGiven, fillLeft};
 ghost use Rattle.export_lines.specs.Calls.{orderGiven, slotsLeft, bodiesGiven, bodiesLeft, lineGiven};
 ghost use Rattle.export_lines.specs.Calls.{symbolGiven, holdsOne, overWalk, linesGiven, recordsLeft};
-ghost use Rattle.line_state_words.specs.LineWords.{stateSize, lineWalkWords};
+ghost use Rattle.line_state_words.specs.LineWords.{stateSize, lineWalkWords, lineWords, recordWords};
+ghost use Rattle.line_walk.specs.Next.{nextOf};
+ghost use Rattle.many_lines.specs.Lines.{linesOf};
 use answer_words::GIVEN;
+use answer_words::NO_SUCH_CHOICE;
 use answer_words::NONE;
 use answer_words::REFUSAL_WORDS;
 use answer_words::TOO_SHORT;
 use answer_words::answer_status;
 use answer_words::put;
 use answer_words::put_refusal;
+use line_state_words::NamedHow;
 use line_state_words::RECORD_WORDS;
 use line_state_words::STATE_WORDS;
+use line_state_words::WalkIn;
+use line_state_words::how_named;
 use line_state_words::line_walk_in;
 use line_state_words::put_line;
 use line_state_words::put_line_walk;
@@ -67,30 +73,48 @@ pub fn body_list(area: &[u8], bodies: &mut [u32], out: &mut [u64]) -> u32
     }
 }
 
-// The next record of the line walk over a list in slots. State and words are those of the crate `line_state_words`.
-pub fn next_line(area: &[u8], slots: &[u32], bodies: &[u32], out: &mut [u64]) -> u32
-    ensures { λ r. ⌜ Gives (now (out .entry)) (lineGiven crateRule (now (area .entry)) (now (slots .entry)) (now (out .entry))) r (now (out .exit)) ⌝ }
+// The next record of a walk.
+fn line_from(area: &[u8], slots: &[u32], bodies: &[u32], walk: LineWalk, out: &mut [u64]) -> u32
+    ensures { λ r. ⌜ Gives (now (out .entry))
+        (stepGiven stateSize lineWords (nextOf crateRule (now (area .entry)) (now (slots .entry)) walk))
+        r (now (out .exit)) ⌝ }
 {
     let mut row = [0u32; RECORD_WORDS];
-    match next_lines(area, slots, bodies, line_walk_in(out), &mut row) {
+    match next_lines(area, slots, bodies, walk, &mut row) {
         LinesStep::Lines { count: _, next } => put_line(out, next, &row),
         LinesStep::None => NONE,
         LinesStep::Refused(why) => put_refusal(out, STATE_WORDS, why),
     }
 }
 
-// The lines of a symbol: the state of a walk that `next_line` and `lines` step.
+// The next record of the line walk over a list in slots. State and words are those of the crate `line_state_words`.
+pub fn next_line(area: &[u8], slots: &[u32], bodies: &[u32], out: &mut [u64]) -> u32
+    ensures { λ r. ⌜ Gives (now (out .entry)) (lineGiven crateRule (now (area .entry)) (now (slots .entry)) (now (out .entry))) r (now (out .exit)) ⌝ }
+{
+    match line_walk_in(out) {
+        WalkIn::Walk(walk) => line_from(area, slots, bodies, walk, out),
+        WalkIn::NoSuchChoice => NO_SUCH_CHOICE,
+    }
+}
+
+// The lines of a symbol: the state of a walk that `next_line` and `lines` step, by the reading of end lines that a number names.
 pub fn lines_for_symbol(
     area: &[u8],
     slots: &[u32],
     bodies: &[u32],
     section: u16,
     offset: u32,
+    end_lines: u32,
     out: &mut [u64],
 ) -> u32
-    ensures { λ r. ⌜ Gives (now (out .entry)) (symbolGiven crateRule (now (area .entry)) (now (slots .entry)) section offset) r (now (out .exit)) ⌝ }
+    ensures { λ r. ⌜ Gives (now (out .entry))
+        (symbolGiven crateRule (now (area .entry)) (now (slots .entry)) section offset «end_lines»)
+        r (now (out .exit)) ⌝ }
 {
-    match symbol_lines::lines_for_symbol(area, slots, bodies, section, offset) {
+    let NamedHow::Is(how) = how_named(end_lines as u64) else {
+        return NO_SUCH_CHOICE;
+    };
+    match symbol_lines::lines_for_symbol(area, slots, bodies, section, offset, how) {
         SymbolLines::Lines(walk) => put_line_walk(out, walk),
         SymbolLines::Refused(why) => put_refusal(out, 0, why),
     }
@@ -111,8 +135,8 @@ fn is_over(walk: LineWalk) -> bool
     ensures { λ r. ⌜ r ≡ overWalk walk ⌝ }
 {
     match walk {
-        LineWalk::New => false,
-        LineWalk::Between(t) => {
+        LineWalk::New(_) => false,
+        LineWalk::Between(_, t) => {
             let held = t.held;
             if t.left == 0 {
                 return !holds_one(held);
@@ -133,6 +157,33 @@ fn put_lines(out: &mut [u64], count: usize, next: LineWalk) -> u32
     put(out, STATE_WORDS, &[count as u64], status)
 }
 
+// The records from a walk on.
+fn lines_from(
+    area: &[u8],
+    slots: &[u32],
+    bodies: &[u32],
+    walk: LineWalk,
+    records: &mut [u32],
+    out: &mut [u64],
+) -> u32
+    ensures { λ r. ⌜ Gives (now (out .entry))
+        (fillGiven stateSize overWalk lineWalkWords (now (out .entry))
+        (linesOf crateRule (now (area .entry)) (now (slots .entry)) (length (now (records .entry))) walk))
+        r (now (out .exit)) ⌝ }
+    ensures { λ _. ⌜ now (records .exit)
+        ≡ fillLeft stateSize recordWords (now (out .entry)) (now (records .entry))
+        (linesOf crateRule (now (area .entry)) (now (slots .entry)) (length (now (records .entry))) walk) ⌝ }
+{
+    if out.len() < ASKED {
+        return TOO_SHORT;
+    }
+    match next_lines(area, slots, bodies, walk, records) {
+        LinesStep::Lines { count, next } => put_lines(out, count, next),
+        LinesStep::None => NONE,
+        LinesStep::Refused(why) => put_refusal(out, STATE_WORDS, why),
+    }
+}
+
 // The records from the walk in `out` on, into `records`. Words: the next state, and how many records there are. Where there is none to give the answer
 // is that of `next_line`; without room for one it is number 10. The status says whether the walk is over behind them.
 pub fn lines(
@@ -147,12 +198,8 @@ pub fn lines(
         r (now (out .exit)) ⌝ }
     ensures { λ _. ⌜ now (records .exit) ≡ recordsLeft crateRule (now (area .entry)) (now (slots .entry)) (now (records .entry)) (now (out .entry)) ⌝ }
 {
-    if out.len() < ASKED {
-        return TOO_SHORT;
-    }
-    match next_lines(area, slots, bodies, line_walk_in(out), records) {
-        LinesStep::Lines { count, next } => put_lines(out, count, next),
-        LinesStep::None => NONE,
-        LinesStep::Refused(why) => put_refusal(out, STATE_WORDS, why),
+    match line_walk_in(out) {
+        WalkIn::Walk(walk) => lines_from(area, slots, bodies, walk, records, out),
+        WalkIn::NoSuchChoice => NO_SUCH_CHOICE,
     }
 }

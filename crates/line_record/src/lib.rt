@@ -2,9 +2,10 @@
 //
 // Everything is decided by the words alone: no call here reads an area.
 ghost use mathlib.Core.Path.{_≡_};
+ghost use Prim.Native.Nat.{_<_, _≤_, _^_};
 ghost use Rattle.line_record.specs.Flags.{startLine, lineKind, isMarker};
-ghost use Rattle.line_record.specs.EndLine.{endLine};
-ghost use Rattle.line_record.specs.Record.{emptyRecord, columnIf, startColumn, endColumn, recordOf, entryOf, shorterOf, withLength, closedAt};
+ghost use Rattle.line_record.specs.EndLine.{endFrom, endLine};
+ghost use Rattle.line_record.specs.Record.{maxStartLine, emptyRecord, columnIf, startColumn, endColumn, recordOf, entryOf, shorterOf, withLength, closedAt};
 ghost use Rattle.line_record.specs.Told.{toldLineEntry};
 use refusal::Refusal;
 
@@ -68,13 +69,35 @@ pub fn start_line(flags: u32) -> u32
     flags % (LineRecord::MAX_START_LINE + 1)
 }
 
-// The end line as the crate reads it. The crate joins bits, and adds 128 where that lies below the start line. The step that adds is never reached
-// (`step-never` of specs/EndLineLaws.antt) and the end line is always the start line (`end-is-start`), so that is what is taken here. This is the one
-// place where an end line is read.
-pub fn end_line(flags: u32) -> u32
-    ensures { λ r. ⌜ r ≡ endLine flags ⌝ }
+// How an end line is read: as the crate does, or with the seven bits above the start line as its low bits.
+pub enum EndLines {
+    Crate,
+    LowBits,
+}
+
+// The end line whose low seven bits are these: the first one from the start line on.
+fn end_from(start: u32, low: u32) -> u32
+    requires { ⌜ (start ≤ maxStartLine) × (low < 2 ^ 7) ⌝ }
+    ensures { λ r. ⌜ r ≡ endFrom start low ⌝ }
 {
-    start_line(flags)
+    let end = start - start % 128 + low;
+    if end < start {
+        return end + 128;
+    }
+    end
+}
+
+// The end line by a reading. The crate joins bits, and adds 128 where that lies below the start line; of the bits that it takes the step that adds is never
+// reached (`step-never` of specs/EndLineLaws.antt) and the end line is always the start line (`end-is-start`), so that is what is taken here. This is the one
+// place where an end line is read.
+pub fn end_line(how: EndLines, flags: u32) -> u32
+    ensures { λ r. ⌜ r ≡ endLine how flags ⌝ }
+{
+    let start = start_line(flags);
+    match how {
+        EndLines::Crate => start,
+        EndLines::LowBits => end_from(start, flags / 0x100_0000 % 128),
+    }
 }
 
 // Bit 31 of the flags word.
@@ -98,12 +121,14 @@ pub fn is_marker(flags: u32) -> bool
     line == 0xf00f00
 }
 
-// What the lines of a block have in common: the section and the start of their subsection, their file, and whether they have columns.
+// What the lines of a block have in common: the section and the start of their subsection, their file, whether they have columns, and how their end lines are
+// read.
 pub struct LineSource {
     pub section: u16,
     pub base: u32,
     pub file: u32,
     pub columns: bool,
+    pub how: EndLines,
 }
 
 // The start column: the low half of the column word, if there are columns.
@@ -131,7 +156,8 @@ pub fn record_of(source: LineSource, offset: u32, flags: u32, word: u32) -> Line
     ensures { λ r. ⌜ r ≡ recordOf source offset flags (columnIf (source .columns) word) ⌝ }
 {
     let start = start_line(flags);
-    let end = end_line(flags);
+    let how = source.how;
+    let end = end_line(how, flags);
     let a = column_start(source.columns, word);
     let b = column_end(source.columns, word);
     let k = kind(flags);

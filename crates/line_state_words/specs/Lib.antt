@@ -1,3 +1,5 @@
 pub mod LineWords
+pub mod Told
+pub mod Untold
 pub mod LineWordsLaws
 pub mod ReadBackLaws

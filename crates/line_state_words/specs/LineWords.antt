@@ -1,9 +1,11 @@
 -- A line record in words, and a state of the line walk: its tag (0 new, 1 between two subsections, 2 inside one); the next slot, how many
 -- subsections are left, how far the area has been searched, 1 and the record held back or 0; and of the place the header's four fields, its end,
--- the next block, the file, the lines left, the next line and the next column. Where a state lacks a part its words are 0.
--- Read back, a word too large for its field counts modulo the field's size, and a tag above the last is the last.
--- Source: docs/DECISIONS.md, 32.
--- Definitions only; a reader must believe them, but for `u16Of` to `lineWalkIn`, `noRecord` to `lineWalkWords`: `walk-new` (line_state_words LineWordsLaws),
+-- the next block, the file, the lines left, the next line and the next column. Where a state lacks a part its words are 0. The last word of a state is its
+-- reading of end lines: 0 the crate's, 1 the low bits.
+-- Read back, a word too large for its field counts modulo the field's size, and a tag above the last is the last. But a word that names no reading is no
+-- reading, and its state no walk.
+-- Source: docs/DECISIONS.md, 32 and 59.
+-- Definitions only; a reader must believe them, but for `u16Of` to `lineWalkIn`, `noRecord` to `lineWalkWords`: `walk-begins`, `walk-none`,
 -- `state-read` (line_state_words ReadBackLaws) say what these mean.
 use Prim.Native.Nat.{ℕ, _+_, _%_}
 use mathlib.Core.List.{List, [], _∷_, _++_}
@@ -12,6 +14,8 @@ use mathlib.Core.Option.{Option, none, some}
 use lib.ListN.{getD, replicate}
 use lib.Dec.{eqb}
 use Rattle.line_record.specs.Told.{toldLength, toldColumn, toldLineKind}
+use Rattle.line_record.specs.declared.EndLines.{EndLines}
+use Rattle.line_record.specs.declared.EndLines.the-variants.{Crate, LowBits}
 use Rattle.line_record.specs.declared.Length.{Length}
 use Rattle.line_record.specs.declared.Length.the-variants as length
 use Rattle.line_record.specs.declared.Column.{Column}
@@ -43,8 +47,22 @@ restSize = heldAt + 1 + recordSize
 abbrev pub placeSize : ℕ
 placeSize = 10
 
+-- where it says how end lines are read, behind these
+abbrev pub howAt : ℕ
+howAt = restSize + placeSize
+
 abbrev pub stateSize : ℕ
-stateSize = restSize + placeSize
+stateSize = howAt + 1
+
+-- ---- a reading of end lines
+
+abbrev pub howWord : EndLines → ℕ
+howWord Crate = 0
+howWord LowBits = 1
+
+-- the reading that a number names; any other number names none
+unfoldable pub howNamed : ℕ → Option EndLines
+howNamed n = cond (eqb n 0) (some Crate) (cond (eqb n 1) (some LowBits) none)
 
 -- ---- a record
 
@@ -104,10 +122,11 @@ restIn o = record { slot = getD o 1 0; left = getD o 2 0; scan = getD o 3 0; hel
 abbrev pub headIn : List ℕ → LineHeader
 headIn o = record { offset = u32Of (getD o 17 0); section = u16Of (getD o 18 0); flags = u16Of (getD o 19 0); code = u32Of (getD o 20 0) }
 
-abbrev pub placeIn : List ℕ → Place
-placeIn o =
+abbrev pub placeIn : EndLines → List ℕ → Place
+placeIn how o =
     record {
       head = headIn o;
+      how = how;
       end = getD o 21 0;
       next = getD o 22 0;
       file = u32Of (getD o 23 0);
@@ -116,11 +135,18 @@ placeIn o =
       column = getD o 26 0;
     }
 
-unfoldable pub lineWalkIn : List ℕ → LineWalk
-lineWalkIn o =
-    cond (eqb (getD o 0 0) 0) walk.New
-    (cond (eqb (getD o 0 0) 1) (walk.Between (restIn o))
-    (walk.Inside (placeIn o) (restIn o)))
+unfoldable pub walkBy : EndLines → List ℕ → LineWalk
+walkBy how o =
+    cond (eqb (getD o 0 0) 0) (walk.New how)
+    (cond (eqb (getD o 0 0) 1) (walk.Between how (restIn o))
+    (walk.Inside (placeIn how o) (restIn o)))
+
+abbrev pub walkIf : List ℕ → Option EndLines → Option LineWalk
+walkIf o none = none
+walkIf o (some how) = some (walkBy how o)
+
+abbrev pub lineWalkIn : List ℕ → Option LineWalk
+lineWalkIn o = walkIf o (howNamed (getD o howAt 0))
 
 -- ---- put
 
@@ -151,10 +177,19 @@ placeWords p =
 abbrev pub noPlace : List ℕ
 noPlace = replicate placeSize 0
 
+abbrev pub partWords : LineWalk → List ℕ
+partWords (walk.New how) = replicate howAt 0
+partWords (walk.Between how t) = 1 ∷ (restWords t ++ noPlace)
+partWords (walk.Inside p t) = 2 ∷ (restWords t ++ placeWords p)
+
+-- how a walk reads end lines
+abbrev pub walkHow : LineWalk → EndLines
+walkHow (walk.New how) = how
+walkHow (walk.Between how t) = how
+walkHow (walk.Inside p t) = p .how
+
 abbrev pub lineWalkWords : LineWalk → List ℕ
-lineWalkWords walk.New = replicate stateSize 0
-lineWalkWords (walk.Between t) = 1 ∷ (restWords t ++ noPlace)
-lineWalkWords (walk.Inside p t) = 2 ∷ (restWords t ++ placeWords p)
+lineWalkWords w = partWords w ++ (howWord (walkHow w) ∷ [])
 
 -- a step: the next state, and the record
 abbrev pub lineWords : LineRecord → LineWalk → List ℕ

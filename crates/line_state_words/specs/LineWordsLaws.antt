@@ -2,10 +2,13 @@
 use Prim.Native.Nat.{ℕ, _+_, _≤_}
 use mathlib.Core.Path.{_≡_, refl, sym, ap, _∙_}
 use mathlib.Core.List.{List, [], _∷_, _++_}
+use mathlib.Core.Option.{Option, none, some}
 use native.Mathlib.Omega.{arith}
 use lib.ListN.{length, getD, length-append}
 use borrow.Author.Tests.{eq-eqb, ne-eqb}
 use Rattle.line_record.specs.Told.{toldLength, toldColumn, toldLineKind}
+use Rattle.line_record.specs.declared.EndLines.{EndLines}
+use Rattle.line_record.specs.declared.EndLines.the-variants.{Crate, LowBits}
 use Rattle.line_record.specs.declared.Length.{Length}
 use Rattle.line_record.specs.declared.Length.the-variants as len
 use Rattle.line_record.specs.declared.Column.{Column}
@@ -21,9 +24,9 @@ use Rattle.word.specs.Word.{put, store}
 use Rattle.word.specs.WordLaws.{put-length, store-put}
 use Rattle.answer_words.specs.Given.{given, Gives}
 use Rattle.answer_words.specs.PiecesLaws.{two-pieces, gives-pieces}
-use Rattle.line_state_words.specs.LineWords.{recordSize, heldAt, restSize, stateSize}
-use Rattle.line_state_words.specs.LineWords.{optionWords, recordWords, heldWords, restWords, lineWalkWords}
-use Rattle.line_state_words.specs.LineWords.{recordIn, heldIn, restIn, placeIn, lineWalkIn}
+use Rattle.line_state_words.specs.LineWords.{recordSize, heldAt, restSize, howAt, stateSize, howNamed}
+use Rattle.line_state_words.specs.LineWords.{optionWords, recordWords, heldWords, restWords, partWords, lineWalkWords}
+use Rattle.line_state_words.specs.LineWords.{recordIn, heldIn, restIn, placeIn, walkBy, walkIf, lineWalkIn}
 
 -- ---- read back
 
@@ -36,19 +39,38 @@ module _ (o : List ℕ) (n : ℕ) (e : n ≡ getD o heldAt 0) where
   unfolding heldIn
   held-one z r q = ap held.One q ∙ rw (ne-eqb (getD o heldAt 0) 0 (λ h. z (e ∙ h)))
 
-module _ (o : List ℕ) (n : ℕ) (e : n ≡ getD o 0 0) where
-  pub walk-new : n ≡ 0 → walk.New ≡ lineWalkIn o
-  unfolding lineWalkIn
+module _ (how : EndLines) (o : List ℕ) (n : ℕ) (e : n ≡ getD o 0 0) where
+  pub walk-new : n ≡ 0 → walk.New how ≡ walkBy how o
+  unfolding walkBy
   walk-new z = rw (eq-eqb (getD o 0 0) 0 (sym e ∙ z))
 
-  pub walk-between : (n ≡ 0 → ⊥) → n ≡ 1 → (t : Rest) → t ≡ restIn o → walk.Between t ≡ lineWalkIn o
-  unfolding lineWalkIn
-  walk-between z u t q = ap walk.Between q ∙ rw (ne-eqb (getD o 0 0) 0 (λ h. z (e ∙ h)), eq-eqb (getD o 0 0) 1 (sym e ∙ u))
+  pub walk-between : (n ≡ 0 → ⊥) → n ≡ 1 → (t : Rest) → t ≡ restIn o → walk.Between how t ≡ walkBy how o
+  unfolding walkBy
+  walk-between z u t q = ap (walk.Between how) q ∙ rw (ne-eqb (getD o 0 0) 0 (λ h. z (e ∙ h)), eq-eqb (getD o 0 0) 1 (sym e ∙ u))
 
-  pub walk-inside : (n ≡ 0 → ⊥) → (n ≡ 1 → ⊥) → (p : Place) → p ≡ placeIn o → (t : Rest) → t ≡ restIn o → walk.Inside p t ≡ lineWalkIn o
-  unfolding lineWalkIn
+  pub walk-inside : (n ≡ 0 → ⊥) → (n ≡ 1 → ⊥) → (p : Place) → p ≡ placeIn how o → (t : Rest) → t ≡ restIn o → walk.Inside p t ≡ walkBy how o
+  unfolding walkBy
   walk-inside z u p r t q =
       (λ i. walk.Inside (r i) (q i)) ∙ rw (ne-eqb (getD o 0 0) 0 (λ h. z (e ∙ h)), ne-eqb (getD o 0 0) 1 (λ h. u (e ∙ h)))
+
+-- the reading that a number names
+
+module _ (n : ℕ) where
+  pub named-crate : n ≡ 0 → some Crate ≡ howNamed n
+  unfolding howNamed
+  named-crate z = rw (eq-eqb n 0 z)
+
+  pub named-low : (n ≡ 0 → ⊥) → n ≡ 1 → some LowBits ≡ howNamed n
+  unfolding howNamed
+  named-low z u = rw (ne-eqb n 0 z, eq-eqb n 1 u)
+
+  pub named-none : (n ≡ 0 → ⊥) → (n ≡ 1 → ⊥) → none ≡ howNamed n
+  unfolding howNamed
+  named-none z u = rw (ne-eqb n 0 z, ne-eqb n 1 u)
+
+-- n is the word for it, and x what it names
+pub walk-named : (o : List ℕ) (n : ℕ) → n ≡ getD o howAt 0 → (x : Option EndLines) → x ≡ howNamed n → walkIf o x ≡ lineWalkIn o
+walk-named o n e x q = ap (walkIf o) (q ∙ ap howNamed e)
 
 -- ---- how many words
 
@@ -71,10 +93,13 @@ held-length (held.One r) = omega (arith, record-length r)
 pub rest-length : (tag : ℕ) (t : Rest) → length (tag ∷ restWords t) ≡ restSize
 rest-length tag t = omega (arith, held-length (t .held))
 
+pub part-length : (w : LineWalk) → length (partWords w) ≡ howAt
+part-length (walk.New how) = refl
+part-length (walk.Between how t) = simp length-append (omega (arith, held-length (t .held)))
+part-length (walk.Inside p t) = simp length-append (omega (arith, held-length (t .held)))
+
 pub walk-length : (w : LineWalk) → length (lineWalkWords w) ≡ stateSize
-walk-length walk.New = refl
-walk-length (walk.Between t) = simp length-append (omega (arith, held-length (t .held)))
-walk-length (walk.Inside p t) = simp length-append (omega (arith, held-length (t .held)))
+walk-length w = simp length-append (omega (arith, part-length w))
 
 -- ---- put
 

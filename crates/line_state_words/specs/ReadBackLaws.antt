@@ -1,12 +1,16 @@
 -- A state of the line walk in words is read back as that state, whatever stands behind its words, if its numbers fit the fields that hold them: a section
--- and flags 16 bits, every other number of a record, a header or a file 32 bits. Those of each state that the code has do, by their types.
+-- and flags 16 bits, every other number of a record, a header or a file 32 bits. Those of each state that the code has do, by their types. Which words are a new
+-- walk, and which are none.
 use Prim.Native.Nat.{ℕ, _+_, _<_}
 use mathlib.Core.Path.{_≡_, refl, sym, ap, _∙_}
 use mathlib.Core.List.{List, [], _∷_, _++_, append-assoc}
+use mathlib.Core.Option.{none, some}
 use native.Mathlib.Omega.{arith}
 use lib.ListN.{getD}
 use lib.Seq.{getD-append-add}
 use Rattle.line_record.specs.Told.{toldLength, toldColumn, toldLineKind}
+use Rattle.line_record.specs.declared.EndLines.{EndLines}
+use Rattle.line_record.specs.declared.EndLines.the-variants as ends
 use Rattle.line_record.specs.declared.Length.{Length}
 use Rattle.line_record.specs.declared.Length.the-variants as len
 use Rattle.line_record.specs.declared.Column.{Column}
@@ -20,8 +24,8 @@ use Rattle.line_step.specs.declared.Rest.{Rest}
 use Rattle.line_step.specs.declared.Place.{Place}
 use Rattle.line_step.specs.declared.LineWalk.{LineWalk}
 use Rattle.line_step.specs.declared.LineWalk.the-variants as walk
-use Rattle.line_state_words.specs.LineWords.{restSize, optionWords, recordWords, u16Of, u32Of, lengthOf, columnOf, kindIn, recordIn, heldIn, restIn, placeIn, lineWalkIn, heldWords, restWords, placeWords, noPlace, lineWalkWords}
-use Rattle.line_state_words.specs.LineWordsLaws.{record-words, rest-length}
+use Rattle.line_state_words.specs.LineWords.{restSize, howAt, howWord, howNamed, optionWords, recordWords, u16Of, u32Of, lengthOf, columnOf, kindIn, recordIn, heldIn, restIn, placeIn, walkBy, walkIf, lineWalkIn, heldWords, restWords, placeWords, noPlace, partWords, walkHow, lineWalkWords}
+use Rattle.line_state_words.specs.LineWordsLaws.{walk-new, named-none, record-words, rest-length, part-length}
 
 -- ---- what fits
 
@@ -61,8 +65,8 @@ pub record FitsPlace (p : Place) : Type 0 where
   pub file : Fits32 (p .file)
 
 abbrev pub FitsWalk : LineWalk → Type 0
-FitsWalk walk.New = Unit {0}
-FitsWalk (walk.Between t) = FitsHeld (t .held)
+FitsWalk (walk.New how) = Unit {0}
+FitsWalk (walk.Between how t) = FitsHeld (t .held)
 FitsWalk (walk.Inside p t) = FitsPlace p × FitsHeld (t .held)
 
 -- ---- a record
@@ -138,7 +142,7 @@ behind-rest tag t ys n i e =
     ap (λ (k : ℕ). getD (tag ∷ (restWords t ++ ys)) k 0) (e ∙ ap (λ (k : ℕ). k + i) (sym (rest-length tag t)))
     ∙ getD-append-add (tag ∷ restWords t) ys i 0
 
-place-read : (tag : ℕ) (t : Rest) (p : Place) (ws : List ℕ) → FitsPlace p → placeIn (tag ∷ (restWords t ++ (placeWords p ++ ws))) ≡ p
+place-read : (tag : ℕ) (t : Rest) (p : Place) (ws : List ℕ) → FitsPlace p → placeIn (p .how) (tag ∷ (restWords t ++ (placeWords p ++ ws))) ≡ p
 place-read tag t p ws f =
     let at : (n i : ℕ) → n ≡ restSize + i → getD (tag ∷ (restWords t ++ (placeWords p ++ ws))) n 0 ≡ getD (placeWords p ++ ws) i 0
     = behind-rest tag t (placeWords p ++ ws) in
@@ -154,6 +158,7 @@ place-read tag t p ws f =
     let e₁₀ = at 26 9 refl in
     λ i. record {
       head = record { offset = e₁ i; section = e₂ i; flags = e₃ i; code = e₄ i };
+      how = p .how;
       end = e₅ i;
       next = e₆ i;
       file = e₇ i;
@@ -162,14 +167,44 @@ place-read tag t p ws f =
       column = e₁₀ i;
     }
 
--- THE THEOREM
-pub state-read : (w : LineWalk) (ws : List ℕ) → FitsWalk w → lineWalkIn (lineWalkWords w ++ ws) ≡ w
-unfolding lineWalkIn
-state-read walk.New ws f = refl
-state-read (walk.Between t) ws f =
-    ap (λ (x : List ℕ). walk.Between (restIn (1 ∷ x))) (append-assoc (restWords t) noPlace ws) ∙ ap walk.Between (rest-read 1 t (noPlace ++ ws) f)
-state-read (walk.Inside p t) ws f =
+-- all but the reading
+parts-read : (w : LineWalk) (ws : List ℕ) → FitsWalk w → walkBy (walkHow w) (partWords w ++ ws) ≡ w
+unfolding walkBy
+parts-read (walk.New how) ws f = refl
+parts-read (walk.Between how t) ws f =
+    ap (λ (x : List ℕ). walk.Between how (restIn (1 ∷ x))) (append-assoc (restWords t) noPlace ws) ∙ ap (walk.Between how) (rest-read 1 t (noPlace ++ ws) f)
+parts-read (walk.Inside p t) ws f =
     let a = append-assoc (restWords t) (placeWords p) ws in
     let e = place-read 2 t p ws (f .0) in
     let g = rest-read 2 t (placeWords p ++ ws) (f .1) in
-    ap (λ (x : List ℕ). walk.Inside (placeIn (2 ∷ x)) (restIn (2 ∷ x))) a ∙ (λ i. walk.Inside (e i) (g i))
+    ap (λ (x : List ℕ). walk.Inside (placeIn (p .how) (2 ∷ x)) (restIn (2 ∷ x))) a ∙ (λ i. walk.Inside (e i) (g i))
+
+-- the reading
+how-same : (how : EndLines) → howNamed (howWord how) ≡ some how
+unfolding howNamed
+how-same ends.Crate = refl
+how-same ends.LowBits = refl
+
+-- its word is the one behind the parts
+how-behind : (w : LineWalk) (ws : List ℕ) → getD (partWords w ++ (howWord (walkHow w) ∷ ws)) howAt 0 ≡ howWord (walkHow w)
+how-behind w ws =
+    ap (λ (k : ℕ). getD (partWords w ++ (howWord (walkHow w) ∷ ws)) k 0) (sym (omega (arith, part-length w)))
+    ∙ getD-append-add (partWords w) (howWord (walkHow w) ∷ ws) 0 0
+
+-- A NEW WALK: words that begin with 0, and whose word for it names a reading; so zeros are a new walk by the crate's
+pub walk-begins : (how : EndLines) (o : List ℕ) → getD o 0 0 ≡ 0 → getD o howAt 0 ≡ howWord how → lineWalkIn o ≡ some (walk.New how)
+walk-begins how o z e =
+    ap (λ (n : ℕ). walkIf o (howNamed n)) e ∙ ap (walkIf o) (how-same how) ∙ ap some (sym (walk-new how o (getD o 0 0) refl z))
+
+-- NO WALK: words whose word for it names no reading; so there is no default
+pub walk-none : (o : List ℕ) → (getD o howAt 0 ≡ 0 → ⊥) → (getD o howAt 0 ≡ 1 → ⊥) → lineWalkIn o ≡ none
+walk-none o z u = ap (walkIf o) (sym (named-none (getD o howAt 0) z u))
+
+-- THE THEOREM
+pub state-read : (w : LineWalk) (ws : List ℕ) → FitsWalk w → lineWalkIn (lineWalkWords w ++ ws) ≡ some w
+state-read w ws f =
+    let h = howWord (walkHow w) in
+    ap lineWalkIn (append-assoc (partWords w) (h ∷ []) ws)
+    ∙ ap (λ (n : ℕ). walkIf (partWords w ++ (h ∷ ws)) (howNamed n)) (how-behind w ws)
+    ∙ ap (walkIf (partWords w ++ (h ∷ ws))) (how-same (walkHow w))
+    ∙ ap some (parts-read w (h ∷ ws) f)

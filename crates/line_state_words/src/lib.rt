@@ -6,14 +6,16 @@ ghost use lib.ListN.{length, getD};
 ghost use Rattle.word.specs.Word.{put, store};
 ghost use Rattle.answer_words.specs.Given.{given, Gives};
 ghost use Rattle.line_record.specs.Told.{toldLength, toldColumn, toldLineKind};
-ghost use Rattle.line_state_words.specs.LineWords.{heldAt, restSize, stateSize};
-ghost use Rattle.line_state_words.specs.LineWords.{u16Of, u32Of, lengthOf, columnOf, kindIn, recordIn, heldIn, restIn, headIn, placeIn, lineWalkIn};
+ghost use Rattle.line_state_words.specs.LineWords.{heldAt, restSize, stateSize, howWord, howNamed};
+ghost use Rattle.line_state_words.specs.LineWords.{u16Of, u32Of, lengthOf, columnOf, kindIn, recordIn, heldIn, restIn, headIn, placeIn, walkBy, lineWalkIn};
 ghost use Rattle.line_state_words.specs.LineWords.{optionWords, recordWords};
-ghost use Rattle.line_state_words.specs.LineWords.{heldWords, restWords, placeWords, lineWalkWords};
+ghost use Rattle.line_state_words.specs.LineWords.{heldWords, restWords, placeWords, partWords, walkHow, lineWalkWords};
+ghost use Rattle.line_state_words.specs.Told.{toldHow, toldWalkIn};
 use answer_words::GIVEN;
 use answer_words::TOO_SHORT;
 use answer_words::state_word;
 use line_record::Column;
+use line_record::EndLines;
 use line_record::Length;
 use line_record::LineKind;
 use line_record::LineRecord;
@@ -36,8 +38,40 @@ const REST_WORDS: usize = HELD_RECORD + RECORD_WORDS;
 
 const PLACE_WORDS: usize = 10;
 
+// Where behind these it says how end lines are read.
+const HOW_AT: usize = REST_WORDS + PLACE_WORDS;
+
 // The words of a state.
-pub const STATE_WORDS: usize = REST_WORDS + PLACE_WORDS;
+pub const STATE_WORDS: usize = HOW_AT + 1;
+
+// ---- a reading of end lines
+
+fn how_word(how: EndLines) -> u64
+    ensures { λ r. ⌜ howWord how ≡ r ⌝ }
+{
+    match how {
+        EndLines::Crate => 0,
+        EndLines::LowBits => 1,
+    }
+}
+
+// The reading that a number names. Any other number is no choice, and never taken for one.
+pub enum NamedHow {
+    Is(EndLines),
+    NoSuchChoice,
+}
+
+pub fn how_named(n: u64) -> NamedHow
+    ensures { λ r. ⌜ toldHow r ≡ howNamed n ⌝ }
+{
+    if n == 0 {
+        return NamedHow::Is(EndLines::Crate);
+    }
+    if n == 1 {
+        return NamedHow::Is(EndLines::LowBits);
+    }
+    NamedHow::NoSuchChoice
+}
 
 // ---- read back
 
@@ -135,12 +169,13 @@ fn head_in(out: &[u64]) -> LineHeader
     }
 }
 
-fn place_in(out: &[u64]) -> Place
-    ensures { λ r. ⌜ r ≡ placeIn (now (out .entry)) ⌝ }
+fn place_in(how: EndLines, out: &[u64]) -> Place
+    ensures { λ r. ⌜ r ≡ placeIn how (now (out .entry)) ⌝ }
 {
     let head = head_in(out);
     Place {
         head,
+        how,
         end: state_word(out, 21) as usize,
         next: state_word(out, 22) as usize,
         file: word32(out, 23),
@@ -150,19 +185,33 @@ fn place_in(out: &[u64]) -> Place
     }
 }
 
-// The state of a line walk that the first `STATE_WORDS` words say.
-pub fn line_walk_in(out: &[u64]) -> LineWalk
-    ensures { λ r. ⌜ r ≡ lineWalkIn (now (out .entry)) ⌝ }
+fn walk_by(how: EndLines, out: &[u64]) -> LineWalk
+    ensures { λ r. ⌜ r ≡ walkBy how (now (out .entry)) ⌝ }
 {
     let tag = state_word(out, 0);
     if tag == 0 {
-        return LineWalk::New;
+        return LineWalk::New(how);
     }
     let rest = rest_in(out);
     if tag == 1 {
-        return LineWalk::Between(rest);
+        return LineWalk::Between(how, rest);
     }
-    LineWalk::Inside(place_in(out), rest)
+    LineWalk::Inside(place_in(how, out), rest)
+}
+
+// The state of a line walk that the first `STATE_WORDS` words say, if its word for it names a reading of end lines.
+pub enum WalkIn {
+    Walk(LineWalk),
+    NoSuchChoice,
+}
+
+pub fn line_walk_in(out: &[u64]) -> WalkIn
+    ensures { λ r. ⌜ toldWalkIn r ≡ lineWalkIn (now (out .entry)) ⌝ }
+{
+    match how_named(state_word(out, HOW_AT)) {
+        NamedHow::Is(how) => WalkIn::Walk(walk_by(how, out)),
+        NamedHow::NoSuchChoice => WalkIn::NoSuchChoice,
+    }
 }
 
 // ---- put
@@ -314,15 +363,16 @@ fn put_place(out: &mut [u64], p: Place)
     );
 }
 
-fn put_walk(out: &mut [u64], w: LineWalk)
+// The words of a state but that for the reading of end lines.
+fn put_parts(out: &mut [u64], w: LineWalk)
     requires { ⌜ stateSize ≤ length (now out) ⌝ }
-    ensures { λ _. ⌜ now (out .exit) ≡ put (now (out .entry)) 0 (lineWalkWords w) ⌝ }
+    ensures { λ _. ⌜ now (out .exit) ≡ put (now (out .entry)) 0 (partWords w) ⌝ }
 {
     match w {
-        LineWalk::New => {
-            answer_words::put(out, 0, &[0; STATE_WORDS], GIVEN);
+        LineWalk::New(_) => {
+            answer_words::put(out, 0, &[0; HOW_AT], GIVEN);
         }
-        LineWalk::Between(t) => {
+        LineWalk::Between(_, t) => {
             put_rest(out, 1, t);
             answer_words::put(out, REST_WORDS, &[0; PLACE_WORDS], GIVEN);
         }
@@ -331,6 +381,25 @@ fn put_walk(out: &mut [u64], w: LineWalk)
             put_place(out, p);
         }
     }
+}
+
+fn walk_how(w: LineWalk) -> EndLines
+    ensures { λ r. ⌜ r ≡ walkHow w ⌝ }
+{
+    match w {
+        LineWalk::New(how) => how,
+        LineWalk::Between(how, _) => how,
+        LineWalk::Inside(p, _) => p.how,
+    }
+}
+
+fn put_walk(out: &mut [u64], w: LineWalk)
+    requires { ⌜ stateSize ≤ length (now out) ⌝ }
+    ensures { λ _. ⌜ now (out .exit) ≡ put (now (out .entry)) 0 (lineWalkWords w) ⌝ }
+{
+    let how = walk_how(w);
+    put_parts(out, w);
+    answer_words::put(out, HOW_AT, &[how_word(how)], GIVEN);
 }
 
 // A state of the line walk.

@@ -15,6 +15,7 @@ use Rattle.kinds.specs.Kind.{Sort}
 use Rattle.body.specs.Lines.{lineHeadSize, lineHead, columned}
 use Rattle.find.specs.Find.{Span, bytesAt}
 use Rattle.line_record.specs.Record.{maxOffset, columnIf, headSource, entryOf, closedAt}
+use Rattle.line_record.specs.declared.EndLines.{EndLines}
 use Rattle.line_record.specs.declared.LineRecord.{LineRecord}
 use Rattle.line_record.specs.declared.LineSource.{LineSource}
 use Rattle.lines.specs.Lines.{countLines}
@@ -36,7 +37,7 @@ LineMove = Move LineWalk LineRecord Told
 
 -- what the lines at a place have in common
 abbrev pub sourceOf : Place → LineSource
-sourceOf p = headSource (toldHeader (p .head)) (p .file)
+sourceOf p = headSource (p .how) (toldHeader (p .head)) (p .file)
 
 -- what the entry says whose words stand at the place
 abbrev pub entryIn : List ℕ → Place → Reply LineRecord Told
@@ -57,12 +58,12 @@ withHeld t h = record { slot = t .slot; left = t .left; scan = t .scan; held = h
 -- the place n lines on: each line uses up its column entry
 abbrev pub linesOn : Place → ℕ → Place
 linesOn p n =
-    record { head = p .head; end = p .end; next = p .next; file = p .file; lines = p .lines - n; line = p .line + 8 * n; column = p .column + 4 * n }
+    record { head = p .head; how = p .how; end = p .end; next = p .next; file = p .file; lines = p .lines - n; line = p .line + 8 * n; column = p .column + 4 * n }
 
 -- and as 64 bits hold it, for every place and n, also where a walk comes to none
 abbrev pub pastLines : Place → ℕ → Place
 pastLines p n =
-    record { head = p .head; end = p .end; next = p .next; file = p .file; lines = p .lines - n; line = (p .line + 8 * n) % 2 ^ 64; column = (p .column + 4 * n) % 2 ^ 64 }
+    record { head = p .head; how = p .how; end = p .end; next = p .next; file = p .file; lines = p .lines - n; line = (p .line + 8 * n) % 2 ^ 64; column = (p .column + 4 * n) % 2 ^ 64 }
 
 -- a new record r, with the walk w behind it: the record that was held is closed by it
 abbrev pub holdIn : Held → LineRecord → LineWalk → LineMove
@@ -90,6 +91,7 @@ columnPlace false a n = a
 abbrev pub inBlock : Place → LineBlock → ℕ → Place
 inBlock p k x = record {
   head = p .head;
+  how = p .how;
   end = p .end;
   next = x;
   file = k .file;
@@ -114,17 +116,17 @@ endHeld h (One r) =
     cond (ltb maxOffset (h .offset + h .code)) (refused (told why.OffsetTooLarge))
     (gave (One (closedAt (h .section) (h .offset + h .code) r)))
 
-abbrev pub endMove : Rest → Reply Held Told → LineMove
-endMove t (gave o) = pass (Between (withHeld t o))
-endMove t nothing = over
-endMove t (refused e) = fail e
+abbrev pub endMove : EndLines → Rest → Reply Held Told → LineMove
+endMove how t (gave o) = pass (Between how (withHeld t o))
+endMove how t nothing = over
+endMove how t (refused e) = fail e
 
-abbrev pub endOf : LineHeader → Rest → LineMove
-endOf h t = endMove t (endHeld h (t .held))
+abbrev pub endOf : Place → Rest → LineMove
+endOf p t = endMove (p .how) t (endHeld (p .head) (t .held))
 
 abbrev pub blockOf : Place → Rest → Reply Place Told → LineMove
 blockOf p t (gave q) = pass (Inside q t)
-blockOf p t nothing = endOf (p .head) t
+blockOf p t nothing = endOf p t
 blockOf p t (refused e) = fail e
 
 abbrev pub blockTurn : List ℕ → Place → Rest → LineMove
@@ -137,20 +139,20 @@ insideTurn s p t =
 
 -- ---- a subsection
 
-abbrev pub placeAt : LineHeader → ℕ → ℕ → Place
-placeAt h first end = record { head = h; end = end; next = first; file = 0; lines = 0; line = 0; column = 0 }
+abbrev pub placeAt : EndLines → LineHeader → ℕ → ℕ → Place
+placeAt how h first end = record { head = h; how = how; end = end; next = first; file = 0; lines = 0; line = 0; column = 0 }
 
 -- before the first block of the body of n bytes at a
-abbrev pub bodyPlace : List ℕ → ℕ → ℕ → Place
-bodyPlace s a n = placeAt (untoldHeader (lineHead (bytesAt s (record { start = a; len = n })))) (a + lineHeadSize) (a + n)
+abbrev pub bodyPlace : EndLines → List ℕ → ℕ → ℕ → Place
+bodyPlace how s a n = placeAt how (untoldHeader (lineHead (bytesAt s (record { start = a; len = n })))) (a + lineHeadSize) (a + n)
 
 -- a body without room for a header is 1
-unfoldable pub headedPlace : List ℕ → ℕ → ℕ → Reply Place Told
-headedPlace s a n = cond (ltb n lineHeadSize) (refused (told why.Cut)) (gave (bodyPlace s a n))
+unfoldable pub headedPlace : EndLines → List ℕ → ℕ → ℕ → Reply Place Told
+headedPlace how s a n = cond (ltb n lineHeadSize) (refused (told why.Cut)) (gave (bodyPlace how s a n))
 
 -- and one that does not lie in s, for every part
-unfoldable pub enterPlace : List ℕ → ℕ → ℕ → Reply Place Told
-enterPlace s a n = cond (ltb (length s) (a + n)) (refused (told why.Cut)) (headedPlace s a n)
+unfoldable pub enterPlace : EndLines → List ℕ → ℕ → ℕ → Reply Place Told
+enterPlace how s a n = cond (ltb (length s) (a + n)) (refused (told why.Cut)) (headedPlace how s a n)
 
 -- what comes behind the body that the next slot names and that ends at x
 abbrev pub restAt : Rest → ℕ → Rest
@@ -165,37 +167,37 @@ enterMove t x (gave p) = pass (Inside p (restAt t x))
 enterMove t x nothing = over
 enterMove t x (refused e) = fail e
 
-abbrev pub enterAt : List ℕ → Rest → ℕ → ℕ → LineMove
-enterAt s t a n = enterMove t (a + n) (headedPlace s a n)
+abbrev pub enterAt : List ℕ → EndLines → Rest → ℕ → ℕ → LineMove
+enterAt s how t a n = enterMove t (a + n) (headedPlace how s a n)
 
-abbrev pub namedOf : List ℕ → Rest → Reply Span Told → LineMove
-namedOf s t (gave a) = enterAt s t (a .start) (a .len)
-namedOf s t nothing = fail (told why.WrongSlot)
-namedOf s t (refused e) = fail e
+abbrev pub namedOf : List ℕ → EndLines → Rest → Reply Span Told → LineMove
+namedOf s how t (gave a) = enterAt s how t (a .start) (a .len)
+namedOf s how t nothing = fail (told why.WrongSlot)
+namedOf s how t (refused e) = fail e
 
-abbrev pub subTurn : (ℕ → Sort) → List ℕ → List ℕ → Rest → LineMove
-subTurn rule s v t = namedOf s t (slotAt rule s v (t .slot) (t .scan))
+abbrev pub subTurn : (ℕ → Sort) → List ℕ → List ℕ → EndLines → Rest → LineMove
+subTurn rule s v how t = namedOf s how t (slotAt rule s v (t .slot) (t .scan))
 
 -- ---- the whole turn
 
-abbrev pub finishIn : Held → Rest → LineMove
-finishIn Nothing t = over
-finishIn (One r) t = item r (Between (withHeld t Nothing))
+abbrev pub finishIn : EndLines → Held → Rest → LineMove
+finishIn how Nothing t = over
+finishIn how (One r) t = item r (Between how (withHeld t Nothing))
 
-abbrev pub finishOf : Rest → LineMove
-finishOf t = finishIn (t .held) t
+abbrev pub finishOf : EndLines → Rest → LineMove
+finishOf how t = finishIn how (t .held) t
 
-unfoldable pub betweenTurn : (ℕ → Sort) → List ℕ → List ℕ → Rest → LineMove
-betweenTurn rule s v t = cond (eqb (t .left) 0) (finishOf t) (subTurn rule s v t)
+unfoldable pub betweenTurn : (ℕ → Sort) → List ℕ → List ℕ → EndLines → Rest → LineMove
+betweenTurn rule s v how t = cond (eqb (t .left) 0) (finishOf how t) (subTurn rule s v how t)
 
-abbrev pub openOf : Reply ℕ Told → LineMove
-openOf (gave n) = pass (Between (freshRest 0 n))
-openOf nothing = over
-openOf (refused e) = fail e
+abbrev pub openOf : EndLines → Reply ℕ Told → LineMove
+openOf how (gave n) = pass (Between how (freshRest 0 n))
+openOf how nothing = over
+openOf how (refused e) = fail e
 
 abbrev pub turnIn : (ℕ → Sort) → List ℕ → List ℕ → LineWalk → LineMove
-turnIn rule s v New = openOf (countLines rule s)
-turnIn rule s v (Between t) = betweenTurn rule s v t
+turnIn rule s v (New how) = openOf how (countLines rule s)
+turnIn rule s v (Between how t) = betweenTurn rule s v how t
 turnIn rule s v (Inside p t) = insideTurn s p t
 
 unfoldable pub turnOf : (ℕ → Sort) → List ℕ → List ℕ → LineWalk → LineMove

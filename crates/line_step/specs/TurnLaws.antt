@@ -17,6 +17,7 @@ use Rattle.kinds.specs.Kind.{Sort}
 use Rattle.body.specs.Lines.{lineHeadSize, lineHead, columned, lineBytes}
 use Rattle.find.specs.Find.{Span, bytesAt}
 use Rattle.line_record.specs.Record.{maxOffset, columnIf, entryOf, closedAt}
+use Rattle.line_record.specs.declared.EndLines.{EndLines}
 use Rattle.line_record.specs.declared.LineRecord.{LineRecord}
 use Rattle.line_record.specs.declared.LineSource.{LineSource}
 use Rattle.lines.specs.Blocks.{LineBlock, blockAt}
@@ -78,18 +79,18 @@ entry-within b p e q = subst⁻¹ (EntryIn (length b) p) q (entry-lies b p)
 
 -- n lines on, as code reckons it
 pub past-lines-in : (p : Place) (n l a k : ℕ) → l ≡ p .lines - n → a ≡ (p .line + 8 * (n % 2 ^ 61)) % 2 ^ 64 → k ≡ (p .column + 4 * (n % 2 ^ 62)) % 2 ^ 64
-    → record { head = p .head; end = p .end; next = p .next; file = p .file; lines = l; line = a; column = k } ≡ pastLines p n
+    → record { head = p .head; how = p .how; end = p .end; next = p .next; file = p .file; lines = l; line = a; column = k } ≡ pastLines p n
 past-lines-in p n l a k el ea ek =
     let fa : a ≡ (p .line + 8 * n) % 2 ^ 64 = omega arith in
     let fk : k ≡ (p .column + 4 * n) % 2 ^ 64 = omega arith in
-    λ i. record { head = p .head; end = p .end; next = p .next; file = p .file; lines = el i; line = fa i; column = fk i }
+    λ i. record { head = p .head; how = p .how; end = p .end; next = p .next; file = p .file; lines = el i; line = fa i; column = fk i }
 
 -- and where the places fit
 pub past-lines-are : (p : Place) (n : ℕ) → p .line + 8 * n < 2 ^ 64 → p .column + 4 * n < 2 ^ 64 → (q : Place) → q ≡ pastLines p n → q ≡ linesOn p n
 past-lines-are p n h g q e =
     let a : (p .line + 8 * n) % 2 ^ 64 ≡ p .line + 8 * n = omega arith in
     let b : (p .column + 4 * n) % 2 ^ 64 ≡ p .column + 4 * n = omega arith in
-    e ∙ (λ i. record { head = p .head; end = p .end; next = p .next; file = p .file; lines = p .lines - n; line = a i; column = b i })
+    e ∙ (λ i. record { head = p .head; how = p .how; end = p .end; next = p .next; file = p .file; lines = p .lines - n; line = a i; column = b i })
 
 module _ (o : Held) (p : Place) (t : Rest) (r : LineRecord) (u : Rest) (eu : u ≡ withHeld t (One r)) where
   pub hold-nothing : o ≡ Nothing → pass (Inside p u) ≡ holdIn o r (Inside p (withHeld t (One r)))
@@ -127,12 +128,12 @@ module _ (h : LineHeader) (o : Held) where
     end-close g k ek = ap (λ x. gave (One x)) ek ∙ sym (simp (tests, e))
 
 -- a is what the end of the body answers, and u the rest with it
-module _ (h : LineHeader) (t : Rest) where
-  pub end-on : (o : Held) (u : Rest) → gave o ≡ endHeld h (t .held) → u ≡ withHeld t o → pass (Between u) ≡ endOf h t
-  end-on o u e eu = ap (λ x. pass (Between x)) eu ∙ ap (endMove t) e
+module _ (p : Place) (t : Rest) where
+  pub end-on : (o : Held) (u : Rest) → gave o ≡ endHeld (p .head) (t .held) → u ≡ withHeld t o → pass (Between (p .how) u) ≡ endOf p t
+  end-on o u e eu = ap (λ x. pass (Between (p .how) x)) eu ∙ ap (endMove (p .how) t) e
 
-  pub end-refused : (e : Told) → refused e ≡ endHeld h (t .held) → fail e ≡ endOf h t
-  end-refused e q = ap (endMove t) q
+  pub end-refused : (e : Told) → refused e ≡ endHeld (p .head) (t .held) → fail e ≡ endOf p t
+  end-refused e q = ap (endMove (p .how) t) q
 
 module _ (b : List ℕ) (p : Place) (c : Bool) (ec : c ≡ columned (p .head .flags)) where
   pub next-block-is : (a : Answer ℕ LineBlock Told) → a ≡ blockAt c b (p .next) → blockPlace p a ≡ nextBlock b p
@@ -140,10 +141,10 @@ module _ (b : List ℕ) (p : Place) (c : Bool) (ec : c ≡ columned (p .head .fl
 
   -- k is the block, x the place behind it, and j that of its columns
   pub next-block-in : (k : LineBlock) (x j : ℕ) → gives k x ≡ blockAt c b (p .next) → j ≡ columnPlace c (k .start) (k .count)
-      → gave (record { head = p .head; end = p .end; next = x; file = k .file; lines = k .count; line = k .start; column = j }) ≡ nextBlock b p
+      → gave (record { head = p .head; how = p .how; end = p .end; next = x; file = k .file; lines = k .count; line = k .start; column = j }) ≡ nextBlock b p
   next-block-in k x j e ej =
       let ej′ = ej ∙ ap (λ d. columnPlace d (k .start) (k .count)) ec in
-      ap (λ i. gave (record { head = p .head; end = p .end; next = x; file = k .file; lines = k .count; line = k .start; column = i })) ej′
+      ap (λ i. gave (record { head = p .head; how = p .how; end = p .end; next = x; file = k .file; lines = k .count; line = k .start; column = i })) ej′
       ∙ next-block-is (gives k x) e
 
 -- q is a place in the block behind p: its lines and columns lie in the body, and less of that is left
@@ -205,28 +206,28 @@ module _ (s : List ℕ) (p : Place) (t : Rest) where
 
 -- ---- a subsection
 
-module _ (s : List ℕ) (a n : ℕ) where
-  pub enter-outside : length s < a + n → refused (told why.Cut) ≡ enterPlace s a n
+module _ (how : EndLines) (s : List ℕ) (a n : ℕ) where
+  pub enter-outside : length s < a + n → refused (told why.Cut) ≡ enterPlace how s a n
   unfolding enterPlace
   enter-outside h = simp tests
 
   module _ (h₁ : a + n ≤ length s) where
     -- the case that a walk comes to
-    pub enter-lies : headedPlace s a n ≡ enterPlace s a n
+    pub enter-lies : headedPlace how s a n ≡ enterPlace how s a n
     unfolding enterPlace
     enter-lies = sym (simp tests)
 
-    pub enter-short : n < lineHeadSize → refused (told why.Cut) ≡ enterPlace s a n
+    pub enter-short : n < lineHeadSize → refused (told why.Cut) ≡ enterPlace how s a n
     unfolding headedPlace
     enter-short h = sym (simp tests) ∙ enter-lies
 
     -- k is the length of the part that was lent, g its header, and q the place before its first block
     pub enter-in : lineHeadSize ≤ n → (k : ℕ) (g : LineHeader) (q : Place) → k ≡ n
-        → toldHeader g ≡ lineHead (bytesAt s (record { start = a; len = k })) → q ≡ placeAt g (a + lineHeadSize) (a + n) → gave q ≡ enterPlace s a n
+        → toldHeader g ≡ lineHead (bytesAt s (record { start = a; len = k })) → q ≡ placeAt how g (a + lineHeadSize) (a + n) → gave q ≡ enterPlace how s a n
     unfolding headedPlace
     enter-in h k g q ek eg eq =
         let e = eg ∙ ap (λ (j : ℕ). lineHead (bytesAt s (record { start = a; len = j }))) ek in
-        ap gave (eq ∙ ap (λ x. placeAt (untoldHeader x) (a + lineHeadSize) (a + n)) e) ∙ sym (simp tests) ∙ enter-lies
+        ap gave (eq ∙ ap (λ x. placeAt how (untoldHeader x) (a + lineHeadSize) (a + n)) e) ∙ sym (simp tests) ∙ enter-lies
 
 -- a place in a body ends where the body does
 abbrev EndsAt : ℕ → Reply Place Told → Type 0
@@ -234,12 +235,12 @@ EndsAt x (gave q) = q .end ≡ x
 EndsAt x nothing = Unit {0}
 EndsAt x (refused t) = Unit {0}
 
-enter-ends-at : (s : List ℕ) (a n : ℕ) → EndsAt (a + n) (enterPlace s a n)
+enter-ends-at : (how : EndLines) (s : List ℕ) (a n : ℕ) → EndsAt (a + n) (enterPlace how s a n)
 unfolding enterPlace headedPlace
-enter-ends-at s a n = by-cases (EndsAt (a + n)) (ltb (length s) (a + n)) (λ e. tt) (λ e. by-cases (EndsAt (a + n)) (ltb n lineHeadSize) (λ f. tt) (λ f. refl))
+enter-ends-at how s a n = by-cases (EndsAt (a + n)) (ltb (length s) (a + n)) (λ e. tt) (λ e. by-cases (EndsAt (a + n)) (ltb n lineHeadSize) (λ f. tt) (λ f. refl))
 
-pub enter-ends : (s : List ℕ) (a n : ℕ) (q : Place) → gave q ≡ enterPlace s a n → q .end ≡ a + n
-enter-ends s a n q e = subst⁻¹ (EndsAt (a + n)) e (enter-ends-at s a n)
+pub enter-ends : (how : EndLines) (s : List ℕ) (a n : ℕ) (q : Place) → gave q ≡ enterPlace how s a n → q .end ≡ a + n
+enter-ends how s a n q e = subst⁻¹ (EndsAt (a + n)) e (enter-ends-at how s a n)
 
 -- what comes behind a body, as code reckons it
 pub behind-in : (t : Rest) (x i l : ℕ) → i ≡ (t .slot + 1) % 2 ^ 64 → l ≡ t .left - 1 → record { slot = i; left = l; scan = x; held = t .held } ≡ behindBody t x
@@ -251,38 +252,38 @@ behind-is t x h =
     let e : (t .slot + 1) % 2 ^ 64 ≡ t .slot + 1 = omega arith in
     ap (λ k. record { slot = k; left = t .left - 1; scan = x; held = t .held }) e
 
-module _ (rule : ℕ → Sort) (s v : List ℕ) (t : Rest) where
-  pub sub-is : (x : Reply Span Told) → x ≡ slotAt rule s v (t .slot) (t .scan) → namedOf s t x ≡ subTurn rule s v t
-  sub-is x e = ap (namedOf s t) e
+module _ (rule : ℕ → Sort) (s v : List ℕ) (how : EndLines) (t : Rest) where
+  pub sub-is : (x : Reply Span Told) → x ≡ slotAt rule s v (t .slot) (t .scan) → namedOf s how t x ≡ subTurn rule s v how t
+  sub-is x e = ap (namedOf s how t) e
 
   -- the slot names the body of n bytes at a
   module _ (a n : ℕ) (h : length v < 2 ^ 64) (e : gave (record { start = a; len = n }) ≡ slotAt rule s v (t .slot) (t .scan)) where
-    sub-lies : enterMove t (a + n) (enterPlace s a n) ≡ subTurn rule s v t
+    sub-lies : enterMove t (a + n) (enterPlace how s a n) ≡ subTurn rule s v how t
     sub-lies =
         let i = slot-inside rule s v (t .slot) (t .scan) (record { start = a; len = n }) e in
-        ap (enterMove t (a + n)) (sym (enter-lies s a n (i .1))) ∙ sub-is (gave (record { start = a; len = n })) e
+        ap (enterMove t (a + n)) (sym (enter-lies how s a n (i .1))) ∙ sub-is (gave (record { start = a; len = n })) e
 
     -- q is the place in it, and u what comes behind it
-    pub sub-entered : (q : Place) (u : Rest) → gave q ≡ enterPlace s a n → u ≡ behindBody t (q .end) → pass (Inside q u) ≡ subTurn rule s v t
+    pub sub-entered : (q : Place) (u : Rest) → gave q ≡ enterPlace how s a n → u ≡ behindBody t (q .end) → pass (Inside q u) ≡ subTurn rule s v how t
     sub-entered q u f eu =
         let i = slot-inside rule s v (t .slot) (t .scan) (record { start = a; len = n }) e in
-        ap (λ x. pass (Inside q x)) (eu ∙ ap (behindBody t) (enter-ends s a n q f) ∙ behind-is t (a + n) (omega arith)) ∙ ap (enterMove t (a + n)) f ∙ sub-lies
+        ap (λ x. pass (Inside q x)) (eu ∙ ap (behindBody t) (enter-ends how s a n q f) ∙ behind-is t (a + n) (omega arith)) ∙ ap (enterMove t (a + n)) f ∙ sub-lies
 
-    pub sub-cut : (x : Told) → refused x ≡ enterPlace s a n → fail x ≡ subTurn rule s v t
+    pub sub-cut : (x : Told) → refused x ≡ enterPlace how s a n → fail x ≡ subTurn rule s v how t
     sub-cut x f = ap (enterMove t (a + n)) f ∙ sub-lies
 
   -- ---- the whole turn
 
-  pub between-end : t .left ≡ 0 → finishOf t ≡ betweenTurn rule s v t
+  pub between-end : t .left ≡ 0 → finishOf how t ≡ betweenTurn rule s v how t
   unfolding betweenTurn
   between-end h = sym (simp tests)
 
-  pub between-sub : (t .left ≡ 0 → ⊥) → subTurn rule s v t ≡ betweenTurn rule s v t
+  pub between-sub : (t .left ≡ 0 → ⊥) → subTurn rule s v how t ≡ betweenTurn rule s v how t
   unfolding betweenTurn
   between-sub h = sym (simp tests)
 
-pub finish-one : (o : Held) (t : Rest) (r : LineRecord) (u : Rest) → o ≡ One r → u ≡ withHeld t Nothing → item r (Between u) ≡ finishIn o t
-finish-one o t r u e eu = rw e (ap (λ k. item r (Between k)) eu)
+pub finish-one : (how : EndLines) (o : Held) (t : Rest) (r : LineRecord) (u : Rest) → o ≡ One r → u ≡ withHeld t Nothing → item r (Between how u) ≡ finishIn how o t
+finish-one how o t r u e eu = rw e (ap (λ k. item r (Between how k)) eu)
 
 module _ (rule : ℕ → Sort) (s v : List ℕ) (w : LineWalk) where
   pub turn-long : longest < length s → fail (told why.TooLong) ≡ turnOf rule s v w

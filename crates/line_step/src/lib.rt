@@ -11,6 +11,7 @@ ghost use Rattle.line_step.specs.Turn.{sourceOf, lineEntryAt, freshRest,
 ghost use Rattle.line_step.specs.Turn.{endOf, blockTurn, insideTurn, placeAt, enterPlace, behindBody, subTurn, finishOf, betweenTurn, openOf, turnOf};
 ghost use Rattle.lines.specs.Lines.{countLines};
 ghost use Rattle.line_step.specs.Told.{toldNextBlock, toldEndBody, toldEntered, toldTurn};
+use line_record::EndLines;
 use line_record::Entry;
 use line_record::LineRecord;
 use line_record::LineSource;
@@ -46,7 +47,8 @@ pub struct Rest {
     pub held: Held,
 }
 
-// A place in a subsection: its header and its end, the next block; of the present block the file, the lines left, the next line and column.
+// A place in a subsection: its header and its end, the next block; of the present block the file, the lines left, the next line and column; and how end lines
+// are read, which stands last, since a walk takes up to 12 % fewer instructions so (docs/SPEED.md).
 pub struct Place {
     pub head: LineHeader,
     pub end: usize,
@@ -55,12 +57,14 @@ pub struct Place {
     pub lines: usize,
     pub line: usize,
     pub column: usize,
+    pub how: EndLines,
 }
 
-// A state of the walk: new, between two subsections, or inside one.
+// A state of the walk: new, between two subsections, or inside one. Each says once how end lines are read, inside a subsection by its place, and each turn
+// hands it on: no state names two readings, and no turn changes it.
 pub enum LineWalk {
-    New,
-    Between(Rest),
+    New(EndLines),
+    Between(EndLines, Rest),
     Inside(Place, Rest),
 }
 
@@ -77,12 +81,14 @@ pub fn source_of(p: Place) -> LineSource
     ensures { λ r. ⌜ r ≡ sourceOf p ⌝ }
 {
     let h = p.head;
+    let how = p.how;
     let columns = has_columns(h.flags);
     LineSource {
         section: h.section,
         base: h.offset,
         file: p.file,
         columns,
+        how,
     }
 }
 
@@ -164,8 +170,10 @@ pub fn past_lines(p: Place, n: usize) -> Place
     ensures { λ r. ⌜ r ≡ pastLines p n ⌝ }
 {
     let head = p.head;
+    let how = p.how;
     Place {
         head,
+        how,
         end: p.end,
         next: p.next,
         file: p.file,
@@ -263,12 +271,14 @@ pub fn end_body(h: LineHeader, held: Held) -> EndBody
     }
 }
 
-fn end_turn(h: LineHeader, t: Rest) -> Turn
-    ensures { λ r. ⌜ toldTurn r ≡ endOf h t ⌝ }
+fn end_turn(p: Place, t: Rest) -> Turn
+    ensures { λ r. ⌜ toldTurn r ≡ endOf p t ⌝ }
 {
+    let h = p.head;
+    let how = p.how;
     let held = t.held;
     match end_body(h, held) {
-        EndBody::On(closing) => Turn::Pass(LineWalk::Between(with_held(t, closing))),
+        EndBody::On(closing) => Turn::Pass(LineWalk::Between(how, with_held(t, closing))),
         EndBody::Refused(why) => Turn::Refused(why),
     }
 }
@@ -277,10 +287,9 @@ fn end_turn(h: LineHeader, t: Rest) -> Turn
 fn block_turn(body: &[u8], p: Place, t: Rest) -> Turn
     ensures { λ r. ⌜ toldTurn r ≡ blockTurn (now (body .entry)) p t ⌝ }
 {
-    let h = p.head;
     match next_block(body, p) {
         NextBlock::In(q) => Turn::Pass(LineWalk::Inside(q, t)),
-        NextBlock::Done => end_turn(h, t),
+        NextBlock::Done => end_turn(p, t),
         NextBlock::Refused(why) => Turn::Refused(why),
     }
 }
@@ -300,11 +309,12 @@ fn inside_turn(area: &[u8], p: Place, t: Rest) -> Turn
 }
 
 // Before the first block, at `first`, of a subsection that ends at `end`.
-pub fn place_at(head: LineHeader, first: usize, end: usize) -> Place
-    ensures { λ r. ⌜ r ≡ placeAt head first end ⌝ }
+pub fn place_at(how: EndLines, head: LineHeader, first: usize, end: usize) -> Place
+    ensures { λ r. ⌜ r ≡ placeAt how head first end ⌝ }
 {
     Place {
         head,
+        how,
         end,
         next: first,
         file: 0,
@@ -321,8 +331,8 @@ pub enum Entered {
 }
 
 // Into the subsection whose body of `len` bytes starts at `start`. A body that does not lie in the area is 1.
-pub fn enter(area: &[u8], start: usize, len: usize) -> Entered
-    ensures { λ r. ⌜ toldEntered r ≡ enterPlace (now (area .entry)) start len ⌝ }
+pub fn enter(area: &[u8], how: EndLines, start: usize, len: usize) -> Entered
+    ensures { λ r. ⌜ toldEntered r ≡ enterPlace how (now (area .entry)) start len ⌝ }
 {
     if area.len() < start {
         return Entered::Refused(Refusal::Cut);
@@ -335,15 +345,15 @@ pub fn enter(area: &[u8], start: usize, len: usize) -> Entered
     }
     let end = start + len;
     let h = header_of(&area[start..end]);
-    Entered::In(place_at(h, start + LINE_HEAD, end))
+    Entered::In(place_at(how, h, start + LINE_HEAD, end))
 }
 
 // The next subsection: the one that the next slot names.
-fn sub_turn(area: &[u8], slots: &[u32], t: Rest) -> Turn
-    ensures { λ r. ⌜ toldTurn r ≡ subTurn crateRule (now (area .entry)) (now (slots .entry)) t ⌝ }
+fn sub_turn(area: &[u8], slots: &[u32], how: EndLines, t: Rest) -> Turn
+    ensures { λ r. ⌜ toldTurn r ≡ subTurn crateRule (now (area .entry)) (now (slots .entry)) how t ⌝ }
 {
     match slot_body(area, slots, t.slot, t.scan) {
-        Named::Body { start, len } => match enter(area, start, len) {
+        Named::Body { start, len } => match enter(area, how, start, len) {
             Entered::In(p) => {
                 let u = behind_body(t, p.end);
                 Turn::Pass(LineWalk::Inside(p, u))
@@ -355,31 +365,31 @@ fn sub_turn(area: &[u8], slots: &[u32], t: Rest) -> Turn
 }
 
 // No subsection is left: the held record is ready.
-fn finish(t: Rest) -> Turn
-    ensures { λ r. ⌜ toldTurn r ≡ finishOf t ⌝ }
+fn finish(how: EndLines, t: Rest) -> Turn
+    ensures { λ r. ⌜ toldTurn r ≡ finishOf how t ⌝ }
 {
     let held = t.held;
     match held {
         Held::Nothing => Turn::Over,
-        Held::One(r) => Turn::Line(r, LineWalk::Between(with_held(t, Held::Nothing))),
+        Held::One(r) => Turn::Line(r, LineWalk::Between(how, with_held(t, Held::Nothing))),
     }
 }
 
-fn between_turn(area: &[u8], slots: &[u32], t: Rest) -> Turn
-    ensures { λ r. ⌜ toldTurn r ≡ betweenTurn crateRule (now (area .entry)) (now (slots .entry)) t ⌝ }
+fn between_turn(area: &[u8], slots: &[u32], how: EndLines, t: Rest) -> Turn
+    ensures { λ r. ⌜ toldTurn r ≡ betweenTurn crateRule (now (area .entry)) (now (slots .entry)) how t ⌝ }
 {
     if t.left == 0 {
-        return finish(t);
+        return finish(how, t);
     }
-    sub_turn(area, slots, t)
+    sub_turn(area, slots, how, t)
 }
 
 // A new walk makes the tests over the whole area.
-fn open_turn(area: &[u8]) -> Turn
-    ensures { λ r. ⌜ toldTurn r ≡ openOf (countLines crateRule (now (area .entry))) ⌝ }
+fn open_turn(area: &[u8], how: EndLines) -> Turn
+    ensures { λ r. ⌜ toldTurn r ≡ openOf how (countLines crateRule (now (area .entry))) ⌝ }
 {
     match count_lines(area) {
-        Counted::Lines(n) => Turn::Pass(LineWalk::Between(fresh_rest(0, n))),
+        Counted::Lines(n) => Turn::Pass(LineWalk::Between(how, fresh_rest(0, n))),
         Counted::Refused(why) => Turn::Refused(why),
     }
 }
@@ -391,8 +401,8 @@ pub fn take_turn(area: &[u8], slots: &[u32], w: LineWalk) -> Turn
         return Turn::Refused(Refusal::TooLong);
     }
     match w {
-        LineWalk::New => open_turn(area),
-        LineWalk::Between(t) => between_turn(area, slots, t),
+        LineWalk::New(how) => open_turn(area, how),
+        LineWalk::Between(how, t) => between_turn(area, slots, how, t),
         LineWalk::Inside(p, t) => inside_turn(area, p, t),
     }
 }

@@ -15,6 +15,7 @@ use Rattle.kinds.specs.Kind.{Sort}
 use Rattle.body.specs.Lines.{LineHead, lineHeadSize, lineHead, columned, Block, blocks}
 use Rattle.body.specs.LinesLaws.{blocks-by}
 use Rattle.line_record.specs.declared.LineSource.{LineSource}
+use Rattle.line_record.specs.declared.EndLines.{EndLines}
 use Rattle.line_record.specs.declared.LineRecord.{LineRecord}
 use Rattle.line_record.specs.Flags.{isMarker}
 use Rattle.line_record.specs.Record.{maxOffset, headSource, entryOf, closedAt}
@@ -28,13 +29,13 @@ use Rattle.line_walk.specs.WalkLaws.{walk-is}
 
 module _ (rule : ℕ → Sort) (s : List ℕ) (n : ℕ) where
   -- what stands behind the list does not matter
-  pub records-built : (vs : List ℕ) → gave n ≡ countLines rule s → recordsOf rule s (orderOf rule s ++ vs) ≡ areaRecords rule s
-  records-built vs e = ap (λ l. settle (eventsOf l)) (built-list rule s n e vs)
+  pub records-built : (how : EndLines) (vs : List ℕ) → gave n ≡ countLines rule s → recordsOf how rule s (orderOf rule s ++ vs) ≡ areaRecords how rule s
+  records-built how vs e = ap (λ l. settle (eventsOf how l)) (built-list rule s n e vs)
 
   -- THE THEOREM for a list that `order_list` made in slots that held xs
-  pub walk-built : (xs : List ℕ) → gave n ≡ ordered rule s (length xs) → (k : ℕ)
-      → calls (nextOf rule s (slotsAfter rule s xs)) k New ≡ replies k (areaRecords rule s)
-  walk-built xs e k = walk-is rule s (slotsAfter rule s xs) k ∙ ap (λ l. replies k (settle (eventsOf l))) (built rule s xs n e)
+  pub walk-built : (how : EndLines) (xs : List ℕ) → gave n ≡ ordered rule s (length xs) → (k : ℕ)
+      → calls (nextOf rule s (slotsAfter rule s xs)) k (New how) ≡ replies k (areaRecords how rule s)
+  walk-built how xs e k = walk-is rule s (slotsAfter rule s xs) how k ∙ ap (λ l. replies k (settle (eventsOf how l))) (built rule s xs n e)
 
 -- ---- why the records of bodies can fail: 1, 7 and 8, and nothing else
 
@@ -54,32 +55,32 @@ module _ (Q : Told → Type 0) (cut : Q (told why.Cut)) (size : Q (told why.Bloc
   then-by nothing l f g = g
   then-by (refused t) l f g = f
 
-  lines-by : (h : LineHead) (f : ℕ) (ws cs : List ℕ) (l : Events) → FailsBy Q l → FailsBy Q (linesThen h f ws cs l)
+  lines-by : (how : EndLines) (h : LineHead) (f : ℕ) (ws cs : List ℕ) (l : Events) → FailsBy Q l → FailsBy Q (linesThen how h f ws cs l)
   unfolding linesThen
-  lines-by h f (offset ∷ flags ∷ ws) cs l g =
-      then-by (entryOf (headSource h f) offset flags cs) (linesThen h f ws (behind cs) l)
-      (entry-by (headSource h f) offset flags cs) (lines-by h f ws (behind cs) l g)
-  lines-by h f (offset ∷ []) cs l g = g
-  lines-by h f [] cs l g = g
+  lines-by how h f (offset ∷ flags ∷ ws) cs l g =
+      then-by (entryOf (headSource how h f) offset flags cs) (linesThen how h f ws (behind cs) l)
+      (entry-by (headSource how h f) offset flags cs) (lines-by how h f ws (behind cs) l g)
+  lines-by how h f (offset ∷ []) cs l g = g
+  lines-by how h f [] cs l g = g
 
-  blocks-then-by : (h : LineHead) (k : Listing Block Told) (l : Events) → FailsBy Q k → FailsBy Q l → FailsBy Q (blocksThen h k l)
+  blocks-then-by : (how : EndLines) (h : LineHead) (k : Listing Block Told) (l : Events) → FailsBy Q k → FailsBy Q l → FailsBy Q (blocksThen how h k l)
   unfolding blocksThen
-  blocks-then-by h (more b k) l e g = lines-by h (b .file) (b .lines) (b .columns) (blocksThen h k l) (blocks-then-by h k l e g)
-  blocks-then-by h ends l e g = g
-  blocks-then-by h (fails t) l e g = e
+  blocks-then-by how h (more b k) l e g = lines-by how h (b .file) (b .lines) (b .columns) (blocksThen how h k l) (blocks-then-by how h k l e g)
+  blocks-then-by how h ends l e g = g
+  blocks-then-by how h (fails t) l e g = e
 
-  pub body-by : (b : Body) (l : Events) → FailsBy Q l → FailsBy Q (bodyThen b l)
+  pub body-by : (how : EndLines) (b : Body) (l : Events) → FailsBy Q l → FailsBy Q (bodyThen how b l)
   unfolding bodyThen
-  body-by b l g =
+  body-by how b l g =
       let h = lineHead (b .bytes) in
       let r = drop lineHeadSize (b .bytes) in
       by-cases (FailsBy Q) (ltb (length (b .bytes)) lineHeadSize) (λ e. cut)
-      (λ e. blocks-then-by h (blocks (columned (h .flags)) r) l (blocks-by Q cut size (columned (h .flags)) r) g)
+      (λ e. blocks-then-by how h (blocks (columned (h .flags)) r) l (blocks-by Q cut size (columned (h .flags)) r) g)
 
-  events-by : (bs : List Body) → FailsBy Q (eventsOf (before bs ends))
+  events-by : (how : EndLines) (bs : List Body) → FailsBy Q (eventsOf how (before bs ends))
   unfolding eventsOf
-  events-by [] = tt
-  events-by (b ∷ bs) = body-by b (eventsOf (before bs ends)) (events-by bs)
+  events-by how [] = tt
+  events-by how (b ∷ bs) = body-by how b (eventsOf how (before bs ends)) (events-by how bs)
 
   settle-one-by : (o : LineRecord) (l : Events) → FailsBy Q l → FailsBy Q (settleOne o l)
   unfolding settleOne
@@ -96,9 +97,9 @@ module _ (Q : Told → Type 0) (cut : Q (told why.Cut)) (size : Q (told why.Bloc
   settle-by ends e = tt
   settle-by (fails t) e = e
 
-  pub area-fails : (rule : ℕ → Sort) (s : List ℕ) → FailsBy Q (areaRecords rule s)
-  area-fails rule s = settle-by (eventsOf (before (inOrder rule s) ends)) (events-by (inOrder rule s))
+  pub area-fails : (how : EndLines) (rule : ℕ → Sort) (s : List ℕ) → FailsBy Q (areaRecords how rule s)
+  area-fails how rule s = settle-by (eventsOf how (before (inOrder rule s) ends)) (events-by how (inOrder rule s))
 
 -- so the walk over a list left as it was built is never refused for a slot
-pub never-slot : (rule : ℕ → Sort) (s : List ℕ) → FailsBy (λ t. t .number ≡ 19 → ⊥) (areaRecords rule s)
+pub never-slot : (how : EndLines) (rule : ℕ → Sort) (s : List ℕ) → FailsBy (λ t. t .number ≡ 19 → ⊥) (areaRecords how rule s)
 never-slot = area-fails (λ t. t .number ≡ 19 → ⊥) (λ e. omega arith) (λ e. omega arith) (λ e. omega arith)

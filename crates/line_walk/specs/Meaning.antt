@@ -1,8 +1,8 @@
--- What the line walk means: the line bodies that the list names, one after the other, as events; and the records that these events settle. There
--- is no state in it, and no place but where each body starts, which is handed on with its bytes. Source: document 01, "Line subsections": markers
--- give no record but use up their column entry; one record is held back until its end is known; the ends are the next non-marker line's offset, then
--- section offset plus code size when a subsection's blocks are done, this also when a later subsection had no line; 8 at a subsection's end only if a
--- record is held.
+-- What the line walk means: the line bodies that the list names, one after the other, as events; and the records that these events settle, their end lines
+-- by the one reading that the caller names. There is no state in it, and no place but where each body starts, which is handed on with its bytes. Source:
+-- document 01, "Line subsections": markers give no record but use up their column entry; one record is held back until its end is known; the ends are the
+-- next non-marker line's offset, then section offset plus code size when a subsection's blocks are done, this also when a later subsection had no line; 8 at
+-- a subsection's end only if a record is held.
 -- Definitions only; a reader must believe them.
 use Prim.Native.Nat.{ℕ, _+_}
 use mathlib.Core.List.{List, [], _∷_}
@@ -15,6 +15,7 @@ use Rattle.refusal.specs.declared.Refusal.the-variants as why
 use Rattle.kinds.specs.Kind.{Sort}
 use Rattle.body.specs.Lines.{LineHead, lineHeadSize, lineHead, columned, Block, blocks}
 use Rattle.line_record.specs.Record.{maxOffset, headSource, entryOf, closedAt}
+use Rattle.line_record.specs.declared.EndLines.{EndLines}
 use Rattle.line_record.specs.declared.LineRecord.{LineRecord}
 use Rattle.lines.specs.Lines.{Body}
 use Rattle.lines.specs.Slots.{listOf}
@@ -40,28 +41,28 @@ behind [] = []
 behind (w ∷ ws) = ws
 
 -- the lines of a block of file f, offset and flags of each, with a column word for each if there are columns; and then l
-unfoldable pub linesThen : LineHead → ℕ → List ℕ → List ℕ → Events → Events
-linesThen h f (offset ∷ flags ∷ ws) cs l =
-    entryThen (entryOf (headSource h f) offset flags cs) (linesThen h f ws (behind cs) l)
-linesThen h f (offset ∷ []) cs l = l
-linesThen h f [] cs l = l
+unfoldable pub linesThen : EndLines → LineHead → ℕ → List ℕ → List ℕ → Events → Events
+linesThen how h f (offset ∷ flags ∷ ws) cs l =
+    entryThen (entryOf (headSource how h f) offset flags cs) (linesThen how h f ws (behind cs) l)
+linesThen how h f (offset ∷ []) cs l = l
+linesThen how h f [] cs l = l
 
 -- the blocks of a subsection, its end, and then l
-unfoldable pub blocksThen : LineHead → Listing Block Told → Events → Events
-blocksThen h (more k ks) l = linesThen h (k .file) (k .lines) (k .columns) (blocksThen h ks l)
-blocksThen h ends l = more (done h) l
-blocksThen h (fails t) l = fails t
+unfoldable pub blocksThen : EndLines → LineHead → Listing Block Told → Events → Events
+blocksThen how h (more k ks) l = linesThen how h (k .file) (k .lines) (k .columns) (blocksThen how h ks l)
+blocksThen how h ends l = more (done h) l
+blocksThen how h (fails t) l = fails t
 
 -- a line body, and then l
-unfoldable pub bodyThen : Body → Events → Events
-bodyThen b l =
+unfoldable pub bodyThen : EndLines → Body → Events → Events
+bodyThen how b l =
     cond (ltb (length (b .bytes)) lineHeadSize) (fails (told why.Cut))
-    (blocksThen (lineHead (b .bytes)) (blocks (columned (lineHead (b .bytes) .flags)) (drop lineHeadSize (b .bytes))) l)
+    (blocksThen how (lineHead (b .bytes)) (blocks (columned (lineHead (b .bytes) .flags)) (drop lineHeadSize (b .bytes))) l)
 
-unfoldable pub eventsOf : Listing Body Told → Events
-eventsOf (more b l) = bodyThen b (eventsOf l)
-eventsOf ends = ends
-eventsOf (fails t) = fails t
+unfoldable pub eventsOf : EndLines → Listing Body Told → Events
+eventsOf how (more b l) = bodyThen how b (eventsOf how l)
+eventsOf how ends = ends
+eventsOf how (fails t) = fails t
 
 -- ---- records
 
@@ -84,9 +85,9 @@ settle ends = ends
 settle (fails t) = fails t
 
 -- THE RECORDS of an area s and a list v
-abbrev pub recordsOf : (ℕ → Sort) → List ℕ → List ℕ → Records
-recordsOf rule s v = settle (eventsOf (listOf rule s v))
+abbrev pub recordsOf : EndLines → (ℕ → Sort) → List ℕ → List ℕ → Records
+recordsOf how rule s v = settle (eventsOf how (listOf rule s v))
 
 -- THE RECORDS of an area alone: of its line bodies in ascending (section, offset), equal keys in area order
-abbrev pub areaRecords : (ℕ → Sort) → List ℕ → Records
-areaRecords rule s = settle (eventsOf (before (inOrder rule s) ends))
+abbrev pub areaRecords : EndLines → (ℕ → Sort) → List ℕ → Records
+areaRecords how rule s = settle (eventsOf how (before (inOrder rule s) ends))

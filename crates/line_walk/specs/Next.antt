@@ -31,8 +31,8 @@ counting s nothing = 0
 counting s (refused t) = 0
 
 abbrev pub todo : (ℕ → Sort) → List ℕ → LineWalk → ℕ
-todo rule s New = suc (counting s (countLines rule s))
-todo rule s (Between t) = turnBound s (t .left) + oneHeld (t .held)
+todo rule s (New how) = suc (counting s (countLines rule s))
+todo rule s (Between how t) = turnBound s (t .left) + oneHeld (t .held)
 todo rule s (Inside p t) = suc (turnBound s (t .left) + (p .end - p .next) + 2 * p .lines + oneHeld (t .held))
 
 -- what `next_line` answers

@@ -17,6 +17,7 @@ use Rattle.refusal.specs.Told.{Told, longest}
 use Rattle.kinds.specs.Kind.{Sort}
 use Rattle.find.specs.Find.{Span}
 use Rattle.line_record.specs.Record.{maxOffset}
+use Rattle.line_record.specs.declared.EndLines.{EndLines}
 use Rattle.line_record.specs.declared.LineRecord.{LineRecord}
 use Rattle.lines.specs.declared.LineHeader.{LineHeader}
 use Rattle.lines.specs.Lines.{countLines}
@@ -42,39 +43,41 @@ module _ (rule : ℕ → Sort) (s v : List ℕ) where
   abbrev Less : ℕ → LineMove → Type 0
   Less m u = To u (λ w. todo rule s w < m)
 
-  open-less : (k : Reply ℕ Told) → Less (suc (counting s k)) (openOf k)
-  open-less (gave n) = omega arith
-  open-less nothing = tt
-  open-less (refused t) = tt
+  open-less : (how : EndLines) (k : Reply ℕ Told) → Less (suc (counting s k)) (openOf how k)
+  open-less how (gave n) = omega arith
+  open-less how nothing = tt
+  open-less how (refused t) = tt
 
-  finish-less : (t : Rest) (o : Held) → Less (turnBound s (t .left) + oneHeld o) (finishIn o t)
-  finish-less t Nothing = tt
-  finish-less t (One r) = omega arith
+  finish-less : (how : EndLines) (t : Rest) (o : Held) → Less (turnBound s (t .left) + oneHeld o) (finishIn how o t)
+  finish-less how t Nothing = tt
+  finish-less how t (One r) = omega arith
 
-  enter-less : (t : Rest) (a n : ℕ) → 1 ≤ t .left → a + n ≤ length s → Less (todo rule s (Between t)) (enterAt s t a n)
+  enter-less : (how : EndLines) (t : Rest) (a n : ℕ) → 1 ≤ t .left → a + n ≤ length s → Less (todo rule s (Between how t)) (enterAt s how t a n)
   unfolding headedPlace
-  enter-less t a n h g =
-      by-cases (λ k. Less (todo rule s (Between t)) (enterMove t (a + n) k)) (ltb n 12) (λ e. tt) (λ e. omega (arith, weight-less s (t .left) h, ltb-false n 12 e))
+  enter-less how t a n h g =
+      by-cases (λ k. Less (todo rule s (Between how t)) (enterMove t (a + n) k)) (ltb n 12) (λ e. tt) (λ e. omega (arith, weight-less s (t .left) h, ltb-false n 12 e))
 
-  named-less : (t : Rest) (o : Reply Span Told) → 1 ≤ t .left → Gives (SlotIn rule s v (t .slot) (t .scan)) o → Less (todo rule s (Between t)) (namedOf s t o)
-  named-less t (gave a) h g = enter-less t (a .start) (a .len) h (g .1)
-  named-less t nothing h g = tt
-  named-less t (refused e) h g = tt
+  named-less : (how : EndLines) (t : Rest) (o : Reply Span Told) → 1 ≤ t .left → Gives (SlotIn rule s v (t .slot) (t .scan)) o
+      → Less (todo rule s (Between how t)) (namedOf s how t o)
+  named-less how t (gave a) h g = enter-less how t (a .start) (a .len) h (g .1)
+  named-less how t nothing h g = tt
+  named-less how t (refused e) h g = tt
 
-  between-less : (t : Rest) → Less (todo rule s (Between t)) (betweenTurn rule s v t)
+  between-less : (how : EndLines) (t : Rest) → Less (todo rule s (Between how t)) (betweenTurn rule s v how t)
   unfolding betweenTurn
-  between-less t =
-      by-cases (Less (todo rule s (Between t))) (eqb (t .left) 0) (λ e. finish-less t (t .held))
-      (λ e. named-less t (slotAt rule s v (t .slot) (t .scan)) (omega (arith, eqb-false)) (slot-lies rule s v (t .slot) (t .scan)))
+  between-less how t =
+      by-cases (Less (todo rule s (Between how t))) (eqb (t .left) 0) (λ e. finish-less how t (t .held))
+      (λ e. named-less how t (slotAt rule s v (t .slot) (t .scan)) (omega (arith, eqb-false)) (slot-lies rule s v (t .slot) (t .scan)))
 
-  end-less : (h : LineHeader) (t : Rest) (o : Held) (m : ℕ) → turnBound s (t .left) + oneHeld o < m → oneHeld o ≡ oneHeld (t .held) → Less m (endMove t (endHeld h o))
+  end-less : (how : EndLines) (h : LineHeader) (t : Rest) (o : Held) (m : ℕ) → turnBound s (t .left) + oneHeld o < m → oneHeld o ≡ oneHeld (t .held)
+      → Less m (endMove how t (endHeld h o))
   unfolding endHeld
-  end-less h t Nothing m l e = omega arith
-  end-less h t (One r) m l e = by-cases (λ k. Less m (endMove t k)) (ltb maxOffset (h .offset + h .code)) (λ g. tt) (λ g. l)
+  end-less how h t Nothing m l e = omega arith
+  end-less how h t (One r) m l e = by-cases (λ k. Less m (endMove how t k)) (ltb maxOffset (h .offset + h .code)) (λ g. tt) (λ g. l)
 
   block-less : (p : Place) (t : Rest) (k : Reply Place Told) → p .lines ≡ 0 → OpensIn p k → Less (todo rule s (Inside p t)) (blockOf p t k)
   block-less p t (gave q) h o = omega (arith, o .less)
-  block-less p t nothing h o = end-less (p .head) t (t .held) (todo rule s (Inside p t)) (omega arith) refl
+  block-less p t nothing h o = end-less (p .how) (p .head) t (t .held) (todo rule s (Inside p t)) (omega arith) refl
   block-less p t (refused e) h o = tt
 
   hold-less : (p : Place) (t : Rest) (r : LineRecord) (o : Held) → 1 ≤ p .lines
@@ -97,8 +100,8 @@ module _ (rule : ℕ → Sort) (s v : List ℕ) where
       (λ e. line-less p t (lineEntryAt b p) (omega (arith, eqb-false))))
 
   turn-less : (w : LineWalk) → Less (todo rule s w) (turnIn rule s v w)
-  turn-less New = open-less (countLines rule s)
-  turn-less (Between t) = between-less t
+  turn-less (New how) = open-less how (countLines rule s)
+  turn-less (Between how t) = between-less how t
   turn-less (Inside p t) = inside-less p t
 
   pub falls : (w : LineWalk) → To (turnOf rule s v w) (λ t. todo rule s t < todo rule s w)

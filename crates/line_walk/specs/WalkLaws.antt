@@ -1,4 +1,5 @@
--- The walk is its meaning: n steps from a new walk on answer the records of `recordsOf` in order, and then its end again and again.
+-- The walk is its meaning: n steps from a new walk on answer the records of `recordsOf` in order, by the reading of end lines that the new walk names, and
+-- then its end again and again.
 use Prim.Native.Nat.{ℕ, zero, suc, _+_, _-_, _*_, _<_, _≤_}
 use mathlib.Core.Path.{_≡_, refl, sym, ap, _∙_, subst⁻¹}
 use mathlib.Core.List.{List, [], _∷_}
@@ -25,6 +26,7 @@ use Rattle.body.specs.Words.{wordsIn}
 use Rattle.body.specs.Lines.{LineHead, lineHead, columned, columnsOf, blocks}
 use Rattle.find.specs.Find.{same, Span, bytesAt}
 use Rattle.line_record.specs.Record.{maxOffset, columnIf, headSource, entryOf, closedAt}
+use Rattle.line_record.specs.declared.EndLines.{EndLines}
 use Rattle.line_record.specs.declared.LineRecord.{LineRecord}
 use Rattle.lines.specs.declared.LineHeader.{LineHeader}
 use Rattle.lines.specs.Told.{toldHeader}
@@ -60,13 +62,13 @@ words-two n s p =
     ∙ ap (λ k. u32At s p ∷ u32At s (p + 4) ∷ wordsIn (2 * n) (drop k s)) f
 
 -- the first of n + 1 lines at a, their columns at k
-lines-at : (c : Bool) (h : LineHead) (f n : ℕ) (b : List ℕ) (a k : ℕ) (l : Events)
-    → linesThen h f (wordsIn (2 * suc n) (drop a b)) (wordsIn (columnsOf c (suc n)) (drop k b)) l
-    ≡ entryThen (entryOf (headSource h f) (u32At b a) (u32At b (a + 4)) (columnIf c (u32At b k)))
-    (linesThen h f (wordsIn (2 * n) (drop (a + 8) b)) (wordsIn (columnsOf c n) (drop (k + 4) b)) l)
+lines-at : (how : EndLines) (c : Bool) (h : LineHead) (f n : ℕ) (b : List ℕ) (a k : ℕ) (l : Events)
+    → linesThen how h f (wordsIn (2 * suc n) (drop a b)) (wordsIn (columnsOf c (suc n)) (drop k b)) l
+    ≡ entryThen (entryOf (headSource how h f) (u32At b a) (u32At b (a + 4)) (columnIf c (u32At b k)))
+    (linesThen how h f (wordsIn (2 * n) (drop (a + 8) b)) (wordsIn (columnsOf c n) (drop (k + 4) b)) l)
 unfolding linesThen wordsIn entryOf
-lines-at true h f n b a k l = λ i. linesThen h f (words-two n b a i) (words-one n b k i) l
-lines-at false h f n b a k l = λ i. linesThen h f (words-two n b a i) [] l
+lines-at how true h f n b a k l = λ i. linesThen how h f (words-two n b a i) (words-one n b k i) l
+lines-at how false h f n b a k l = λ i. linesThen how h f (words-two n b a i) [] l
 
 -- where the columns of n lines at a begin
 columns-at : (c : Bool) (b : List ℕ) (a n : ℕ) → wordsIn (columnsOf c n) (drop (a + 8 * n) b) ≡ wordsIn (columnsOf c n) (drop (columnPlace c a n) b)
@@ -103,25 +105,25 @@ columnsOn p = columned (p .head .flags)
 -- of the present block, and of those behind it, in the bytes b; and then l
 abbrev pub linesLeft : List ℕ → Place → Events → Events
 linesLeft b p l =
-    linesThen (headOf p) (p .file) (wordsIn (2 * p .lines) (drop (p .line) b)) (wordsIn (columnsOf (columnsOn p) (p .lines)) (drop (p .column) b)) l
+    linesThen (p .how) (headOf p) (p .file) (wordsIn (2 * p .lines) (drop (p .line) b)) (wordsIn (columnsOf (columnsOn p) (p .lines)) (drop (p .column) b)) l
 
 abbrev pub blocksLeft : List ℕ → Place → Events → Events
-blocksLeft b p l = blocksThen (headOf p) (blocks (columnsOn p) (drop (p .next) b)) l
+blocksLeft b p l = blocksThen (p .how) (headOf p) (blocks (columnsOn p) (drop (p .next) b)) l
 
 module _ (rule : ℕ → Sort) (s v : List ℕ) where
   -- of the subsections that are to come
-  abbrev later : Rest → Events
-  later t = eventsOf (named (bodyAt rule s) (t .left) (drop (t .slot) v))
+  abbrev later : EndLines → Rest → Events
+  later how t = eventsOf how (named (bodyAt rule s) (t .left) (drop (t .slot) v))
 
   abbrev pub recordsAt : LineWalk → Records
-  recordsAt New = recordsOf rule s v
-  recordsAt (Between t) = heldThen (t .held) (later t)
-  recordsAt (Inside p t) = heldThen (t .held) (linesLeft (take (p .end) s) p (blocksLeft (take (p .end) s) p (later t)))
+  recordsAt (New how) = recordsOf how rule s v
+  recordsAt (Between how t) = heldThen (t .held) (later how t)
+  recordsAt (Inside p t) = heldThen (t .held) (linesLeft (take (p .end) s) p (blocksLeft (take (p .end) s) p (later (p .how) t)))
 
   -- what is true of each walk that a new one comes to
   abbrev pub Walked : LineWalk → Type 0
-  Walked New = Unit {0}
-  Walked (Between t) = (length s ≤ longest) × Scans rule s (t .scan)
+  Walked (New how) = Unit {0}
+  Walked (Between how t) = (length s ≤ longest) × Scans rule s (t .scan)
   Walked (Inside p t) =
       (length s ≤ longest) × Scans rule s (t .scan) × (p .end ≤ length s) × (p .next ≤ p .end)
       × (p .line + 8 * p .lines ≤ p .end) × (p .column + 4 * p .lines ≤ p .end)
@@ -131,89 +133,91 @@ module _ (rule : ℕ → Sort) (s v : List ℕ) where
   abbrev Right : Records → LineMove → Type 0
   Right l u = l ≡ onMove recordsAt u
 
-  open-right : (k : Reply ℕ Told) → Right (settle (eventsOf (listIn rule s v k))) (openOf k)
+  open-right : (how : EndLines) (k : Reply ℕ Told) → Right (settle (eventsOf how (listIn rule s v k))) (openOf how k)
   unfolding eventsOf settle
-  open-right (gave n) = refl
-  open-right nothing = refl
-  open-right (refused t) = refl
+  open-right how (gave n) = refl
+  open-right how nothing = refl
+  open-right how (refused t) = refl
 
-  finish-right : (t : Rest) (o : Held) → t .left ≡ 0 → Right (heldThen o (later t)) (finishIn o t)
+  finish-right : (how : EndLines) (t : Rest) (o : Held) → t .left ≡ 0 → Right (heldThen o (later how t)) (finishIn how o t)
   unfolding settle settleOne eventsOf named
-  finish-right t Nothing e = ap (λ n. settle (eventsOf (named (bodyAt rule s) n (drop (t .slot) v)))) e
-  finish-right t (One r) e =
-      ap (λ n. settleOne r (eventsOf (named (bodyAt rule s) n (drop (t .slot) v)))) e
-      ∙ ap (more r) (sym (ap (λ n. settle (eventsOf (named (bodyAt rule s) n (drop (t .slot) v)))) e))
+  finish-right how t Nothing e = ap (λ n. settle (eventsOf how (named (bodyAt rule s) n (drop (t .slot) v)))) e
+  finish-right how t (One r) e =
+      ap (λ n. settleOne r (eventsOf how (named (bodyAt rule s) n (drop (t .slot) v)))) e
+      ∙ ap (more r) (sym (ap (λ n. settle (eventsOf how (named (bodyAt rule s) n (drop (t .slot) v)))) e))
 
   -- a body is the same in its own bytes and in those of the area up to its end
-  body-blocks : (a : Span) (h : LineHead) (l : Events)
-      → blocksThen h (blocks (columned (h .flags)) (drop 12 (bytesAt s a))) l ≡ blocksThen h (blocks (columned (h .flags)) (drop (a .start + 12) (take (a .start + a .len) s))) l
-  body-blocks a h l =
-      ap (λ k. blocksThen h (blocks (columned (h .flags)) k) l)
+  body-blocks : (how : EndLines) (a : Span) (h : LineHead) (l : Events)
+      → blocksThen how h (blocks (columned (h .flags)) (drop 12 (bytesAt s a))) l
+      ≡ blocksThen how h (blocks (columned (h .flags)) (drop (a .start + 12) (take (a .start + a .len) s))) l
+  body-blocks how a h l =
+      ap (λ k. blocksThen how h (blocks (columned (h .flags)) k) l)
       (ap (drop 12) (take-behind (a .start) (a .len) s) ∙ drop-drop 12 (a .start) (take (a .start + a .len) s))
 
-  enter-right : (t : Rest) (a : Span) → a .start + a .len ≤ length s
-      → Right (heldThen (t .held) (bodyThen (bodyOn s a) (later (restAt t (a .start + a .len))))) (enterAt s t (a .start) (a .len))
+  enter-right : (how : EndLines) (t : Rest) (a : Span) → a .start + a .len ≤ length s
+      → Right (heldThen (t .held) (bodyThen how (bodyOn s a) (later how (restAt t (a .start + a .len))))) (enterAt s how t (a .start) (a .len))
   unfolding bodyThen headedPlace linesThen wordsIn
-  enter-right t a g =
+  enter-right how t a g =
       let n : length (bytesAt s a) ≡ a .len = length-take-le (a .len) (drop (a .start) s) (simp length-drop (omega arith)) in
-      ap (λ k. heldThen (t .held) (cond (ltb k 12) (fails (told why.Cut)) (blocksThen h (blocks (columned (h .flags)) (drop 12 (bytesAt s a))) l))) n
+      ap (λ k. heldThen (t .held) (cond (ltb k 12) (fails (told why.Cut)) (blocksThen how h (blocks (columned (h .flags)) (drop 12 (bytesAt s a))) l))) n
       ∙ both (ltb (a .len) 12)
     where
       h : LineHead
       h = lineHead (bytesAt s a)
 
       l : Events
-      l = later (restAt t (a .start + a .len))
+      l = later how (restAt t (a .start + a .len))
 
       both : (c : Bool) → Right
-          (heldThen (t .held) (cond c (fails (told why.Cut)) (blocksThen h (blocks (columned (h .flags)) (drop 12 (bytesAt s a))) l)))
-          (enterMove t (a .start + a .len) (cond c (refused (told why.Cut)) (gave (bodyPlace s (a .start) (a .len)))))
+          (heldThen (t .held) (cond c (fails (told why.Cut)) (blocksThen how h (blocks (columned (h .flags)) (drop 12 (bytesAt s a))) l)))
+          (enterMove t (a .start + a .len) (cond c (refused (told why.Cut)) (gave (bodyPlace how s (a .start) (a .len)))))
       both true = held-fails (t .held) (told why.Cut)
-      both false = ap (heldThen (t .held)) (body-blocks a h l)
+      both false = ap (heldThen (t .held)) (body-blocks how a h l)
 
-  named-right : (t : Rest) (o : Reply Span Told) → Gives (SlotIn rule s v (t .slot) (t .scan)) o
-      → Right (heldThen (t .held) (eventsOf (nameThen (mapReply (bodyOn s) same o) (named (bodyAt rule s) (t .left - 1) (drop (t .slot + 1) v))))) (namedOf s t o)
+  named-right : (how : EndLines) (t : Rest) (o : Reply Span Told) → Gives (SlotIn rule s v (t .slot) (t .scan)) o
+      → Right (heldThen (t .held) (eventsOf how (nameThen (mapReply (bodyOn s) same o) (named (bodyAt rule s) (t .left - 1) (drop (t .slot + 1) v))))) (namedOf s how t o)
   unfolding eventsOf
-  named-right t (gave a) g = enter-right t a (g .1)
-  named-right t nothing g = held-fails (t .held) (told why.WrongSlot)
-  named-right t (refused e) g = held-fails (t .held) e
+  named-right how t (gave a) g = enter-right how t a (g .1)
+  named-right how t nothing g = held-fails (t .held) (told why.WrongSlot)
+  named-right how t (refused e) g = held-fails (t .held) e
 
-  between-right : (t : Rest) → Scans rule s (t .scan) → Right (heldThen (t .held) (later t)) (betweenTurn rule s v t)
+  between-right : (how : EndLines) (t : Rest) → Scans rule s (t .scan) → Right (heldThen (t .held) (later how t)) (betweenTurn rule s v how t)
   unfolding betweenTurn
-  between-right t g =
-      by-cases (Right (heldThen (t .held) (later t))) (eqb (t .left) 0) (λ e. finish-right t (t .held) (eqb-true (t .left) 0 e))
-      (λ e. ap (λ k. heldThen (t .held) (eventsOf k)) (named-slot rule s v (t .slot) (t .scan) g (t .left) (omega (arith, eqb-false)))
-      ∙ named-right t (slotAt rule s v (t .slot) (t .scan)) (slot-lies rule s v (t .slot) (t .scan)))
+  between-right how t g =
+      by-cases (Right (heldThen (t .held) (later how t))) (eqb (t .left) 0) (λ e. finish-right how t (t .held) (eqb-true (t .left) 0 e))
+      (λ e. ap (λ k. heldThen (t .held) (eventsOf how k)) (named-slot rule s v (t .slot) (t .scan) g (t .left) (omega (arith, eqb-false)))
+      ∙ named-right how t (slotAt rule s v (t .slot) (t .scan)) (slot-lies rule s v (t .slot) (t .scan)))
 
-  end-right : (h : LineHeader) (t : Rest) (o : Held) → t .held ≡ o → Right (heldThen o (more (done (toldHeader h)) (later t))) (endMove t (endHeld h o))
+  end-right : (how : EndLines) (h : LineHeader) (t : Rest) (o : Held) → t .held ≡ o
+      → Right (heldThen o (more (done (toldHeader h)) (later how t))) (endMove how t (endHeld h o))
   unfolding settle settleOne endHeld
-  end-right h t Nothing e = refl
-  end-right h t (One r) e = both (ltb maxOffset (h .offset + h .code))
+  end-right how h t Nothing e = refl
+  end-right how h t (One r) e = both (ltb maxOffset (h .offset + h .code))
     where
       both : (c : Bool) → Right
-          (cond c (fails (told why.OffsetTooLarge)) (settleOne (closedAt (h .section) (h .offset + h .code) r) (later t)))
-          (endMove t (cond c (refused (told why.OffsetTooLarge)) (gave (One (closedAt (h .section) (h .offset + h .code) r)))))
+          (cond c (fails (told why.OffsetTooLarge)) (settleOne (closedAt (h .section) (h .offset + h .code) r) (later how t)))
+          (endMove how t (cond c (refused (told why.OffsetTooLarge)) (gave (One (closedAt (h .section) (h .offset + h .code) r)))))
       both true = refl
       both false = refl
 
   block-right : (p : Place) (t : Rest) (k : Answer ℕ LineBlock Told)
-      → Right (heldThen (t .held) (blocksThen (headOf p) (blocksOn (columnsOn p) (take (p .end) s) k) (later t))) (blockOf p t (blockPlace p k))
+      → Right (heldThen (t .held) (blocksThen (p .how) (headOf p) (blocksOn (columnsOn p) (take (p .end) s) k) (later (p .how) t))) (blockOf p t (blockPlace p k))
   unfolding blocksThen
   block-right p t (gives k x) =
-      ap (λ cs. heldThen (t .held) (linesThen (headOf p) (k .file) (wordsIn (2 * k .count) (drop (k .start) (take (p .end) s))) cs
-      (blocksThen (headOf p) (blocks (columnsOn p) (drop x (take (p .end) s))) (later t))))
+      ap (λ cs. heldThen (t .held) (linesThen (p .how) (headOf p) (k .file) (wordsIn (2 * k .count) (drop (k .start) (take (p .end) s))) cs
+      (blocksThen (p .how) (headOf p) (blocks (columnsOn p) (drop x (take (p .end) s))) (later (p .how) t))))
       (columns-at (columnsOn p) (take (p .end) s) (k .start) (k .count))
-  block-right p t none = end-right (p .head) t (t .held) refl
+  block-right p t none = end-right (p .how) (p .head) t (t .held) refl
   block-right p t (refuses e) = held-fails (t .held) e
 
   hold-right : (p : Place) (t : Rest) (r : LineRecord) (o : Held)
-      → Right (heldThen o (more (line r) (linesLeft (take (p .end) s) p (blocksLeft (take (p .end) s) p (later t))))) (holdIn o r (Inside p (withHeld t (One r))))
+      → Right (heldThen o (more (line r) (linesLeft (take (p .end) s) p (blocksLeft (take (p .end) s) p (later (p .how) t))))) (holdIn o r (Inside p (withHeld t (One r))))
   unfolding settle settleOne
   hold-right p t r Nothing = refl
   hold-right p t r (One o) = refl
 
   line-right : (p : Place) (t : Rest) (e : Reply LineRecord Told)
-      → Right (heldThen (t .held) (entryThen e (linesLeft (take (p .end) s) (linesOn p 1) (blocksLeft (take (p .end) s) p (later t))))) (lineOf p t e)
+      → Right (heldThen (t .held) (entryThen e (linesLeft (take (p .end) s) (linesOn p 1) (blocksLeft (take (p .end) s) p (later (p .how) t))))) (lineOf p t e)
   line-right p t (gave r) = hold-right (linesOn p 1) t r (t .held)
   line-right p t nothing = refl
   line-right p t (refused e) = held-fails (t .held) e
@@ -225,26 +229,26 @@ module _ (rule : ℕ → Sort) (s v : List ℕ) where
       let m : length b ≡ p .end = length-take-le (p .end) s (w .2) in
       by-cases (Right (recordsAt (Inside p t))) (ltb (length s) (p .end)) (λ f. absurd (omega (arith, ltb-true)))
       (λ f. by-cases (Right (recordsAt (Inside p t))) (eqb (p .lines) 0)
-      (λ e. ap (λ n. heldThen (t .held) (linesThen (headOf p) (p .file) (wordsIn (2 * n) (drop (p .line) b)) (wordsIn (columnsOf (columnsOn p) n) (drop (p .column) b)) (blocksLeft b p (later t)))) (eqb-true (p .lines) 0 e)
-      ∙ ap (λ k. heldThen (t .held) (blocksThen (headOf p) k (later t))) (blocks-step (columnsOn p) b (p .next) (omega arith))
+      (λ e. ap (λ n. heldThen (t .held) (linesThen (p .how) (headOf p) (p .file) (wordsIn (2 * n) (drop (p .line) b)) (wordsIn (columnsOf (columnsOn p) n) (drop (p .column) b)) (blocksLeft b p (later (p .how) t)))) (eqb-true (p .lines) 0 e)
+      ∙ ap (λ k. heldThen (t .held) (blocksThen (p .how) (headOf p) k (later (p .how) t))) (blocks-step (columnsOn p) b (p .next) (omega arith))
       ∙ block-right p t (blockAt (columnsOn p) b (p .next)))
       (λ e.
       let one : 1 ≤ p .lines = omega (arith, eqb-false) in
       let n : p .lines ≡ suc (p .lines - 1) = omega arith in
-      ap (λ k. heldThen (t .held) (linesThen (headOf p) (p .file) (wordsIn (2 * k) (drop (p .line) b)) (wordsIn (columnsOf (columnsOn p) k) (drop (p .column) b)) (blocksLeft b p (later t)))) n
-      ∙ ap (heldThen (t .held)) (lines-at (columnsOn p) (headOf p) (p .file) (p .lines - 1) b (p .line) (p .column) (blocksLeft b p (later t)))
+      ap (λ k. heldThen (t .held) (linesThen (p .how) (headOf p) (p .file) (wordsIn (2 * k) (drop (p .line) b)) (wordsIn (columnsOf (columnsOn p) k) (drop (p .column) b)) (blocksLeft b p (later (p .how) t)))) n
+      ∙ ap (heldThen (t .held)) (lines-at (p .how) (columnsOn p) (headOf p) (p .file) (p .lines - 1) b (p .line) (p .column) (blocksLeft b p (later (p .how) t)))
       ∙ line-right p t (entryIn b p)
       ∙ ap (λ k. onMove recordsAt (lineOf p t k)) (entry-inside b p (omega arith) (omega arith))))
 
   turn-right : (w : LineWalk) → Walked w → Right (recordsAt w) (turnIn rule s v w)
-  turn-right New i = open-right (countLines rule s)
-  turn-right (Between t) i = between-right t (i .1)
+  turn-right (New how) i = open-right how (countLines rule s)
+  turn-right (Between how t) i = between-right how t (i .1)
   turn-right (Inside p t) i = inside-right p t i
 
   long-right : (w : LineWalk) → Walked w → longest < length s → recordsAt w ≡ fails (told why.TooLong)
   unfolding eventsOf settle
-  long-right New i h = ap (λ k. settle (eventsOf (listIn rule s v k))) (sym (count-long rule s h))
-  long-right (Between t) i h = absurd (omega arith)
+  long-right (New how) i h = ap (λ k. settle (eventsOf how (listIn rule s v k))) (sym (count-long rule s h))
+  long-right (Between how t) i h = absurd (omega arith)
   long-right (Inside p t) i h = absurd (omega arith)
 
   right : (w : LineWalk) → Walked w → recordsAt w ≡ onMove recordsAt (turnOf rule s v w)
@@ -257,40 +261,40 @@ module _ (rule : ℕ → Sort) (s v : List ℕ) where
   abbrev Kept : LineMove → Type 0
   Kept u = To u Walked
 
-  open-kept : (k : Reply ℕ Told) → k ≡ countLines rule s → Kept (openOf k)
-  open-kept (gave n) e = (counted-short rule s n e, scans-start rule s)
-  open-kept nothing e = tt
-  open-kept (refused t) e = tt
+  open-kept : (how : EndLines) (k : Reply ℕ Told) → k ≡ countLines rule s → Kept (openOf how k)
+  open-kept how (gave n) e = (counted-short rule s n e, scans-start rule s)
+  open-kept how nothing e = tt
+  open-kept how (refused t) e = tt
 
-  finish-kept : (t : Rest) (o : Held) → Walked (Between t) → Kept (finishIn o t)
-  finish-kept t Nothing g = tt
-  finish-kept t (One r) g = g
+  finish-kept : (how : EndLines) (t : Rest) (o : Held) → Walked (Between how t) → Kept (finishIn how o t)
+  finish-kept how t Nothing g = tt
+  finish-kept how t (One r) g = g
 
-  enter-kept : (t : Rest) (a n : ℕ) → length s ≤ longest → a + n ≤ length s → Scans rule s (a + n) → Kept (enterAt s t a n)
+  enter-kept : (how : EndLines) (t : Rest) (a n : ℕ) → length s ≤ longest → a + n ≤ length s → Scans rule s (a + n) → Kept (enterAt s how t a n)
   unfolding headedPlace
-  enter-kept t a n m h g =
+  enter-kept how t a n m h g =
       by-cases (λ k. Kept (enterMove t (a + n) k)) (ltb n 12) (λ e. tt) (λ e. let l = ltb-false n 12 e in (m, g, h, omega arith, omega arith, omega arith))
 
-  named-kept : (t : Rest) (o : Reply Span Told) → length s ≤ longest → Gives (SlotIn rule s v (t .slot) (t .scan)) o
-      → Gives (λ a. Scans rule s (a .start + a .len)) o → Kept (namedOf s t o)
-  named-kept t (gave a) m i g = enter-kept t (a .start) (a .len) m (i .1) g
-  named-kept t nothing m i g = tt
-  named-kept t (refused e) m i g = tt
+  named-kept : (how : EndLines) (t : Rest) (o : Reply Span Told) → length s ≤ longest → Gives (SlotIn rule s v (t .slot) (t .scan)) o
+      → Gives (λ a. Scans rule s (a .start + a .len)) o → Kept (namedOf s how t o)
+  named-kept how t (gave a) m i g = enter-kept how t (a .start) (a .len) m (i .1) g
+  named-kept how t nothing m i g = tt
+  named-kept how t (refused e) m i g = tt
 
-  between-kept : (t : Rest) → Walked (Between t) → Kept (betweenTurn rule s v t)
+  between-kept : (how : EndLines) (t : Rest) → Walked (Between how t) → Kept (betweenTurn rule s v how t)
   unfolding betweenTurn
-  between-kept t g =
-      by-cases Kept (eqb (t .left) 0) (λ e. finish-kept t (t .held) g)
-      (λ e. named-kept t (slotAt rule s v (t .slot) (t .scan)) (g .0) (slot-lies rule s v (t .slot) (t .scan)) (slot-scanned rule s v (t .slot) (t .scan) (g .1)))
+  between-kept how t g =
+      by-cases Kept (eqb (t .left) 0) (λ e. finish-kept how t (t .held) g)
+      (λ e. named-kept how t (slotAt rule s v (t .slot) (t .scan)) (g .0) (slot-lies rule s v (t .slot) (t .scan)) (slot-scanned rule s v (t .slot) (t .scan) (g .1)))
 
-  end-kept : (h : LineHeader) (t : Rest) (o : Held) → Walked (Between t) → Kept (endMove t (endHeld h o))
+  end-kept : (how : EndLines) (h : LineHeader) (t : Rest) (o : Held) → Walked (Between how t) → Kept (endMove how t (endHeld h o))
   unfolding endHeld
-  end-kept h t Nothing g = g
-  end-kept h t (One r) g = by-cases (λ k. Kept (endMove t k)) (ltb maxOffset (h .offset + h .code)) (λ e. tt) (λ e. g)
+  end-kept how h t Nothing g = g
+  end-kept how h t (One r) g = by-cases (λ k. Kept (endMove how t k)) (ltb maxOffset (h .offset + h .code)) (λ e. tt) (λ e. g)
 
-  block-kept : (p : Place) (t : Rest) (k : Reply Place Told) → Walked (Between t) → p .end ≤ length s → OpensIn p k → Kept (blockOf p t k)
+  block-kept : (p : Place) (t : Rest) (k : Reply Place Told) → Walked (Between (p .how) t) → p .end ≤ length s → OpensIn p k → Kept (blockOf p t k)
   block-kept p t (gave q) g l o = (g .0, g .1, omega (arith, o .end), o .next, o .lines, o .columns)
-  block-kept p t nothing g l o = end-kept (p .head) t (t .held) g
+  block-kept p t nothing g l o = end-kept (p .how) (p .head) t (t .held) g
   block-kept p t (refused e) g l o = tt
 
   hold-kept : (p : Place) (t : Rest) (r : LineRecord) (o : Held) → Walked (Inside p t) → Kept (holdIn o r (Inside p (withHeld t (One r))))
@@ -313,8 +317,8 @@ module _ (rule : ℕ → Sort) (s v : List ℕ) where
       line-kept p t (lineEntryAt b p) (w .0, w .1, w .2, w .3, omega arith, omega arith)))
 
   turn-kept : (w : LineWalk) → Walked w → Kept (turnIn rule s v w)
-  turn-kept New i = open-kept (countLines rule s) refl
-  turn-kept (Between t) i = between-kept t i
+  turn-kept (New how) i = open-kept how (countLines rule s) refl
+  turn-kept (Between how t) i = between-kept how t i
   turn-kept (Inside p t) i = inside-kept p t i
 
   kept : (w : LineWalk) → Walked w → To (turnOf rule s v w) Walked
@@ -339,8 +343,8 @@ module _ (rule : ℕ → Sort) (s v : List ℕ) where
   walk-from n w i = calls-are (nextOf rule s v) turns turns-step n w ∙ ap (replies n) (sym (turns-are w i))
 
   -- the first of them at a new walk: its answers, taken until it ends, are the records; so none is lost, and an end or a refusal is answered again
-  pub walk-is : (n : ℕ) → calls (nextOf rule s v) n New ≡ replies n (recordsOf rule s v)
-  walk-is n = walk-from n New tt
+  pub walk-is : (how : EndLines) (n : ℕ) → calls (nextOf rule s v) n (New how) ≡ replies n (recordsOf how rule s v)
+  walk-is how n = walk-from n (New how) tt
 
   -- ---- one step, for each answer: what a loop over it cites
 

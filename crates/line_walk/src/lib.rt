@@ -1,6 +1,7 @@
 // The line walk over an area and its order list (crate: `LineProgram::lines`, `LineIterator`): the next record, and the walk behind it.
 //
-// `LineWalk::New` starts it. Where there is no record, and where it is refused, the caller keeps its walk, so that the answer repeats.
+// `LineWalk::New` starts it, and names the reading of end lines. Where there is no record, and where it is refused, the caller keeps its walk, so that the
+// answer repeats.
 ghost use mathlib.Core.Path.{_≡_};
 ghost use Rattle.kinds.specs.Kind.{crateRule};
 ghost use Rattle.line_walk.specs.Next.{nextOf};

@@ -1,5 +1,5 @@
--- The text of an area, as `c13dump` prints it. Source: document 01, "Sheet lines to try": a head line, the subsections, the files, the line records,
--- the end; a refusal prints its number in place of the rest; above 65,536 bytes there is number 11 alone.
+-- The text of an area, as `c13dump` prints it. Source: document 01, "Sheet lines to try": a head line, the subsections, the files, the line records
+-- with their end lines by the crate's reading, the end; a refusal prints its number in place of the rest; above 65,536 bytes there is number 11 alone.
 -- Definitions only; a reader must believe them.
 use Prim.Native.Nat.{ℕ, suc, _≤_}
 use mathlib.Core.Path.{_≡_}
@@ -15,6 +15,7 @@ use Rattle.area.specs.Subs.{Sub, subsFrom}
 use Rattle.find.specs.Find.{same}
 use Rattle.lines.specs.Lines.{countLines}
 use Rattle.files.specs.Files.{File, filesIn, fileSpelt}
+use Rattle.line_record.specs.declared.EndLines.the-variants.{Crate}
 use Rattle.line_walk.specs.Meaning.{areaRecords}
 use Rattle.text.specs.Text.{joined}
 use Rattle.printed.specs.Printed.{Pieces, headLine, subLine, fileLine, endOfText, refusedLine}
@@ -43,7 +44,7 @@ closing (fails t) = more (refusal t) ends
 abbrev pub sheetRows : (ℕ → Sort) → List ℕ → Listing Pieces Told
 sheetRows rule s =
     andThen (mapped subRow same (subsFrom rule s 0))
-    (andThen (mapped (fileRow s) same (filesIn rule s)) (mapped recordLine same (areaRecords rule s)))
+    (andThen (mapped (fileRow s) same (filesIn rule s)) (mapped recordLine same (areaRecords Crate rule s)))
 
 -- THE LINES of the text
 unfoldable pub sheetLines : (ℕ → Sort) → List ℕ → Listing Pieces Told

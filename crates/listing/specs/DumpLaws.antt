@@ -33,6 +33,7 @@ use Rattle.files.specs.FilesLaws.{files-finds, files-walk}
 use Rattle.line_step.specs.Turn.{turnOf}
 use Rattle.line_step.specs.declared.LineWalk.{LineWalk}
 use Rattle.line_step.specs.declared.LineWalk.the-variants as line
+use Rattle.line_record.specs.declared.EndLines.the-variants.{Crate}
 use Rattle.line_walk.specs.Meaning.{Records, eventsOf, settle, recordsOf, areaRecords}
 use Rattle.line_walk.specs.Next.{todo, nextOf}
 use Rattle.line_walk.specs.NextLaws.{falls}
@@ -69,10 +70,10 @@ module _ (rule : ℕ → Sort) (s v : List ℕ) where
   unfolding recordsAt nextOf
   records-step w = all-first (turnOf rule s v) (todo rule s) (falls rule s v) w
 
-  records-new : recordsAt line.New ≡ recordsOf rule s v
+  records-new : recordsAt (line.New Crate) ≡ recordsOf Crate rule s v
   records-new =
-      replies-same (recordsAt line.New) (recordsOf rule s v)
-      (λ n. sym (calls-are (nextOf rule s v) recordsAt records-step n line.New) ∙ walk-is rule s v n)
+      replies-same (recordsAt (line.New Crate)) (recordsOf Crate rule s v)
+      (λ n. sym (calls-are (nextOf rule s v) recordsAt records-step n (line.New Crate)) ∙ walk-is rule s v Crate n)
 
   subs-step : (p : ℕ) → subsFrom rule s p ≡ onMove (subsFrom rule s) (moved (stepAt rule s p))
   subs-step = calls-step (stepAt rule s) (subsFrom rule s) (steps-are rule s)
@@ -83,7 +84,7 @@ module _ (rule : ℕ → Sort) (s v : List ℕ) where
   recordLines w = mapped recordLine same (recordsAt w)
 
   fileLines : TableWalk → Listing Pieces Told
-  fileLines w = andThen (mapped (fileRow s) same (filesAt w)) (recordLines line.New)
+  fileLines w = andThen (mapped (fileRow s) same (filesAt w)) (recordLines (line.New Crate))
 
   subLines : ℕ → Listing Pieces Told
   subLines p = andThen (mapped subRow same (subsFrom rule s p)) (fileLines table.New)
@@ -119,7 +120,7 @@ module _ (rule : ℕ → Sort) (s v : List ℕ) where
 
   files-right : (w : TableWalk) → closing (fileLines w) ≡ onMove linesFrom (moved (filesStep rule s v w))
   unfolding linesFrom fileLines
-  files-right w = stage-right Files (fileRow s) filesAt (recordLines line.New) (linesStep rule s v line.New) (λ t. refl) (lines-right line.New) (filesAt w) (fileStep rule s w) (files-step w)
+  files-right w = stage-right Files (fileRow s) filesAt (recordLines (line.New Crate)) (linesStep rule s v (line.New Crate)) (λ t. refl) (lines-right (line.New Crate)) (filesAt w) (fileStep rule s w) (files-step w)
 
   subs-right : (p : ℕ) → closing (subLines p) ≡ onMove linesFrom (moved (subsStep rule s v p))
   unfolding linesFrom subLines
@@ -166,12 +167,12 @@ count-answers (fails t) = tt
 
 -- where the tests pass, the walk over the list is that of the area; where they do not, the files are refused already
 records-built : (rule : ℕ → Sort) (s xs : List ℕ) → Room rule s xs → (x : Reply ℕ Told) → countLines rule s ≡ x → Answers x
-    → andThen (mapped (fileRow s) same (filesIn rule s)) (mapped recordLine same (recordsOf rule s (slotsAfter rule s xs)))
-    ≡ andThen (mapped (fileRow s) same (filesIn rule s)) (mapped recordLine same (areaRecords rule s))
+    → andThen (mapped (fileRow s) same (filesIn rule s)) (mapped recordLine same (recordsOf Crate rule s (slotsAfter rule s xs)))
+    ≡ andThen (mapped (fileRow s) same (filesIn rule s)) (mapped recordLine same (areaRecords Crate rule s))
 unfolding filesSub Answers
 records-built rule s xs room (gave n) e a =
     let o : gave n ≡ ordered rule s (length xs) = in-room (length xs) n (room n (sym e)) ∙ ap (inRoom (length xs)) (sym e) in
-    ap (λ (l : Listing Body Told). andThen (mapped (fileRow s) same (filesIn rule s)) (mapped recordLine same (settle (eventsOf l)))) (built rule s xs n o)
+    ap (λ (l : Listing Body Told). andThen (mapped (fileRow s) same (filesIn rule s)) (mapped recordLine same (settle (eventsOf Crate l)))) (built rule s xs n o)
 records-built rule s xs room nothing e a = absurd a
 records-built rule s xs room (refused t) e a = rw e
 
@@ -179,8 +180,8 @@ pub lines-new : (rule : ℕ → Sort) (s xs : List ℕ) → Room rule s xs → l
 unfolding linesFrom sheetLines subLines fileLines recordLines
 lines-new rule s xs room =
     let v = slotsAfter rule s xs in
-    let l : andThen (mapped (fileRow s) same (filesAt rule s v table.New)) (mapped recordLine same (recordsAt rule s v line.New))
-    ≡ andThen (mapped (fileRow s) same (filesIn rule s)) (mapped recordLine same (areaRecords rule s))
+    let l : andThen (mapped (fileRow s) same (filesAt rule s v table.New)) (mapped recordLine same (recordsAt rule s v (line.New Crate)))
+    ≡ andThen (mapped (fileRow s) same (filesIn rule s)) (mapped recordLine same (areaRecords Crate rule s))
     = (λ i. andThen (mapped (fileRow s) same (files-new rule s v i)) (mapped recordLine same (records-new rule s v i)))
     ∙ records-built rule s xs room (countLines rule s) refl (count-answers (lines.linesFrom rule s 0)) in
     ap (λ (k : Listing Pieces Told). cond (ltb mostBytes (length s)) (more (refusal (told why.TooLong)) ends)

@@ -18,7 +18,7 @@ use Rattle.slot_key.specs.Sort.{insBy, sortBy}
 use Rattle.body_list.specs.BodyList.{listed}
 use Rattle.order.specs.Order.{keyOf}
 use Rattle.line_record.specs.Flags.{lineKind, isMarker}
-use Rattle.line_record.specs.EndLine.{endLine}
+use Rattle.line_record.specs.EndLine.{endFrom}
 use Rattle.line_record.specs.Record.{entryOf, shorterOf, closedAt}
 use Rattle.line_walk.specs.Meaning.{linesThen, blocksThen, bodyThen, eventsOf, settleOne, settle}
 use Rattle.text.specs.Text.{ascii, glyph, numeralIn, numeral, hexBytes}
@@ -38,5 +38,5 @@ lines =
 
 pub example : textOf crateRule (checksums ++ lines)
     ≡ ascii "c13 80 bytes\nsub f4 24\nsub f2 40\nfile 0 name 1 md5 000102030405060708090a0b0c0d0e0f\nline 1:1000 len 8 file 0 10-10 - st\nline 1:1008 len 24 file 0 12-12 - st\nend\n"
-unfolding le16 le32 u16At u32At run all lastBy only bite parts crateRule placed subsFrom wordsIn blockBite blocks spotIn keptOf closedAs entryAt entriesFrom headed countOf filesSub partOf insBy sortBy listed keyOf lineKind isMarker endLine entryOf shorterOf closedAt linesThen blocksThen bodyThen eventsOf settleOne settle ascii glyph numeralIn numeral hexBytes bytesText closing sheetLines sheetBytes
+unfolding le16 le32 u16At u32At run all lastBy only bite parts crateRule placed subsFrom wordsIn blockBite blocks spotIn keptOf closedAs entryAt entriesFrom headed countOf filesSub partOf insBy sortBy listed keyOf lineKind isMarker endFrom entryOf shorterOf closedAt linesThen blocksThen bodyThen eventsOf settleOne settle ascii glyph numeralIn numeral hexBytes bytesText closing sheetLines sheetBytes
 example = refl

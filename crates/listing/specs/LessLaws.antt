@@ -25,6 +25,7 @@ use Rattle.checksums.specs.Entry.{Entry, entryAt}
 use Rattle.checksums.specs.EntryLaws.{EntryWithin, entry-within}
 use Rattle.files.specs.Files.{fileOf, filesSub, fileStep}
 use Rattle.files.specs.FilesLaws.{files-finds}
+use Rattle.line_record.specs.declared.EndLines.the-variants.{Crate}
 use Rattle.line_step.specs.Turn.{turnOf}
 use Rattle.line_step.specs.declared.LineWalk.{LineWalk}
 use Rattle.line_step.specs.declared.LineWalk.the-variants as line
@@ -51,9 +52,9 @@ module _ (rule : ℕ → Sort) (s : List ℕ) where
   recordsLeft w = suc (todo rule s w)
 
   abbrev pub textLeft : TextWalk → ℕ
-  textLeft Head = suc (suc (length s + suc (length s + recordsLeft line.New)))
-  textLeft (Subs p) = suc (length s - p + suc (length s + recordsLeft line.New))
-  textLeft (Files w) = suc (filesLeft w + recordsLeft line.New)
+  textLeft Head = suc (suc (length s + suc (length s + recordsLeft (line.New Crate))))
+  textLeft (Subs p) = suc (length s - p + suc (length s + recordsLeft (line.New Crate)))
+  textLeft (Files w) = suc (filesLeft w + recordsLeft (line.New Crate))
   textLeft (Lines w) = recordsLeft w
   textLeft Done = 0
 
@@ -124,8 +125,8 @@ module _ (rule : ℕ → Sort) (s : List ℕ) where
 
     files-step-less : (w : TableWalk) → Less (textLeft (Files w)) (filesStep rule s v w)
     files-step-less w =
-        stage-less Files (fileRow s) filesLeft w (textLeft (Files w)) (recordsLeft line.New) (λ t l. omega arith) (omega arith) (omega arith)
-        (linesStep rule s v line.New) (lines-less line.New) (fileStep rule s w) (files-less w)
+        stage-less Files (fileRow s) filesLeft w (textLeft (Files w)) (recordsLeft (line.New Crate)) (λ t l. omega arith) (omega arith) (omega arith)
+        (linesStep rule s v (line.New Crate)) (lines-less (line.New Crate)) (fileStep rule s w) (files-less w)
 
     subs-step-less : (p : ℕ) → Less (textLeft (Subs p)) (subsStep rule s v p)
     subs-step-less p =

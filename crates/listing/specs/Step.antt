@@ -17,6 +17,7 @@ use Rattle.area.specs.Subs.{stepAt}
 use Rattle.table.specs.declared.TableWalk.{TableWalk}
 use Rattle.table.specs.declared.TableWalk.the-variants as table
 use Rattle.files.specs.Files.{fileStep}
+use Rattle.line_record.specs.declared.EndLines.the-variants.{Crate}
 use Rattle.line_step.specs.declared.LineWalk.{LineWalk}
 use Rattle.line_step.specs.declared.LineWalk.the-variants as line
 use Rattle.line_walk.specs.Next.{nextOf}
@@ -43,7 +44,7 @@ module _ (rule : ℕ → Sort) (s v : List ℕ) where
   linesStep w = stage Lines recordLine (nextOf rule s v w) (gives endOfText Done)
 
   abbrev pub filesStep : TableWalk → Line
-  filesStep w = stage Files (fileRow s) (fileStep rule s w) (linesStep line.New)
+  filesStep w = stage Files (fileRow s) (fileStep rule s w) (linesStep (line.New Crate))
 
   abbrev pub subsStep : ℕ → Line
   subsStep p = stage Subs subRow (stepAt rule s p) (filesStep table.New)

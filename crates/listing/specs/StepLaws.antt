@@ -20,6 +20,7 @@ use Rattle.table.specs.declared.TableWalk.{TableWalk}
 use Rattle.body.specs.Checksums.{up4}
 use Rattle.checksums.specs.Entry.{Entry, keptOf, closedAs, entryAt}
 use Rattle.files.specs.Files.{File, fileOf, filesSub, fileStep, held, partOf, fileSpelt}
+use Rattle.line_record.specs.declared.EndLines.the-variants.{Crate}
 use Rattle.line_step.specs.declared.LineWalk.the-variants as line
 use Rattle.text.specs.Text.{joined, Next, at, Page, page, pieceWritten}
 use Rattle.text.specs.PageLaws.{written-fits}
@@ -153,7 +154,7 @@ pub file-line : (rule : ℕ → Sort) (s v : List ℕ) (w : TableWalk) (b y : Li
     → page y p ≡ pieceWritten (joined (fileLine (f .index) (f .info .name) (f .info .kind) l)) (page b (at 0)) → r ≡ lineAnswer p (Files t)
     → both r y ≡ lineShown b (filesStep rule s v w)
 file-line rule s v w b y r p f t l e h i n room el q g =
-    stage-gives Files (fileRow s) (fileStep rule s w) (linesStep rule s v line.New) b y r p f t e room
+    stage-gives Files (fileRow s) (fileStep rule s w) (linesStep rule s v (line.New Crate)) b y r p f t e room
     (file-fits (f .index) (f .info .name) (f .info .kind) (fileSpelt s f .bytes) i n (row-short rule s w t f h e))
     (q ∙ ap (λ (m : List ℕ). pieceWritten (joined (fileLine (f .index) (f .info .name) (f .info .kind) m)) (page b (at 0))) el) g
 

@@ -15,6 +15,7 @@ use area::sub_at;
 use files::FileStep;
 use files::checksum_bytes;
 use files::next_file;
+use line_record::EndLines;
 use line_step::LineWalk;
 use line_walk::LineStep;
 use line_walk::next_line;
@@ -87,7 +88,7 @@ fn files_step(area: &[u8], slots: &[u32], walk: TableWalk, buf: &mut [u8]) -> Te
             let place = put_file(buf, Place::At(0), index as usize, name, kind, bytes);
             line_of(place, TextWalk::Files(next))
         }
-        FileStep::None => lines_step(area, slots, LineWalk::New, buf),
+        FileStep::None => lines_step(area, slots, LineWalk::New(EndLines::Crate), buf),
         FileStep::Refused(why) => line_of(put_refused(buf, Place::At(0), why), TextWalk::Done),
     }
 }

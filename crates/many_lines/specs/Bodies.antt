@@ -16,6 +16,7 @@ use Rattle.lines.specs.Told.{toldNamed}
 use Rattle.body_list.specs.Search.{Right}
 use Rattle.body_list.specs.declared.Known.{Known}
 use Rattle.body_list.specs.declared.Located.{Located}
+use Rattle.line_record.specs.declared.EndLines.{EndLines}
 use Rattle.line_record.specs.declared.LineRecord.{LineRecord}
 use Rattle.line_state_words.specs.LineWords.{recordSize, recordWords}
 use Rattle.line_step.specs.Turn.{withHeld, turnOf}
@@ -64,22 +65,22 @@ pub record LocatedIs (rule : ℕ → Sort) (s v b : List ℕ) (i p : ℕ) (r : L
   pub known : (a : Span) → gave a ≡ toldNamed (r .named) → Knows rule s b (r .known) (a .start + a .len)
 
 -- inside the next body, a turn behind t
-abbrev pub OnwardIs : (ℕ → Sort) → List ℕ → List ℕ → List ℕ → Rest → Onward → Type 0
-OnwardIs rule s v b t (onward.In q u k) = (pass (Inside q u) ≡ turnOf rule s v (Between t)) × Knows rule s b k (u .scan) × (u .left < t .left)
-OnwardIs rule s v b t onward.Stays = Unit {0}
+abbrev pub OnwardIs : (ℕ → Sort) → List ℕ → List ℕ → List ℕ → EndLines → Rest → Onward → Type 0
+OnwardIs rule s v b how t (onward.In q u k) = (pass (Inside q u) ≡ turnOf rule s v (Between how t)) × Knows rule s b k (u .scan) × (u .left < t .left)
+OnwardIs rule s v b how t onward.Stays = Unit {0}
 
 -- the last record is put where one is held
-abbrev pub LastAs : Held → ℕ → Rest → List ℕ → Reached → List ℕ → Type 0
-LastAs Nothing n t o r o′ = (r ≡ record { n = n; walk = Between t; over = false }) × (o′ ≡ o)
-LastAs (One q) n t o r o′ = (r ≡ record { n = n + 1; walk = Between (withHeld t Nothing); over = true }) × (o′ ≡ store o (recordSize * n) (recordWords q))
+abbrev pub LastAs : Held → ℕ → EndLines → Rest → List ℕ → Reached → List ℕ → Type 0
+LastAs Nothing n how t o r o′ = (r ≡ record { n = n; walk = Between how t; over = false }) × (o′ ≡ o)
+LastAs (One q) n how t o r o′ = (r ≡ record { n = n + 1; walk = Between how (withHeld t Nothing); over = true }) × (o′ ≡ store o (recordSize * n) (recordWords q))
 
-pub record LastIs (n : ℕ) (t : Rest) (o : List ℕ) (r : Reached) (o′ : List ℕ) : Type 0 where
-  pub is : LastAs (t .held) n t o r o′
+pub record LastIs (n : ℕ) (how : EndLines) (t : Rest) (o : List ℕ) (r : Reached) (o′ : List ℕ) : Type 0 where
+  pub is : LastAs (t .held) n how t o r o′
 
--- the walk that stands inside a body, or between two
+-- the walk that stands inside a body, or between two; how it reads end lines its place says there too
 abbrev pub walkAt : Bool → Place → Rest → LineWalk
 walkAt true p t = Inside p t
-walkAt false p t = Between t
+walkAt false p t = Between (p .how) t
 
 abbrev pub standsAt : Stand → LineWalk
 standsAt x = walkAt (x .inside) (x .place) (x .rest)

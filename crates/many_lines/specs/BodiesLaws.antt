@@ -17,6 +17,7 @@ use Rattle.kinds.specs.Kind.{LINES, Sort, known, crateRule}
 use Rattle.area.specs.Subs.{stepAt}
 use Rattle.area.specs.SubsLaws.{wholeAs, head-whole, step-gives}
 use Rattle.find.specs.Find.{Span}
+use Rattle.line_record.specs.declared.EndLines.{EndLines}
 use Rattle.line_record.specs.declared.LineRecord.{LineRecord}
 use Rattle.line_state_words.specs.LineWords.{recordSize, recordWords}
 use Rattle.line_state_words.specs.LineWordsLaws.{record-length}
@@ -121,51 +122,53 @@ knows-at rule s b k p q e = subst⁻¹ (Knows rule s b k) e
 
 -- ---- the last record, as code puts it
 
-module _ (n : ℕ) (t : Rest) (o : List ℕ) where
-  pub last-none : t .held ≡ Nothing → LastIs n t o (record { n = n; walk = Between t; over = false }) o
-  last-none e = record { is = subst⁻¹ (λ x. LastAs x n t o (record { n = n; walk = Between t; over = false }) o) e (refl, refl) }
+module _ (n : ℕ) (how : EndLines) (t : Rest) (o : List ℕ) where
+  pub last-none : t .held ≡ Nothing → LastIs n how t o (record { n = n; walk = Between how t; over = false }) o
+  last-none e = record { is = subst⁻¹ (λ x. LastAs x n how t o (record { n = n; walk = Between how t; over = false }) o) e (refl, refl) }
 
   pub last-one : (q : LineRecord) (u : Rest) (o′ : List ℕ) → t .held ≡ One q → u ≡ withHeld t Nothing → o′ ≡ store o (recordSize * n) (recordWords q)
-      → LastIs n t o (record { n = n + 1; walk = Between u; over = true }) o′
+      → LastIs n how t o (record { n = n + 1; walk = Between how u; over = true }) o′
   last-one q u o′ e eu eo = record {
-    is = subst⁻¹ (λ x. LastAs x n t o (record { n = n + 1; walk = Between u; over = true }) o′) e
-        (ap (λ x. record { n = n + 1; walk = Between x; over = true }) eu, eo);
+    is = subst⁻¹ (λ x. LastAs x n how t o (record { n = n + 1; walk = Between how u; over = true }) o′) e
+        (ap (λ x. record { n = n + 1; walk = Between how x; over = true }) eu, eo);
   }
 
 -- ---- turns that pass on
 
 module _ (rule : ℕ → Sort) (s v : List ℕ) where
   -- over the end of a body: o is the record that is held then
-  pub pass-end : (p : Place) (t u : Rest) (o : Held) → Used s p → gave o ≡ endHeld (p .head) (t .held) → u ≡ withHeld t o → pass (Between u) ≡ turnOf rule s v (Inside p t)
+  pub pass-end : (p : Place) (t u : Rest) (o : Held) → Used s p → gave o ≡ endHeld (p .head) (t .held) → u ≡ withHeld t o
+      → pass (Between (p .how) u) ≡ turnOf rule s v (Inside p t)
   pass-end p t u o k e eu =
-      end-on (p .head) t o u e eu ∙ block-is (take (p .end) s) p t nothing (k .over) ∙ inside-block s p t (k .fit .body) (k .lines)
+      end-on p t o u e eu ∙ block-is (take (p .end) s) p t nothing (k .over) ∙ inside-block s p t (k .fit .body) (k .lines)
       ∙ turn-is rule s v (Inside p t) (k .fit .short) (Inside p t) refl
 
   -- into the next one, whose n bytes start at a
-  module _ (t : Rest) (f : length s ≤ longest) (l : t .left ≡ 0 → ⊥) (g : length v < 2 ^ 64) (a n : ℕ)
-      (e : gave (record { start = a; len = n }) ≡ slotAt rule s v (t .slot) (t .scan)) (q : Place) (eq : gave q ≡ enterPlace s a n) where
-    pub pass-in : (u : Rest) → u ≡ behindBody t (q .end) → pass (Inside q u) ≡ turnOf rule s v (Between t)
+  module _ (how : EndLines) (t : Rest) (f : length s ≤ longest) (l : t .left ≡ 0 → ⊥) (g : length v < 2 ^ 64) (a n : ℕ)
+      (e : gave (record { start = a; len = n }) ≡ slotAt rule s v (t .slot) (t .scan)) (q : Place) (eq : gave q ≡ enterPlace how s a n) where
+    pub pass-in : (u : Rest) → u ≡ behindBody t (q .end) → pass (Inside q u) ≡ turnOf rule s v (Between how t)
     pass-in u eu =
-        sub-entered rule s v t a n g e q u eq eu ∙ between-sub rule s v t l ∙ turn-is rule s v (Between t) f (Between t) refl
+        sub-entered rule s v how t a n g e q u eq eu ∙ between-sub rule s v how t l ∙ turn-is rule s v (Between how t) f (Between how t) refl
 
     pub in-less : (u : Rest) → u ≡ behindBody t (q .end) → u .left < t .left
     in-less u eu = let z : u .left ≡ t .left - 1 = ap (λ r. r .left) eu in omega arith
 
     pub in-scan : (u : Rest) → u ≡ behindBody t (q .end) → u .scan ≡ a + n
-    in-scan u eu = ap (λ r. r .scan) eu ∙ enter-ends s a n q eq
+    in-scan u eu = ap (λ r. r .scan) eu ∙ enter-ends how s a n q eq
 
   -- the last record is given
-  pub last-gives : (t u : Rest) (r : LineRecord) → length s ≤ longest → t .left ≡ 0 → t .held ≡ One r → u ≡ withHeld t Nothing → item r (Between u) ≡ turnOf rule s v (Between t)
-  last-gives t u r f z e eu =
-      ap (λ x. item r (Between x)) eu ∙ given (t .held) e ∙ between-end rule s v t z ∙ turn-is rule s v (Between t) f (Between t) refl
+  pub last-gives : (how : EndLines) (t u : Rest) (r : LineRecord) → length s ≤ longest → t .left ≡ 0 → t .held ≡ One r → u ≡ withHeld t Nothing
+      → item r (Between how u) ≡ turnOf rule s v (Between how t)
+  last-gives how t u r f z e eu =
+      ap (λ x. item r (Between how x)) eu ∙ given (t .held) e ∙ between-end rule s v how t z ∙ turn-is rule s v (Between how t) f (Between how t) refl
     where
-      given : (o : Held) → o ≡ One r → item r (Between (withHeld t Nothing)) ≡ finishOf (withHeld t o)
+      given : (o : Held) → o ≡ One r → item r (Between how (withHeld t Nothing)) ≡ finishOf how (withHeld t o)
       given o q = rw q
 
-  last-over : (t u : Rest) → length s ≤ longest → t .left ≡ 0 → u ≡ withHeld t Nothing → over ≡ turnOf rule s v (Between u)
-  last-over t u f z eu =
-      between-end rule s v (withHeld t Nothing) z ∙ turn-is rule s v (Between (withHeld t Nothing)) f (Between (withHeld t Nothing)) refl
-      ∙ ap (λ x. turnOf rule s v (Between x)) (sym eu)
+  last-over : (how : EndLines) (t u : Rest) → length s ≤ longest → t .left ≡ 0 → u ≡ withHeld t Nothing → over ≡ turnOf rule s v (Between how u)
+  last-over how t u f z eu =
+      between-end rule s v how (withHeld t Nothing) z ∙ turn-is rule s v (Between how (withHeld t Nothing)) f (Between how (withHeld t Nothing)) refl
+      ∙ ap (λ x. turnOf rule s v (Between how x)) (sym eu)
 
   -- ---- where a walk stands
 
@@ -175,13 +178,19 @@ module _ (rule : ℕ → Sort) (s v : List ℕ) where
     stand-same w b p t f e =
         record { short = f; count = refl; turns = λ room o l. subst (λ y. TurnsPut rule s v room n w o n y o) e (turns-put-same rule s v room) }
 
-    -- a new walk; k is how many line subsections there are
-    pub stand-new : (w : LineWalk) (k : ℕ) (p : Place) (t : Rest) → w ≡ New → gave k ≡ countLines rule s → t ≡ freshRest 0 k
+    -- a walk between two bodies, at a place that is in none
+    pub stand-between : (w : LineWalk) (how : EndLines) (p : Place) (t : Rest) → length s ≤ longest → w ≡ Between how t → p .how ≡ how
         → StandOf rule s v n w (record { n = n; inside = false; place = p; rest = t })
-    stand-new w k p t ew e et =
+    stand-between w how p t f e q = stand-same w false p t f (e ∙ ap (λ x. Between x t) (sym q))
+
+    -- a new walk; k is how many line subsections there are
+    pub stand-new : (how : EndLines) (k : ℕ) (p : Place) (t : Rest) → p .how ≡ how → gave k ≡ countLines rule s → t ≡ freshRest 0 k
+        → StandOf rule s v n (New how) (record { n = n; inside = false; place = p; rest = t })
+    stand-new how k p t q e et =
         let f = counted-short rule s k e in
-        let q : pass (Between t) ≡ turnOf rule s v w = ap (λ x. pass (Between x)) et ∙ ap openOf e ∙ turn-is rule s v w f New ew in
-        record { short = f; count = refl; turns = λ room o l. turns-put-pass rule s v room l (Between t) q }
+        let z : pass (Between (p .how) t) ≡ turnOf rule s v (New how)
+        = (λ i. pass (Between (q i) (et i))) ∙ ap (openOf how) e ∙ turn-is rule s v (New how) f (New how) refl in
+        record { short = f; count = refl; turns = λ room o l. turns-put-pass rule s v room l (Between (p .how) t) z }
 
 -- w is x
 pub stands-as : (rule : ℕ → Sort) (s : List ℕ) (n : ℕ) (w x : LineWalk) (r : Standing) → w ≡ x → StandsFor rule s n x r → StandsFor rule s n w r
@@ -209,7 +218,7 @@ module _ (rule : ℕ → Sort) (s : List ℕ) (p : Place) (held : Held) (n : ℕ
       record {
         size = h .size;
         turns = λ v t. turns-put-on rule s v room (h .turns v t)
-            (turns-put-pass rule s v room (k .1) (Between (withHeld t q)) (pass-end rule s v (r .place) (withHeld t (r .held)) (withHeld t q) q (k .0) eq refl));
+            (turns-put-pass rule s v room (k .1) (Between (r .place .how) (withHeld t q)) (pass-end rule s v (r .place) (withHeld t (r .held)) (withHeld t q) q (k .0) eq refl));
         room = λ _. k .1;
       }
 
@@ -263,27 +272,27 @@ module _ (rule : ℕ → Sort) (s v : List ℕ) (n : ℕ) (w : LineWalk) (o : Li
         exactly = λ z w₁ o₁ e g. ap (λ u. u .last) (turns-put-both rule s v room f (k .turns) w₁ o₁ e g) ∙ k .exactly z w₁ o₁ e (f .under-way w₁ o₁ e g);
       }
 
-  pub bodies-last : (m : ℕ) (t u : Rest) (o′ o″ : List ℕ) (r : LineRecord) → Comes m (Between t) o′ → m < length o / recordSize → length s ≤ longest → t .left ≡ 0 → t .held ≡ One r
+  pub bodies-last : (m : ℕ) (how : EndLines) (t u : Rest) (o′ o″ : List ℕ) (r : LineRecord) → Comes m (Between how t) o′ → m < length o / recordSize → length s ≤ longest → t .left ≡ 0 → t .held ≡ One r
       → u ≡ withHeld t Nothing → o″ ≡ store o′ (recordSize * m) (recordWords r) → recordSize * m + recordSize ≤ length o′
-      → BodiesPut rule s v n w o (record { n = m + 1; walk = Between u; over = true }) o″
-  bodies-last m t u o′ o″ r h l f z e eu eo k =
+      → BodiesPut rule s v n w o (record { n = m + 1; walk = Between how u; over = true }) o″
+  bodies-last m how t u o′ o″ r h l f z e eu eo k =
       let room = length o / recordSize in
-      let q = last-gives rule s v t u r f z e eu in
+      let q = last-gives rule s v how t u r f z e eu in
       record {
         size = stored-length o′ (recordSize * m) r o″ eo k ∙ h .size;
-        turns = turns-put-on rule s v room (h .turns) (turns-put-record rule s v room l r (Between u) o″ q eo);
-        ends = λ _. (last-over rule s v t u f z eu, omega arith);
-        exactly = λ _ w₁ o₁ e₁ g. turns-put-last rule s v room (h .turns) l r (Between u) o″ q eo w₁ o₁ e₁ g;
+        turns = turns-put-on rule s v room (h .turns) (turns-put-record rule s v room l r (Between how u) o″ q eo);
+        ends = λ _. (last-over rule s v how t u f z eu, omega arith);
+        exactly = λ _ w₁ o₁ e₁ g. turns-put-last rule s v room (h .turns) l r (Between how u) o″ q eo w₁ o₁ e₁ g;
       }
 
   -- a is what `last_record` answers
-  pub bodies-finish : (m : ℕ) (t : Rest) (o′ o″ : List ℕ) (r : Reached) → Comes m (Between t) o′ → m < length o / recordSize → length s ≤ longest → t .left ≡ 0
-      → recordSize * m + recordSize ≤ length o′ → LastIs m t o′ r o″ → BodiesPut rule s v n w o r o″
-  bodies-finish m t o′ o″ r h l f z k a = by (t .held) refl (a .is)
+  pub bodies-finish : (m : ℕ) (how : EndLines) (t : Rest) (o′ o″ : List ℕ) (r : Reached) → Comes m (Between how t) o′ → m < length o / recordSize → length s ≤ longest → t .left ≡ 0
+      → recordSize * m + recordSize ≤ length o′ → LastIs m how t o′ r o″ → BodiesPut rule s v n w o r o″
+  bodies-finish m how t o′ o″ r h l f z k a = by (t .held) refl (a .is)
     where
-      by : (x : Held) → t .held ≡ x → LastAs x m t o′ r o″ → BodiesPut rule s v n w o r o″
-      by Nothing e q = rw (q .0, q .1) (bodies-stuck m (Between t) o′ h)
-      by (One c) e q = subst⁻¹ (λ y. BodiesPut rule s v n w o y o″) (q .0) (bodies-last m t (withHeld t Nothing) o′ o″ c h l f z e refl (q .1) k)
+      by : (x : Held) → t .held ≡ x → LastAs x m how t o′ r o″ → BodiesPut rule s v n w o r o″
+      by Nothing e q = rw (q .0, q .1) (bodies-stuck m (Between how t) o′ h)
+      by (One c) e q = subst⁻¹ (λ y. BodiesPut rule s v n w o y o″) (q .0) (bodies-last m how t (withHeld t Nothing) o′ o″ c h l f z e refl (q .1) k)
 
 -- ---- turn by turn
 

@@ -25,6 +25,7 @@ use body_list::Known;
 use body_list::Located;
 use body_list::find_body;
 use kinds::LINES;
+use line_record::EndLines;
 use line_record::LineRecord;
 use line_state_words::RECORD_WORDS;
 use line_state_words::put_row;
@@ -125,16 +126,23 @@ enum Onward {
 }
 
 // From between two bodies into the one that the next slot names.
-fn next_body(area: &[u8], slots: &[u32], bodies: &[u32], known: Known, t: Rest) -> Onward
+fn next_body(
+    area: &[u8],
+    slots: &[u32],
+    bodies: &[u32],
+    known: Known,
+    how: EndLines,
+    t: Rest,
+) -> Onward
     requires { ⌜ Knows crateRule (now area) (now bodies) known (t .scan) ⌝ }
     requires { ⌜ (length (now area) ≤ longest) × (1 ≤ t .left) ⌝ }
-    ensures { λ r. ⌜ OnwardIs crateRule (now (area .entry)) (now (slots .entry)) (now (bodies .entry)) t r ⌝ }
+    ensures { λ r. ⌜ OnwardIs crateRule (now (area .entry)) (now (slots .entry)) (now (bodies .entry)) how t r ⌝ }
 {
     let found = named_body(area, slots, bodies, known, t.slot, t.scan);
     let named = found.named;
     let after = found.known;
     match named {
-        Named::Body { start, len } => match enter(area, start, len) {
+        Named::Body { start, len } => match enter(area, how, start, len) {
             Entered::In(p) => {
                 let u = behind_body(t, p.end);
                 Onward::In(p, u, after)
@@ -173,15 +181,15 @@ fn put_one(out: &mut [u32], n: usize, r: LineRecord)
 }
 
 // No subsection is left: the record that is held is the last.
-fn last_record(n: usize, t: Rest, out: &mut [u32]) -> Reached
+fn last_record(n: usize, how: EndLines, t: Rest, out: &mut [u32]) -> Reached
     requires { ⌜ recordSize * n + recordSize ≤ length (now out) ⌝ }
-    ensures { λ r. ⌜ LastIs n t (now (out .entry)) r (now (out .exit)) ⌝ }
+    ensures { λ r. ⌜ LastIs n how t (now (out .entry)) r (now (out .exit)) ⌝ }
 {
     let held = t.held;
     match held {
         Held::Nothing => Reached {
             n,
-            walk: LineWalk::Between(t),
+            walk: LineWalk::Between(how, t),
             over: false,
         },
         Held::One(r) => {
@@ -190,7 +198,7 @@ fn last_record(n: usize, t: Rest, out: &mut [u32]) -> Reached
             let u = with_held(t, Held::Nothing);
             Reached {
                 n: more,
-                walk: LineWalk::Between(u),
+                walk: LineWalk::Between(how, u),
                 over: true,
             }
         }
@@ -241,6 +249,7 @@ fn bodies_on(area: &[u8], slots: &[u32], bodies: &[u32], from: Stand, out: &mut 
     let mut p = from.place;
     let mut t = from.rest;
     loop {
+        let how = p.how;
         if inside {
             let held = t.held;
             let x = body_on(area, p, held, n, out);
@@ -257,10 +266,10 @@ fn bodies_on(area: &[u8], slots: &[u32], bodies: &[u32], from: Stand, out: &mut 
             }
             inside = false;
         } else if t.left == 0 {
-            return last_record(n, t, out);
+            return last_record(n, how, t, out);
         } else {
-            let Onward::In(q, u, after) = next_body(area, slots, bodies, known, t) else {
-                return stuck(n, LineWalk::Between(t));
+            let Onward::In(q, u, after) = next_body(area, slots, bodies, known, how, t) else {
+                return stuck(n, LineWalk::Between(how, t));
             };
             inside = true;
             p = q;
@@ -270,9 +279,11 @@ fn bodies_on(area: &[u8], slots: &[u32], bodies: &[u32], from: Stand, out: &mut 
     }
 }
 
-// The place of a walk that is in no body.
-fn nowhere() -> Place {
-    place_at(header_of(&[]), 0, 0)
+// The place of a walk that is in no body. It keeps how end lines are read.
+fn nowhere(how: EndLines) -> Place
+    ensures { λ r. ⌜ r .how ≡ how ⌝ }
+{
+    place_at(how, header_of(&[]), 0, 0)
 }
 
 // Where a walk stands, if the turn from there passes on.
@@ -282,13 +293,13 @@ enum Standing {
 }
 
 // A new walk counts the line subsections first.
-fn stand_new(area: &[u8], n: usize) -> Standing
-    ensures { λ r. ⌜ StandsFor crateRule (now (area .entry)) n New r ⌝ }
+fn stand_new(area: &[u8], n: usize, how: EndLines) -> Standing
+    ensures { λ r. ⌜ StandsFor crateRule (now (area .entry)) n (New how) r ⌝ }
 {
     match count_lines(area) {
         Counted::Lines(left) => {
             let rest = fresh_rest(0, left);
-            let place = nowhere();
+            let place = nowhere(how);
             Standing::At(Stand {
                 n,
                 inside: false,
@@ -307,9 +318,9 @@ fn stand_of(area: &[u8], n: usize, w: LineWalk) -> Standing
         return Standing::No;
     }
     match w {
-        LineWalk::New => stand_new(area, n),
-        LineWalk::Between(rest) => {
-            let place = nowhere();
+        LineWalk::New(how) => stand_new(area, n, how),
+        LineWalk::Between(how, rest) => {
+            let place = nowhere(how);
             Standing::At(Stand {
                 n,
                 inside: false,

@@ -31,6 +31,7 @@ use inlinees::next_inlinee;
 use libc::STDIN_FILENO;
 use libc::STDOUT_FILENO;
 use line_record::Column;
+use line_record::EndLines;
 use line_record::Length;
 use line_record::LineKind;
 use line_record::LineRecord;
@@ -500,10 +501,10 @@ fn lines(area: &[u8], call: Call) {
     let mut slots = [0u32; 256];
     order_list(area, &mut slots);
     if call.number == LINE {
-        line_walk(area, &slots, call, LineWalk::New);
+        line_walk(area, &slots, call, LineWalk::New(EndLines::Crate));
         return;
     }
-    match lines_for_symbol(area, &slots, &[], call.section, call.word) {
+    match lines_for_symbol(area, &slots, &[], call.section, call.word, EndLines::Crate) {
         SymbolLines::Lines(walk) => line_walk(area, &slots, call, walk),
         SymbolLines::Refused(why) => refused_line(call, why),
     }

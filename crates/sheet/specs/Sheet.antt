@@ -17,6 +17,7 @@ use Rattle.table.specs.declared.TableWalk.the-variants as table
 use Rattle.lines.specs.Lines.{countLines}
 use Rattle.lines.specs.Blocks.{blockAt}
 use Rattle.order.specs.Order.{ordered, slotsAfter}
+use Rattle.line_record.specs.declared.EndLines.the-variants.{Crate}
 use Rattle.line_record.specs.declared.LineSource.{LineSource}
 use Rattle.line_record.specs.Record.{columnIf, entryOf}
 use Rattle.line_record.specs.Told.{ToldLine, toldRecord}
@@ -55,14 +56,14 @@ numberOn n k = record { number = n; carries = k ∷ [] }
 
 -- the walk over no lines
 abbrev pub noLines : LineWalk
-noLines = line.Between (record { slot = 0; left = 0; scan = 0; held = Nothing })
+noLines = line.Between Crate (record { slot = 0; left = 0; scan = 0; held = Nothing })
 
 abbrev pub seven : List ℕ
 seven = 0 ∷ 0 ∷ 0 ∷ 0 ∷ 0 ∷ 0 ∷ 0 ∷ []
 
--- of a section, from its start on, without columns
+-- of a section, from its start on, without columns, end lines by the crate's reading
 abbrev pub source : LineSource
-source = record { section = 1; base = 0; file = 0; columns = false }
+source = record { section = 1; base = 0; file = 0; columns = false; how = Crate }
 
 -- what an entry says, its record by its numbers
 abbrev pub entryTold : ℕ → Reply ToldLine Told
@@ -94,8 +95,8 @@ rows =
     ∷ row (countLines crateRule []) (gave 0)  -- lines::count_lines
     ∷ row (ordered crateRule [] 1) (gave 0)  -- order::order_list
     ∷ row (slotsAfter crateRule [] (7 ∷ [])) (7 ∷ [])  -- order::order_list, its slots
-    ∷ row (nextOf crateRule [] [] line.New) none  -- line_walk::next_line
-    ∷ row (symbolWalk crateRule [] [] 1 0x1000) (gave noLines)  -- symbol_lines::lines_for_symbol
+    ∷ row (nextOf crateRule [] [] (line.New Crate)) none  -- line_walk::next_line
+    ∷ row (symbolWalk Crate crateRule [] [] 1 0x1000) (gave noLines)  -- symbol_lines::lines_for_symbol
     ∷ row (nextOf crateRule [] [] noLines) none  -- line_walk::next_line, of that walk
     ∷ row (fileStep crateRule [] table.New) none  -- files::next_file
     ∷ row (fileAt crateRule [] 0) (refused (numberOn 18 0))  -- files::file_at
@@ -112,8 +113,8 @@ rows =
     ∷ row (countLines crateRule seven) (refused (number 1))  -- lines::count_lines
     ∷ row (ordered crateRule seven 1) (refused (number 1))  -- order::order_list
     ∷ row (slotsAfter crateRule seven (7 ∷ [])) (7 ∷ [])  -- order::order_list, its slots
-    ∷ row (nextOf crateRule seven [] line.New) (refuses (number 1))  -- line_walk::next_line
-    ∷ row (symbolWalk crateRule seven [] 1 0x1000) (refused (number 1))  -- symbol_lines::lines_for_symbol
+    ∷ row (nextOf crateRule seven [] (line.New Crate)) (refuses (number 1))  -- line_walk::next_line
+    ∷ row (symbolWalk Crate crateRule seven [] 1 0x1000) (refused (number 1))  -- symbol_lines::lines_for_symbol
     ∷ row (fileStep crateRule seven table.New) (refuses (number 1))  -- files::next_file
     ∷ row (fileAt crateRule seven 0) (refused (number 1))  -- files::file_at
     ∷ row (inlineeStep crateRule seven table.New) (refuses (number 1))  -- inlinees::next_inlinee

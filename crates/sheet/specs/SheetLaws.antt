@@ -16,7 +16,7 @@ use Rattle.lines.specs.Slots.{named}
 use Rattle.slot_key.specs.Sort.{sortBy}
 use Rattle.body_list.specs.BodyList.{listed}
 use Rattle.line_record.specs.Flags.{lineKind, isMarker}
-use Rattle.line_record.specs.EndLine.{endLine}
+use Rattle.line_record.specs.EndLine.{endFrom}
 use Rattle.line_record.specs.Record.{entryOf}
 use Rattle.line_step.specs.Turn.{betweenTurn, turnOf}
 use Rattle.line_walk.specs.Next.{turnBound, nextOf}
@@ -29,7 +29,7 @@ use Rattle.exports.specs.Exports.{ascends, globalOf, lookup}
 use Rattle.sheet.specs.Sheet.{Holds, done, _and_, rows}
 
 pub sheet : Holds rows
-unfolding rows u16At u32At le32 run all firstIn first firstBy lastBy only bite parts crateRule placed subsFrom crateStep wordsIn moduleBite modules collected ofNth headed countOf blockAt named sortBy listed lineKind isMarker endLine entryOf betweenTurn turnOf turnBound nextOf numbered entryAt filesSub fileStep fileAt checksumPart fileIn inlineeStep ifRef ascends globalOf lookup
+unfolding rows u16At u32At le32 run all firstIn first firstBy lastBy only bite parts crateRule placed subsFrom crateStep wordsIn moduleBite modules collected ofNth headed countOf blockAt named sortBy listed lineKind isMarker endFrom entryOf betweenTurn turnOf turnBound nextOf numbered entryAt filesSub fileStep fileAt checksumPart fileIn inlineeStep ifRef ascends globalOf lookup
 sheet =
     refl and refl and refl and refl and refl and refl and refl and refl and refl and refl and refl and refl and refl and refl and refl and refl
     and refl and refl and refl and refl and refl and refl and refl and refl and refl and refl and refl and refl and refl and refl and refl and refl

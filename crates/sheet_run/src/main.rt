@@ -14,6 +14,7 @@ use imports::ImportStep;
 use imports::Resolved;
 use inlinees::InlineeStep;
 use libc::STDOUT_FILENO;
+use line_record::EndLines;
 use line_record::Entry;
 use line_record::Length;
 use line_record::LineKind;
@@ -115,6 +116,7 @@ fn flags(word: u32) {
         base: 0,
         file: 0,
         columns: false,
+        how: EndLines::Crate,
     };
     match line_record::entry_of(source, 0, word, 0) {
         Entry::Line(r) => line(r),
@@ -237,7 +239,7 @@ fn line_step(area: &[u8], slots: &[u32], walk: LineWalk) -> LineWalk {
 }
 
 fn steps(area: &[u8], slots: &[u32]) {
-    let first = line_step(area, slots, LineWalk::New);
+    let first = line_step(area, slots, LineWalk::New(EndLines::Crate));
     let second = line_step(area, slots, first);
     line_step(area, slots, second);
 }

@@ -13,6 +13,7 @@ use Rattle.walk.specs.FailsLaws.{FailsBy}
 use Rattle.refusal.specs.Told.{Told}
 use Rattle.kinds.specs.Kind.{Sort}
 use Rattle.find.specs.Find.{same}
+use Rattle.line_record.specs.declared.EndLines.{EndLines}
 use Rattle.lines.specs.Lines.{countLines, Body}
 use Rattle.lines.specs.Slots.{listOf}
 use Rattle.order.specs.Order.{orderOf, ordered, slotsAfter, inOrder}
@@ -62,20 +63,20 @@ unfolding numbered
 numbered-whole i [] = tt
 numbered-whole i (b ∷ bs) = numbered-whole (i + 1) bs
 
-walk-answered : (x : Reply Numbered Told) → Answered x → (w : LineWalk) × (gave w ≡ walkTo (mapReply slotOf same x))
-walk-answered (gave k) a = (walkOf (gave (k .slot)), refl)
-walk-answered nothing a = (walkOf nothing, refl)
-walk-answered (refused t) a = absurd a
+walk-answered : (how : EndLines) (x : Reply Numbered Told) → Answered x → (w : LineWalk) × (gave w ≡ walkTo how (mapReply slotOf same x))
+walk-answered how (gave k) a = (walkOf how (gave (k .slot)), refl)
+walk-answered how nothing a = (walkOf how nothing, refl)
+walk-answered how (refused t) a = absurd a
 
-module _ (rule : ℕ → Sort) (s : List ℕ) (section offset n : ℕ) where
+module _ (how : EndLines) (rule : ℕ → Sort) (s : List ℕ) (section offset n : ℕ) where
   -- what stands behind the list does not matter
-  pub symbol-list : (vs : List ℕ) → gave n ≡ countLines rule s → symbolRecords rule s (orderOf rule s ++ vs) section offset ≡ areaSymbol rule s section offset
-  symbol-list vs e = ap (λ l. bodyRecords (symbolBody section offset l)) (built-list rule s n e vs)
+  pub symbol-list : (vs : List ℕ) → gave n ≡ countLines rule s → symbolRecords how rule s (orderOf rule s ++ vs) section offset ≡ areaSymbol how rule s section offset
+  symbol-list vs e = ap (λ l. bodyRecords how (symbolBody section offset l)) (built-list rule s n e vs)
 
   -- for a list that `order_list` made in slots that held xs
   module _ (xs : List ℕ) (e : gave n ≡ ordered rule s (length xs)) where
-    pub symbol-built : symbolRecords rule s (slotsAfter rule s xs) section offset ≡ areaSymbol rule s section offset
-    symbol-built = ap (λ l. bodyRecords (symbolBody section offset l)) (built rule s xs n e)
+    pub symbol-built : symbolRecords how rule s (slotsAfter rule s xs) section offset ≡ areaSymbol how rule s section offset
+    symbol-built = ap (λ l. bodyRecords how (symbolBody section offset l)) (built rule s xs n e)
 
     abbrev slotIs : Listing Body Told → Reply Numbered Told
     slotIs l = orElse (firstBy (atSlot section offset) (numbered 0 l)) (lastBy (beforeSlot section offset) (numbered 0 l))
@@ -87,12 +88,12 @@ module _ (rule : ℕ → Sort) (s : List ℕ) (section offset n : ℕ) where
         (either-answered (atSlot section offset) (beforeSlot section offset) l (numbered-whole 0 (inOrder rule s)))
 
     -- THE THEOREM: the call answers a walk, whose answers are the records of the area alone
-    pub symbol-answered : (w : LineWalk) × (gave w ≡ symbolWalk rule s (slotsAfter rule s xs) section offset)
-    symbol-answered = walk-answered (slotIs (listOf rule s (slotsAfter rule s xs))) is-answered
+    pub symbol-answered : (w : LineWalk) × (gave w ≡ symbolWalk how rule s (slotsAfter rule s xs) section offset)
+    symbol-answered = walk-answered how (slotIs (listOf rule s (slotsAfter rule s xs))) is-answered
 
-    pub symbol-walk-built : (w : LineWalk) → gave w ≡ symbolWalk rule s (slotsAfter rule s xs) section offset → (k : ℕ)
-        → calls (nextOf rule s (slotsAfter rule s xs)) k w ≡ replies k (areaSymbol rule s section offset)
-    symbol-walk-built w q k = symbol-walk rule s (slotsAfter rule s xs) section offset w q k ∙ ap (replies k) symbol-built
+    pub symbol-walk-built : (w : LineWalk) → gave w ≡ symbolWalk how rule s (slotsAfter rule s xs) section offset → (k : ℕ)
+        → calls (nextOf rule s (slotsAfter rule s xs)) k w ≡ replies k (areaSymbol how rule s section offset)
+    symbol-walk-built w q k = symbol-walk rule s (slotsAfter rule s xs) section offset how w q k ∙ ap (replies k) symbol-built
 
 -- ---- the records of a body fail by 1, 7 and 8 alone, and so never for a slot
 
@@ -103,14 +104,14 @@ bodies-whole (b ∷ bs) = bodies-whole bs
 abbrev NotSlot : Told → Type 0
 NotSlot t = t .number ≡ 19 → ⊥
 
-pub symbol-never-slot : (rule : ℕ → Sort) (s : List ℕ) (section offset : ℕ) → FailsBy NotSlot (areaSymbol rule s section offset)
-symbol-never-slot rule s section offset =
+pub symbol-never-slot : (how : EndLines) (rule : ℕ → Sort) (s : List ℕ) (section offset : ℕ) → FailsBy NotSlot (areaSymbol how rule s section offset)
+symbol-never-slot how rule s section offset =
     by (symbolBody section offset (before (inOrder rule s) ends))
     (either-answered (isAt section offset) (isBefore section offset) (before (inOrder rule s) ends) (bodies-whole (inOrder rule s)))
   where
-    by : (x : Reply Body Told) → Answered x → FailsBy NotSlot (bodyRecords x)
+    by : (x : Reply Body Told) → Answered x → FailsBy NotSlot (bodyRecords how x)
     by (gave b) a =
-        settle-by NotSlot (λ e. omega arith) (λ e. omega arith) (λ e. omega arith) (bodyThen b ends)
-        (body-by NotSlot (λ e. omega arith) (λ e. omega arith) (λ e. omega arith) b ends tt)
+        settle-by NotSlot (λ e. omega arith) (λ e. omega arith) (λ e. omega arith) (bodyThen how b ends)
+        (body-by NotSlot (λ e. omega arith) (λ e. omega arith) (λ e. omega arith) how b ends tt)
     by nothing a = tt
     by (refused t) a = absurd a

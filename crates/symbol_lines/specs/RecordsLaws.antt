@@ -15,6 +15,7 @@ use Rattle.refusal.specs.Told.{Told, longest}
 use Rattle.kinds.specs.Kind.{Sort}
 use Rattle.find.specs.Find.{same, Span}
 use Rattle.line_record.specs.LimitsLaws.{Limits}
+use Rattle.line_record.specs.declared.EndLines.{EndLines}
 use Rattle.lines.specs.Lines.{countLines, Body, bodyOn}
 use Rattle.lines.specs.LinesLaws.{count-long}
 use Rattle.lines.specs.Slots.{bodyAt, nameThen, named, slotAt, listIn, listOf}
@@ -71,7 +72,7 @@ module _ (rule : ℕ → Sort) (s v : List ℕ) where
   or-gives nothing y p q = q
   or-gives (refused t) y p q = tt
 
-  module _ (section offset : ℕ) where
+  module _ (section offset : ℕ) (how : EndLines) where
     abbrev found : Reply Numbered Told
     found =
         orElse (firstBy (atSlot section offset) (numbered 0 (listOf rule s v))) (lastBy (beforeSlot section offset) (numbered 0 (listOf rule s v)))
@@ -91,44 +92,44 @@ module _ (rule : ℕ → Sort) (s v : List ℕ) where
         (first-holds Names (atSlot section offset) N (list-names (countLines rule s))) (last-holds Names (beforeSlot section offset) N (list-names (countLines rule s)))
 
     -- in an area that is not too long
-    from-found : length s ≤ longest → (x : Reply Numbered Told) → Gives Names x → (w : LineWalk) → gave w ≡ walkTo (mapReply slotOf same x)
-        → (n : ℕ) → calls (nextOf rule s v) n w ≡ replies n (bodyRecords (mapReply bodyOf same x))
+    from-found : length s ≤ longest → (x : Reply Numbered Told) → Gives Names x → (w : LineWalk) → gave w ≡ walkTo how (mapReply slotOf same x)
+        → (n : ℕ) → calls (nextOf rule s v) n w ≡ replies n (bodyRecords how (mapReply bodyOf same x))
     unfolding eventsOf settle named
     from-found h (gave k) g w e n =
-        let q : w ≡ walkOf (gave (k .slot)) = cc in
-        ap (calls (nextOf rule s v) n) q ∙ walk-from rule s v n (walkOf (gave (k .slot))) (h, scans-start rule s)
-        ∙ ap (λ l. replies n (settle (eventsOf l))) g
+        let q : w ≡ walkOf how (gave (k .slot)) = cc in
+        ap (calls (nextOf rule s v) n) q ∙ walk-from rule s v n (walkOf how (gave (k .slot))) (h, scans-start rule s)
+        ∙ ap (λ l. replies n (settle (eventsOf how l))) g
     from-found h nothing g w e n =
-        let q : w ≡ walkOf nothing = cc in
-        ap (calls (nextOf rule s v) n) q ∙ walk-from rule s v n (walkOf nothing) (h, scans-start rule s)
+        let q : w ≡ walkOf how nothing = cc in
+        ap (calls (nextOf rule s v) n) q ∙ walk-from rule s v n (walkOf how nothing) (h, scans-start rule s)
     from-found h (refused t) g w e n = let z : _≡_ {A = ℕ} 0 1 = cc in absurd (omega arith)
 
     -- THE THEOREM: the walk's answers, taken until it ends, are the records of the symbol
-    pub symbol-walk : (w : LineWalk) → gave w ≡ symbolWalk rule s v section offset → (n : ℕ)
-        → calls (nextOf rule s v) n w ≡ replies n (symbolRecords rule s v section offset)
+    pub symbol-walk : (w : LineWalk) → gave w ≡ symbolWalk how rule s v section offset → (n : ℕ)
+        → calls (nextOf rule s v) n w ≡ replies n (symbolRecords how rule s v section offset)
     symbol-walk w e n =
         ⊎-elim
-        (λ (h : length s ≤ longest). from-found h found found-names w e n ∙ ap (λ x. replies n (bodyRecords x)) found-body)
+        (λ (h : length s ≤ longest). from-found h found found-names w e n ∙ ap (λ x. replies n (bodyRecords how x)) found-body)
         (λ (h : longest < length s).
-        let q = e ∙ sym (symbol-refused rule s v section offset _ (count-long rule s h)) in
+        let q = e ∙ sym (symbol-refused how rule s v section offset _ (count-long rule s h)) in
         let z : _≡_ {A = ℕ} 0 1 = cc in absurd (omega arith))
         (le-or-gt (length s) longest)
 
-    fails-found : (x : Reply Numbered Told) (t : Told) → refused t ≡ walkTo (mapReply slotOf same x) → fails t ≡ bodyRecords (mapReply bodyOf same x)
+    fails-found : (x : Reply Numbered Told) (t : Told) → refused t ≡ walkTo how (mapReply slotOf same x) → fails t ≡ bodyRecords how (mapReply bodyOf same x)
     fails-found (gave k) t e = let z : _≡_ {A = ℕ} 0 1 = cc in absurd (omega arith)
     fails-found nothing t e = let z : _≡_ {A = ℕ} 0 1 = cc in absurd (omega arith)
     fails-found (refused r) t e = let q : t ≡ r = cc in ap fails q
 
     -- and a refusal is theirs
-    pub symbol-fails : (t : Told) → refused t ≡ symbolWalk rule s v section offset → fails t ≡ symbolRecords rule s v section offset
-    symbol-fails t e = fails-found found t e ∙ ap bodyRecords found-body
+    pub symbol-fails : (t : Told) → refused t ≡ symbolWalk how rule s v section offset → fails t ≡ symbolRecords how rule s v section offset
+    symbol-fails t e = fails-found found t e ∙ ap (bodyRecords how) found-body
 
 -- ---- limits
 
-pub symbol-limits : (rule : ℕ → Sort) (s v : List ℕ) (section offset : ℕ) → Every Limits (symbolRecords rule s v section offset)
-symbol-limits rule s v section offset = by (symbolBody section offset (listOf rule s v))
+pub symbol-limits : (how : EndLines) (rule : ℕ → Sort) (s v : List ℕ) (section offset : ℕ) → Every (Limits how) (symbolRecords how rule s v section offset)
+symbol-limits how rule s v section offset = by (symbolBody section offset (listOf rule s v))
   where
-    by : (x : Reply Body Told) → Every Limits (bodyRecords x)
-    by (gave b) = settle-limits (bodyThen b ends) (body-limits b ends tt)
+    by : (x : Reply Body Told) → Every (Limits how) (bodyRecords how x)
+    by (gave b) = settle-limits how (bodyThen how b ends) (body-limits how b ends tt)
     by nothing = tt
     by (refused t) = tt

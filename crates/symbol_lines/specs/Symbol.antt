@@ -1,7 +1,7 @@
 -- The lines of a symbol at an offset of a section: the records of one line body of the list alone. Source: document 01, "Line subsections", as
 -- mended by the crate: the list's first subsection at just this section and offset; else the last one in list order of the same section with a
 -- smaller offset, whether or not it covers the offset; else none. The list's tests but 10 come first, and a slot on the way that is missing or
--- names no line body is 19.
+-- names no line body is 19. Their end lines are by the reading that the caller names.
 -- Definitions only; a reader must believe them, but for `Numbered` to `symbolWalk`: `symbol-walk`, `symbol-fails` (symbol_lines RecordsLaws) say what these
 -- mean.
 use Prim.Native.Nat.{ℕ, _+_}
@@ -14,6 +14,7 @@ use Rattle.refusal.specs.Told.{Told}
 use Rattle.kinds.specs.Kind.{Sort}
 use Rattle.body.specs.Lines.{LineHead, lineHead}
 use Rattle.find.specs.Find.{same}
+use Rattle.line_record.specs.declared.EndLines.{EndLines}
 use Rattle.lines.specs.Lines.{Body}
 use Rattle.lines.specs.Slots.{listOf}
 use Rattle.order.specs.Order.{inOrder}
@@ -40,18 +41,18 @@ abbrev pub symbolBody : ℕ → ℕ → Listing Body Told → Reply Body Told
 symbolBody section offset l = orElse (firstBy (isAt section offset) l) (lastBy (isBefore section offset) l)
 
 -- the records of one body alone
-abbrev pub bodyRecords : Reply Body Told → Records
-bodyRecords (gave b) = settle (bodyThen b ends)
-bodyRecords nothing = ends
-bodyRecords (refused t) = fails t
+abbrev pub bodyRecords : EndLines → Reply Body Told → Records
+bodyRecords how (gave b) = settle (bodyThen how b ends)
+bodyRecords how nothing = ends
+bodyRecords how (refused t) = fails t
 
 -- THE RECORDS of a symbol
-abbrev pub symbolRecords : (ℕ → Sort) → List ℕ → List ℕ → ℕ → ℕ → Records
-symbolRecords rule s v section offset = bodyRecords (symbolBody section offset (listOf rule s v))
+abbrev pub symbolRecords : EndLines → (ℕ → Sort) → List ℕ → List ℕ → ℕ → ℕ → Records
+symbolRecords how rule s v section offset = bodyRecords how (symbolBody section offset (listOf rule s v))
 
 -- the same of an area alone: over its line bodies in ascending (section, offset), equal keys in area order
-abbrev pub areaSymbol : (ℕ → Sort) → List ℕ → ℕ → ℕ → Records
-areaSymbol rule s section offset = bodyRecords (symbolBody section offset (before (inOrder rule s) ends))
+abbrev pub areaSymbol : EndLines → (ℕ → Sort) → List ℕ → ℕ → ℕ → Records
+areaSymbol how rule s section offset = bodyRecords how (symbolBody section offset (before (inOrder rule s) ends))
 
 -- ---- the walk over a symbol's records: the slot of the body that they stand in
 
@@ -82,15 +83,15 @@ abbrev pub better : ℕ → ℕ → LineHead → ℕ → Reply ℕ Told → Repl
 better section offset h i y = cond (headBefore section offset h) (gave i) y
 
 -- the walk over the one subsection that a slot names; without a slot it is at its end
-abbrev pub walkOf : Reply ℕ Told → LineWalk
-walkOf (gave i) = Between (freshRest i 1)
-walkOf nothing = Between (freshRest 0 0)
-walkOf (refused t) = Between (freshRest 0 0)
+abbrev pub walkOf : EndLines → Reply ℕ Told → LineWalk
+walkOf how (gave i) = Between how (freshRest i 1)
+walkOf how nothing = Between how (freshRest 0 0)
+walkOf how (refused t) = Between how (freshRest 0 0)
 
-abbrev pub walkTo : Reply ℕ Told → Reply LineWalk Told
-walkTo (gave i) = gave (walkOf (gave i))
-walkTo nothing = gave (walkOf nothing)
-walkTo (refused t) = refused t
+abbrev pub walkTo : EndLines → Reply ℕ Told → Reply LineWalk Told
+walkTo how (gave i) = gave (walkOf how (gave i))
+walkTo how nothing = gave (walkOf how nothing)
+walkTo how (refused t) = refused t
 
-abbrev pub symbolWalk : (ℕ → Sort) → List ℕ → List ℕ → ℕ → ℕ → Reply LineWalk Told
-symbolWalk rule s v section offset = walkTo (slotIn section offset (listOf rule s v))
+abbrev pub symbolWalk : EndLines → (ℕ → Sort) → List ℕ → List ℕ → ℕ → ℕ → Reply LineWalk Told
+symbolWalk how rule s v section offset = walkTo how (slotIn section offset (listOf rule s v))

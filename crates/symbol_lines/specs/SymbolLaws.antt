@@ -14,6 +14,7 @@ use Rattle.refusal.specs.Told.{Told}
 use Rattle.kinds.specs.Kind.{Sort}
 use Rattle.body.specs.Lines.{LineHead, lineHead}
 use Rattle.find.specs.Find.{same, Span, bytesAt}
+use Rattle.line_record.specs.declared.EndLines.{EndLines}
 use Rattle.lines.specs.Lines.{countLines, Body, bodyOn}
 use Rattle.lines.specs.Slots.{bodyAt, nameThen, named, slotAt, listIn, Scans}
 use Rattle.lines.specs.SlotsLaws.{named-slot}
@@ -146,14 +147,16 @@ module _ (rule : ℕ → Sort) (s v : List ℕ) (n section offset : ℕ) where
 
 -- ---- the whole call
 
-module _ (rule : ℕ → Sort) (s v : List ℕ) (section offset : ℕ) where
-  pub symbol-counted : (n : ℕ) → gave n ≡ countLines rule s → walkTo (slotIn section offset (named (bodyAt rule s) n v)) ≡ symbolWalk rule s v section offset
-  symbol-counted n e = ap (λ k. walkTo (slotIn section offset (listIn rule s v k))) e
+module _ (how : EndLines) (rule : ℕ → Sort) (s v : List ℕ) (section offset : ℕ) where
+  -- x is the slot that was found
+  pub symbol-counted : (n : ℕ) → gave n ≡ countLines rule s → (x : Reply ℕ Told) → x ≡ slotIn section offset (named (bodyAt rule s) n v)
+      → walkTo how x ≡ symbolWalk how rule s v section offset
+  symbol-counted n e x q = ap (walkTo how) q ∙ ap (λ k. walkTo how (slotIn section offset (listIn rule s v k))) e
 
-  pub symbol-refused : (t : Told) → refused t ≡ countLines rule s → refused t ≡ symbolWalk rule s v section offset
+  pub symbol-refused : (t : Told) → refused t ≡ countLines rule s → refused t ≡ symbolWalk how rule s v section offset
   unfolding numbered firstBy
-  symbol-refused t e = ap (λ k. walkTo (slotIn section offset (listIn rule s v k))) e
+  symbol-refused t e = ap (λ k. walkTo how (slotIn section offset (listIn rule s v k))) e
 
-pub walk-best : (b : Best) → gave (walkOf (toldBest b)) ≡ walkTo (toldBest b)
-walk-best best.None = refl
-walk-best (best.Slot i) = refl
+pub walk-best : (how : EndLines) (b : Best) → gave (walkOf how (toldBest b)) ≡ walkTo how (toldBest b)
+walk-best how best.None = refl
+walk-best how (best.Slot i) = refl

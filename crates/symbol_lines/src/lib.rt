@@ -8,9 +8,10 @@ ghost use Rattle.kinds.specs.Kind.{crateRule};
 ghost use Rattle.lines.specs.Slots.{bodyAt, named};
 ghost use Rattle.lines.specs.Told.{toldHeader};
 ghost use Rattle.symbol_lines.specs.Symbol.{headIs, better, slotIn, walkOf, walkTo, symbolWalk};
-ghost use Rattle.symbol_lines.specs.Told.{toldBest, toldSymbol};
+ghost use Rattle.symbol_lines.specs.Told.{toldBest, toldSymbolSlot, toldSymbol};
 use body_list::Known;
 use body_list::find_body;
+use line_record::EndLines;
 use line_step::LineWalk;
 use line_step::fresh_rest;
 use lines::Counted;
@@ -54,16 +55,31 @@ fn better_slot(best: Best, head: LineHeader, section: u16, offset: u32, slot: us
 }
 
 // The walk over the one subsection that a slot names, or over none.
-fn walk_of(best: Best) -> LineWalk
-    ensures { λ r. ⌜ r ≡ walkOf (toldBest best) ⌝ }
+fn walk_of(best: Best, how: EndLines) -> LineWalk
+    ensures { λ r. ⌜ r ≡ walkOf how (toldBest best) ⌝ }
 {
     match best {
-        Best::None => LineWalk::Between(fresh_rest(0, 0)),
-        Best::Slot(i) => LineWalk::Between(fresh_rest(i, 1)),
+        Best::None => LineWalk::Between(how, fresh_rest(0, 0)),
+        Best::Slot(i) => LineWalk::Between(how, fresh_rest(i, 1)),
     }
 }
 
-// The walk over the symbol's subsection, which is looked for through the first n slots.
+// The slot whose subsection the lines of a symbol stand in, if there is one.
+enum SymbolSlot {
+    Best(Best),
+    Refused(Refusal),
+}
+
+fn walk_to(found: SymbolSlot, how: EndLines) -> SymbolLines
+    ensures { λ r. ⌜ toldSymbol r ≡ walkTo how (toldSymbolSlot found) ⌝ }
+{
+    match found {
+        SymbolSlot::Best(best) => SymbolLines::Lines(walk_of(best, how)),
+        SymbolSlot::Refused(why) => SymbolLines::Refused(why),
+    }
+}
+
+// The slot of the symbol's subsection, which is looked for through the first n slots.
 fn find_slot(
     area: &[u8],
     slots: &[u32],
@@ -71,8 +87,8 @@ fn find_slot(
     n: usize,
     section: u16,
     offset: u32,
-) -> SymbolLines
-    ensures { λ r. ⌜ toldSymbol r ≡ walkTo (slotIn section offset (named (bodyAt crateRule (now (area .entry))) n (now (slots .entry)))) ⌝ }
+) -> SymbolSlot
+    ensures { λ r. ⌜ toldSymbolSlot r ≡ slotIn section offset (named (bodyAt crateRule (now (area .entry))) n (now (slots .entry))) ⌝ }
 {
     let mut best = Best::None;
     let mut known = Known::Nothing;
@@ -86,7 +102,7 @@ fn find_slot(
                 let end = start + len;
                 let head = header_of(&area[start..end]);
                 if is_at(head, section, offset) {
-                    return SymbolLines::Lines(walk_of(Best::Slot(i)));
+                    return SymbolSlot::Best(Best::Slot(i));
                 }
                 best = better_slot(best, head, section, offset, i);
                 known = found.known;
@@ -94,26 +110,30 @@ fn find_slot(
                 i += 1;
             }
             Named::Refused(why) => {
-                return SymbolLines::Refused(why);
+                return SymbolSlot::Refused(why);
             }
         }
     }
-    SymbolLines::Lines(walk_of(best))
+    SymbolSlot::Best(best)
 }
 
 // The list's first subsection at just this section and offset; else the last one in list order of the same section with a smaller offset; else none.
-// The answer does not depend on `bodies`, which may be the area's list of line bodies and makes the call faster then.
+// The walk reads end lines as `how` says. The answer does not depend on `bodies`, which may be the area's list of line bodies and makes the call faster then.
 pub fn lines_for_symbol(
     area: &[u8],
     slots: &[u32],
     bodies: &[u32],
     section: u16,
     offset: u32,
+    how: EndLines,
 ) -> SymbolLines
-    ensures { λ r. ⌜ toldSymbol r ≡ symbolWalk crateRule (now (area .entry)) (now (slots .entry)) section offset ⌝ }
+    ensures { λ r. ⌜ toldSymbol r ≡ symbolWalk how crateRule (now (area .entry)) (now (slots .entry)) section offset ⌝ }
 {
     match count_lines(area) {
-        Counted::Lines(n) => find_slot(area, slots, bodies, n, section, offset),
+        Counted::Lines(n) => {
+            let found = find_slot(area, slots, bodies, n, section, offset);
+            walk_to(found, how)
+        }
         Counted::Refused(why) => SymbolLines::Refused(why),
     }
 }

@@ -9,10 +9,14 @@ use Rattle.export_lines.proofs.is_over.Statement.{statement}
 use Rattle.export_lines.proofs.is_over.Tie as tie
 
 returns : tie.Need-returns
-returns c = over-last _ (c .before .before .before .before .walk .given .0 .0) (c .before .before .before .before .walk .given .1) (c .before .if1 .taken) _ (c .holds-one .ensures)
+returns c =
+    let m = c .before .before .before .before in
+    over-last _ _ (m .walk .given .0 .1 .0) (m .walk .given .1) (c .before .if1 .taken) _ (c .holds-one .ensures)
 
 returns-3 : tie.Need-returns-3
-returns-3 c = over-more _ (c .before .before .before .walk .given .0 .0) (c .before .before .before .walk .given .1) (c .if1 .left)
+returns-3 c =
+    let m = c .before .before .before in
+    over-more _ _ (m .walk .given .0 .1 .0) (m .walk .given .1) (c .if1 .left)
 
 pub is-over-spec : {M : Type 1} → statement M
 is-over-spec =

@@ -1,72 +1,49 @@
--- `export_lines::lines` meets its contract: the words of what `next_lines` tells, and the records as that leaves them; without room nothing.
+-- `export_lines::lines` meets its contract: the records from the walk that the lent words say, if they name a reading.
 -- Assumes nothing.
 use borrow.Author.Needs.{needs}
 use mathlib.Core.Path.{sym, ap, _∙_}
-use native.Mathlib.Omega.{arith}
 use lib.ListN.{length}
 use Rattle.kinds.specs.Kind.{crateRule}
-use Rattle.answer_words.specs.GivenLaws.{gives-none}
-use Rattle.answer_words.specs.FillGivenLaws.{fill-short, fill-given}
-use Rattle.line_state_words.specs.LineWords.{stateSize, lineWalkIn, lineWalkWords, recordWords}
+use Rattle.answer_words.specs.Given.{ifChosen}
+use Rattle.answer_words.specs.GivenLaws.{gives-chosen, gives-unchosen}
+use Rattle.answer_words.specs.FillGiven.{fillGiven, fillLeft}
+use Rattle.line_state_words.specs.LineWords.{stateSize, lineWalkWords, recordWords}
+use Rattle.line_state_words.specs.Told.{toldWalkIn}
 use Rattle.many_lines.specs.Lines.{linesOf}
-use Rattle.many_lines.specs.Told.{toldLines}
 use Rattle.export_lines.specs.Calls.{overWalk}
 use Rattle.export_lines.proofs.lines.Statement.{statement}
 use Rattle.export_lines.proofs.lines.Tie as tie
 
 returns : tie.Need-returns
 returns c =
-    let at = c .before .before .before .before .before .before .args in
-    fill-short stateSize overWalk lineWalkWords recordWords (at .out .now) (at .records .now) (linesOf crateRule (at .area .now) (at .slots .now) (length (at .records .now)) (lineWalkIn (at .out .now))) (omega arith)
+    let m = c .before .before .before .before .before .before .before .before in
+    let h = m .before .before in
+    let a = h .before .before .before .before .before .before .before .args in
+    let e = ap toldWalkIn (sym (m .walk .given .1)) ∙ h .line-walk-in .ensures in
+    let l = c .before .before .before .before .lines-from .ensures in (
+      gives-chosen (λ w. fillGiven stateSize overWalk lineWalkWords (a .out .now) (linesOf crateRule (a .area .now) (a .slots .now) (length (a .records .now)) w)) _ _ e (l .0),
+      l .1 ∙ ap (ifChosen (a .records .now) (λ w. fillLeft stateSize recordWords (a .out .now) (a .records .now) (linesOf crateRule (a .area .now) (a .slots .now) (length (a .records .now)) w))) e,
+    )
 
 returns-2 : tie.Need-returns-2
 returns-2 c =
-    let h = c .before .before .before .before .before .before .before .before .before in
-    let at = h .before .before .before .before .before .before .before .before .before .before .args in
-    let w = h .before .before .line-walk-in .ensures in
-    let l = h .next-lines .ensures in
-    let e = ap toldLines (sym (c .before .before .before .before .before .count .given .1)) ∙ l .0 in
-    fill-given stateSize overWalk lineWalkWords recordWords (at .out .now) (at .records .now) (linesOf crateRule (at .area .now) (at .slots .now) (length (at .records .now))) (omega arith) w e (l .1)
-    (c .before .before .put-lines .ensures)
-
-returns-3 : tie.Need-returns-3
-returns-3 c =
-    let h = c .before .before .before .before in
-    let at = h .before .before .before .before .before .before .before .before .before .before .args in
-    let w = h .before .before .line-walk-in .ensures in
-    let l = h .next-lines .ensures in
-    let e = ap toldLines (sym (c .enum-told .given .1)) ∙ l .0 in
-    fill-given stateSize overWalk lineWalkWords recordWords (at .out .now) (at .records .now) (linesOf crateRule (at .area .now) (at .slots .now) (length (at .records .now))) (omega arith) w e (l .1)
-    (gives-none _)
-
-returns-4 : tie.Need-returns-4
-returns-4 c =
-    let h = c .before .before .before .before .before .before .before .before .before in
-    let at = h .before .before .before .before .before .before .before .before .before .before .args in
-    let w = h .before .before .line-walk-in .ensures in
-    let l = h .next-lines .ensures in
-    let e = ap toldLines (sym (c .before .before .before .before .before .why .given .1)) ∙ l .0 in
-    fill-given stateSize overWalk lineWalkWords recordWords (at .out .now) (at .records .now) (linesOf crateRule (at .area .now) (at .slots .now) (length (at .records .now))) (omega arith) w e (l .1)
-    (c .before .before .put-refusal .ensures)
+    let h = c .before .before in
+    let a = h .before .before .before .before .before .before .before .args in
+    let e = ap toldWalkIn (sym (c .enum-told .given .1)) ∙ h .line-walk-in .ensures in (
+      gives-unchosen (λ w. fillGiven stateSize overWalk lineWalkWords (a .out .now) (linesOf crateRule (a .area .now) (a .slots .now) (length (a .records .now)) w)) _ e,
+      ap (ifChosen (a .records .now) (λ w. fillLeft stateSize recordWords (a .out .now) (a .records .now) (linesOf crateRule (a .area .now) (a .slots .now) (length (a .records .now)) w))) e,
+    )
 
 pub lines-spec : {M : Type 1} → statement M
 lines-spec =
     tie.close
     (tie.spec
+    (λ c κs. search needs)
+    (λ c. search needs)
+    (λ c κs. search needs)
+    (λ c. search needs)
+    (λ c. search needs)
+    (λ c. search needs)
     returns
-    (λ c κs. search needs)
-    (λ c κs. search needs)
     (λ c. search needs)
-    (λ c κs. search needs)
-    (λ c. search needs)
-    (λ c. search needs)
-    (λ c κs. search needs)
-    (λ c. search needs)
-    (λ c. search needs)
-    returns-2
-    (λ c. search needs)
-    (λ c. search needs)
-    returns-3
-    (λ c. search needs)
-    (λ c. search needs)
-    returns-4)
+    returns-2)

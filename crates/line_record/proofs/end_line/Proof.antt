@@ -1,10 +1,32 @@
--- `line_record::end_line` meets its contract: the crate's end line is the start line.
+-- `line_record::end_line` meets its contract: by the crate's reading it is the start line, by the low bits what the start line and the field give.
 -- Assumes nothing.
 use borrow.Author.Needs.{needs}
-use mathlib.Core.Path.{sym, _∙_}
-use Rattle.line_record.specs.EndLineLaws.{end-is-start}
+use native.Mathlib.Omega.{arith}
+use mathlib.Core.Path.{sym, ap, _∙_}
+use Rattle.line_record.specs.declared.EndLines.{EndLines}
+use Rattle.line_record.specs.EndLine.{endFrom, endLine}
+use Rattle.line_record.specs.EndLineLaws.{end-is-start, field-is}
 use Rattle.line_record.proofs.end_line.Statement.{statement}
 use Rattle.line_record.proofs.end_line.Tie as tie
 
+returns : tie.Need-returns
+returns c =
+    let s = c .before .before in
+    s .start-line .ensures ∙ sym (end-is-start _) ∙ ap (λ (x : EndLines). endLine x (s .before .args .flags)) (sym (c .enum-told .given .1))
+
+returns-2 : tie.Need-returns-2
+returns-2 c =
+    let s = c .before .before .before in
+    c .end-from .ensures ∙ (λ i. endFrom (s .start-line .ensures i) (field-is (s .before .args .flags) i))
+    ∙ ap (λ (x : EndLines). endLine x (s .before .args .flags)) (sym (c .before .enum-told2 .given .1))
+
 pub end-line-spec : {M : Type 1} → statement M
-end-line-spec = tie.close (tie.spec (λ c κs. search needs) (λ c. c .start-line .ensures ∙ sym (end-is-start _)))
+end-line-spec =
+    tie.close
+    (tie.spec
+    (λ c κs. search needs)
+    (λ c. search needs)
+    (λ c. search needs)
+    (λ c κs. (omega (arith, c .before .before .start-line .ensures), omega arith))
+    returns
+    returns-2)

@@ -1,25 +1,32 @@
--- `line_state_words::line_walk_in` meets its contract: each way out is a case of `lineWalkIn`.
+-- `line_state_words::line_walk_in` meets its contract: a walk, or none where the word for it names no reading.
 -- Assumes nothing.
 use borrow.Author.Needs.{needs}
-use Rattle.line_state_words.specs.LineWordsLaws.{walk-new, walk-between, walk-inside}
+use mathlib.Core.Path.{sym, ap, _∙_}
+use mathlib.Core.Option.{some}
+use Rattle.line_state_words.specs.Told.{toldHow}
+use Rattle.line_state_words.specs.LineWordsLaws.{walk-named}
 use Rattle.line_state_words.proofs.line_walk_in.Statement.{statement}
 use Rattle.line_state_words.proofs.line_walk_in.Tie as tie
 
-returns-2 : tie.Need-returns-2
-returns-2 c = walk-between _ _ (c .before .before .before .state-word .ensures) (c .before .before .if1 .left) (c .if2 .taken) _ (c .before .rest-in .ensures)
+returns : tie.Need-returns
+returns c =
+    let m = c .before .before in
+    let h = m .before .before in
+    ap some (c .walk-by .ensures) ∙ walk-named _ _ (h .before .state-word .ensures) _ (ap toldHow (sym (m .how .given .1)) ∙ h .how-named .ensures)
 
-returns-3 : tie.Need-returns-3
-returns-3 c =
-    let h = c .before .before .before in
-    walk-inside _ _ (h .before .state-word .ensures) (h .if1 .left) (c .before .if2 .left) _ (c .place-in .ensures) _ (c .before .before .rest-in .ensures)
+returns-2 : tie.Need-returns-2
+returns-2 c =
+    let h = c .before .before in
+    walk-named (h .before .before .before .args .out .now) _ (h .before .state-word .ensures) _ (ap toldHow (sym (c .enum-told .given .1)) ∙ h .how-named .ensures)
 
 pub line-walk-in-spec : {M : Type 1} → statement M
 line-walk-in-spec =
     tie.close
     (tie.spec
     (λ c κs. search needs)
-    (λ c. walk-new _ _ (c .before .state-word .ensures) (c .if1 .taken))
     (λ c κs. search needs)
-    returns-2
+    (λ c. search needs)
     (λ c κs. search needs)
-    returns-3)
+    (λ c. search needs)
+    returns
+    returns-2)

@@ -8,7 +8,7 @@ returns : tie.Need-returns
 returns c =
     let a = c .before .before .before in
     let b = a .before .before .before in
-    λ i. record { head = b .head-in .ensures i; end = a .before .before .state-word .ensures i; next = a .before .state-word2 .ensures i; file = a .word32 .ensures i; lines = c .before .before .state-word3 .ensures i; line = c .before .state-word4 .ensures i; column = c .state-word5 .ensures i }
+    λ i. record { head = b .head-in .ensures i; how = b .before .before .args .how; end = a .before .before .state-word .ensures i; next = a .before .state-word2 .ensures i; file = a .word32 .ensures i; lines = c .before .before .state-word3 .ensures i; line = c .before .state-word4 .ensures i; column = c .state-word5 .ensures i }
 
 pub place-in-spec : {M : Type 1} → statement M
 place-in-spec =

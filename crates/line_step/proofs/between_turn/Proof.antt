@@ -12,6 +12,6 @@ between-turn-spec =
     tie.close
     (tie.spec
     (λ c κs. search needs)
-    (λ c. c .finish .ensures ∙ between-end _ _ _ _ (omega arith))
+    (λ c. c .finish .ensures ∙ between-end _ _ _ _ _ (omega arith))
     (λ c κs. search needs)
-    (λ c. c .sub-turn .ensures ∙ between-sub _ _ _ _ (omega arith)))
+    (λ c. c .sub-turn .ensures ∙ between-sub _ _ _ _ _ (omega arith)))

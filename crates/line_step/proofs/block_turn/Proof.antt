@@ -10,7 +10,7 @@ use Rattle.line_step.proofs.block_turn.Tie as tie
 returns : tie.Need-returns
 returns c =
     let m = c .before in
-    block-is _ (m .before .before .before .before .before .args .p) _ _ (ap toldNextBlock (sym (m .q .given .1)) ∙ m .before .before .next-block .ensures)
+    block-is _ (m .before .before .before .before .args .p) _ _ (ap toldNextBlock (sym (m .q .given .1)) ∙ m .before .before .next-block .ensures)
 
 returns-2 : tie.Need-returns-2
 returns-2 c =
@@ -20,7 +20,7 @@ returns-2 c =
 returns-3 : tie.Need-returns-3
 returns-3 c =
     let m = c .before in
-    let a = m .before .before .before .before .before .args in
+    let a = m .before .before .before .before .args in
     block-is _ (a .p) (a .t) _ (ap toldNextBlock (sym (m .why .given .1)) ∙ m .before .before .next-block .ensures)
 
 pub block-turn-spec : {M : Type 1} → statement M

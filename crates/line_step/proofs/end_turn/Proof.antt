@@ -10,12 +10,13 @@ use Rattle.line_step.proofs.end_turn.Tie as tie
 returns : tie.Need-returns
 returns c =
     let m = c .before .before in
-    end-on _ (m .before .before .before .args .t) _ _ (ap toldEndBody (sym (m .closing .given .1)) ∙ m .before .before .end-body .ensures) (c .with-held .ensures)
+    let a = m .before .before .before .before .args in
+    end-on (a .p) (a .t) _ _ (ap toldEndBody (sym (m .closing .given .1)) ∙ m .before .before .end-body .ensures) (c .with-held .ensures)
 
 returns-2 : tie.Need-returns-2
 returns-2 c =
     let m = c .before in
-    end-refused _ _ _ (ap toldEndBody (sym (m .why .given .1)) ∙ m .before .before .end-body .ensures)
+    end-refused (m .before .before .before .before .args .p) _ _ (ap toldEndBody (sym (m .why .given .1)) ∙ m .before .before .end-body .ensures)
 
 pub end-turn-spec : {M : Type 1} → statement M
 end-turn-spec = tie.close (tie.spec (λ c κs. search needs) (λ c. search needs) (λ c κs. search needs) (λ c. search needs) returns returns-2)

@@ -8,16 +8,16 @@ use Rattle.line_step.proofs.enter.Statement.{statement}
 use Rattle.line_step.proofs.enter.Tie as tie
 
 returns-4 : tie.Need-returns-4
-returns-4 c = enter-in _ _ _ (omega arith) (omega arith) _ _ _ (add-sub-cancel-left _ _) (c .before .header-of .ensures) (c .place-at .ensures)
+returns-4 c = enter-in _ _ _ _ (omega arith) (omega arith) _ _ _ (add-sub-cancel-left _ _) (c .before .header-of .ensures) (c .place-at .ensures)
 
 pub enter-spec : {M : Type 1} → statement M
 enter-spec =
     tie.close
     (tie.spec
-    (λ c. enter-outside _ _ _ (omega arith))
+    (λ c. enter-outside _ _ _ _ (omega arith))
     (λ c. search needs)
-    (λ c. enter-outside _ _ _ (omega arith))
-    (λ c. enter-short _ _ _ (omega arith) (omega arith))
+    (λ c. enter-outside _ _ _ _ (omega arith))
+    (λ c. enter-short _ _ _ _ (omega arith) (omega arith))
     (λ c. search needs)
     (λ c. search needs)
     (λ c. search needs)

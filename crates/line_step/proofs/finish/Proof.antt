@@ -13,4 +13,4 @@ finish-spec =
     (λ c. search needs)
     (λ c κs. search needs)
     (λ c. rw (c .enum-told .given .1))
-    (λ c. finish-one _ _ _ _ (c .before .before .held .given .1) (c .with-held .ensures)))
+    (λ c. finish-one _ _ _ _ _ (c .before .before .held .given .1) (c .with-held .ensures)))

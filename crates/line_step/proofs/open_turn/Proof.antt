@@ -10,7 +10,9 @@ use Rattle.line_step.proofs.open_turn.Statement.{statement}
 use Rattle.line_step.proofs.open_turn.Tie as tie
 
 returns : tie.Need-returns
-returns c = ap (λ t. pass (Between t)) (c .fresh-rest .ensures) ∙ ap openOf (ap toldCounted (sym (c .before .before .n .given .1)) ∙ c .before .before .before .before .count-lines .ensures)
+returns c =
+    let how = c .before .before .before .before .before .before .args .how in
+    ap (λ t. pass (Between how t)) (c .fresh-rest .ensures) ∙ ap (openOf how) (ap toldCounted (sym (c .before .before .n .given .1)) ∙ c .before .before .before .before .count-lines .ensures)
 
 pub open-turn-spec : {M : Type 1} → statement M
 open-turn-spec =
@@ -21,4 +23,4 @@ open-turn-spec =
     (λ c κs. search needs)
     (λ c. search needs)
     returns
-    (λ c. ap openOf (ap toldCounted (sym (c .before .why .given .1)) ∙ c .before .before .before .count-lines .ensures)))
+    (λ c. ap (openOf _) (ap toldCounted (sym (c .before .why .given .1)) ∙ c .before .before .before .count-lines .ensures)))

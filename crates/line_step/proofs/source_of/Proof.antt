@@ -7,7 +7,7 @@ use Rattle.line_step.proofs.source_of.Tie as tie
 returns : tie.Need-returns
 returns c =
     let p = c .before .before .args .p in
-    λ i. record { section = p .head .section; base = p .head .offset; file = p .file; columns = c .has-columns .ensures i }
+    λ i. record { section = p .head .section; base = p .head .offset; file = p .file; columns = c .has-columns .ensures i; how = p .how }
 
 pub source-of-spec : {M : Type 1} → statement M
 source-of-spec =

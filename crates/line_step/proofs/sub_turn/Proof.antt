@@ -13,13 +13,13 @@ returns : tie.Need-returns
 returns c =
     let k = c .before .before .before .before in
     let m = k .before .before in
-    sub-entered _ _ _ _ _ _ (omega (arith, m .before .before .before .before .before .good)) (ap toldNamed (sym (m .start .given .1)) ∙ m .before .before .slot-body .ensures) _ _ (ap toldEntered (sym (c .before .before .p .given .1)) ∙ k .enter .ensures) (c .behind-body .ensures)
+    sub-entered _ _ _ _ _ _ _ (omega (arith, m .before .before .before .before .before .good)) (ap toldNamed (sym (m .start .given .1)) ∙ m .before .before .slot-body .ensures) _ _ (ap toldEntered (sym (c .before .before .p .given .1)) ∙ k .enter .ensures) (c .behind-body .ensures)
 
 returns-2 : tie.Need-returns-2
 returns-2 c =
     let k = c .before .before .before in
     let m = k .before .before in
-    sub-cut _ _ _ _ _ _ (omega (arith, m .before .before .before .before .before .good)) (ap toldNamed (sym (m .start .given .1)) ∙ m .before .before .slot-body .ensures) _ (ap toldEntered (sym (c .before .why .given .1)) ∙ k .enter .ensures)
+    sub-cut _ _ _ _ _ _ _ (omega (arith, m .before .before .before .before .before .good)) (ap toldNamed (sym (m .start .given .1)) ∙ m .before .before .slot-body .ensures) _ (ap toldEntered (sym (c .before .why .given .1)) ∙ k .enter .ensures)
 
 pub sub-turn-spec : {M : Type 1} → statement M
 sub-turn-spec =
@@ -34,4 +34,4 @@ sub-turn-spec =
     (λ c. search needs)
     returns
     returns-2
-    (λ c. sub-is _ _ _ _ _ (ap toldNamed (sym (c .before .why2 .given .1)) ∙ c .before .before .before .slot-body .ensures)))
+    (λ c. sub-is _ _ _ _ _ _ (ap toldNamed (sym (c .before .why2 .given .1)) ∙ c .before .before .before .slot-body .ensures)))

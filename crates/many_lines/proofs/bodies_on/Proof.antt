@@ -61,7 +61,7 @@ returns-2 : tie.Need-returns-2 Inv-loop μ-loop
 returns-2 c =
     let l = c .before .before .before .before .before .before .before .loop in
     let h = comes-at crateRule _ _ _ _ _ _ false (c .before .before .before .before .before .before .if1 .left) (l .n) (l .p) (l .t) (l .out) (l .inv .0) in
-    bodies-finish crateRule _ _ _ _ _ (l .n) (l .t) (l .out) _ _ h (l .inv .2) (l .inv .3) (c .before .before .before .before .if3 .taken) (omega (arith, l .inv .2, l .inv .0 .size)) (c .before .before .last-record .ensures)
+    bodies-finish crateRule _ _ _ _ _ (l .n) (l .p .how) (l .t) (l .out) _ _ h (l .inv .2) (l .inv .3) (c .before .before .before .before .if3 .taken) (omega (arith, l .inv .2, l .inv .0 .size)) (c .before .before .last-record .ensures)
 
 next-body-requires : tie.Need-next-body-requires Inv-loop μ-loop
 next-body-requires c κs = let l = c .before .before .before .loop in (l .inv .1, (l .inv .3, omega (arith, c .if3 .left)))
@@ -75,14 +75,14 @@ returns-3 c =
 loop-less-2 : tie.Need-loop-less-2 Inv-loop μ-loop
 loop-less-2 c =
     let k = c .before .before .before in
-    let z = subst (OnwardIs crateRule _ _ _ _) (c .before .q .given .1) (k .next-body .ensures) in
+    let z = subst (OnwardIs crateRule _ _ _ _ _) (c .before .q .given .1) (k .next-body .ensures) in
     go-turn _ _ _ (k .before .before .before .if1 .left) (z .2) true
 
 loop-again-2 : tie.Need-loop-again-2 Inv-loop μ-loop
 loop-again-2 c =
     let k = c .before .before .before in
     let l = k .before .before .before .before .loop in
-    let z = subst (OnwardIs crateRule _ _ _ _) (c .before .q .given .1) (k .next-body .ensures) in
+    let z = subst (OnwardIs crateRule _ _ _ _ _) (c .before .q .given .1) (k .next-body .ensures) in
     let h = comes-at crateRule _ _ _ _ _ _ false (k .before .before .before .if1 .left) (l .n) (l .p) (l .t) (l .out) (l .inv .0) in
     (comes-pass crateRule _ _ _ _ _ _ _ _ _ h (l .inv .2) (z .0), z .1, l .inv .2, l .inv .3)
 

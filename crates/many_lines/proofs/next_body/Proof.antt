@@ -23,9 +23,9 @@ returns c =
     let f = a .pre .1 in
     let z : a .args .t .left ≡ 0 → ⊥ = λ y. omega arith in
     let g : length (a .args .slots .now) < 2 ^ 64 = omega (arith, a .good) in (
-      pass-in crateRule _ _ _ (f .0) z g _ _ e _ eq _ (c .behind-body .ensures),
-      knows-at crateRule _ _ _ _ _ (in-scan crateRule _ _ _ (f .0) z g _ _ e _ eq _ (c .behind-body .ensures)) (l .known _ (ap toldNamed (sym (m .named .given .1)))),
-      in-less crateRule _ _ _ (f .0) z g _ _ e _ eq _ (c .behind-body .ensures),
+      pass-in crateRule _ _ _ _ (f .0) z g _ _ e _ eq _ (c .behind-body .ensures),
+      knows-at crateRule _ _ _ _ _ (in-scan crateRule _ _ _ _ (f .0) z g _ _ e _ eq _ (c .behind-body .ensures)) (l .known _ (ap toldNamed (sym (m .named .given .1)))),
+      in-less crateRule _ _ _ _ (f .0) z g _ _ e _ eq _ (c .behind-body .ensures),
     )
 
 pub next-body-spec : {M : Type 1} → statement M

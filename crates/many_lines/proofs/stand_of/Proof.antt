@@ -3,18 +3,18 @@
 use borrow.Author.Needs.{needs}
 use native.Mathlib.Omega.{arith}
 use Rattle.kinds.specs.Kind.{crateRule}
-use Rattle.many_lines.specs.BodiesLaws.{stand-same, stands-as}
+use Rattle.many_lines.specs.BodiesLaws.{stand-same, stand-between, stands-as}
 use Rattle.many_lines.proofs.stand_of.Statement.{statement}
 use Rattle.many_lines.proofs.stand_of.Tie as tie
 
 returns-2 : tie.Need-returns-2
-returns-2 c = stands-as crateRule _ _ _ _ _ (c .before .enum-told .given .1) (c .stand-new .ensures)
+returns-2 c = stands-as crateRule _ _ _ _ _ (c .before .before .w .given .1) (c .stand-new .ensures)
 
 returns-3 : tie.Need-returns-3
-returns-3 c = record { each = λ v. stand-same crateRule _ v _ _ _ _ _ (omega arith) (c .before .before .w .given .1) }
+returns-3 c = record { each = λ v. stand-between crateRule _ v _ _ _ _ _ (omega arith) (c .before .before .w2 .given .1) (c .nowhere .ensures) }
 
 returns-4 : tie.Need-returns-4
-returns-4 c = record { each = λ v. stand-same crateRule _ v _ _ _ _ _ (omega arith) (c .before .w2 .given .1) }
+returns-4 c = record { each = λ v. stand-same crateRule _ v _ _ _ _ _ (omega arith) (c .before .w3 .given .1) }
 
 pub stand-of-spec : {M : Type 1} → statement M
 stand-of-spec =

@@ -6,16 +6,15 @@ use Prim.Native.Nat.{_-_}
 use mathlib.Core.Path.{_≡_, sym, ap, _∙_}
 use native.Mathlib.Nat.{add-sub-cancel-left}
 use native.Mathlib.Omega.{arith}
-use Rattle.walk.specs.Listing.{gave}
 use Rattle.kinds.specs.Kind.{crateRule}
 use Rattle.lines.specs.Slots.{bodyAt, named, Scans}
 use Rattle.lines.specs.SlotsLaws.{scans-start, slot-inside, slot-scans}
 use Rattle.lines.specs.Told.{toldNamed}
 use Rattle.body_list.specs.Search.{Right}
 use Rattle.body_list.specs.SearchLaws.{located-right, located-known}
-use Rattle.symbol_lines.specs.Symbol.{slotIn, walkTo}
+use Rattle.symbol_lines.specs.Symbol.{slotIn}
 use Rattle.symbol_lines.specs.Told.{toldBest}
-use Rattle.symbol_lines.specs.SymbolLaws.{walk-best, slotFrom, bestOf, best-start, turn-hit, turn-on, turn-refused, turn-end}
+use Rattle.symbol_lines.specs.SymbolLaws.{slotFrom, bestOf, best-start, turn-hit, turn-on, turn-refused, turn-end}
 use Rattle.symbol_lines.proofs.find_slot.Statement.{statement}
 use Rattle.symbol_lines.proofs.find_slot.Tie as tie
 
@@ -47,14 +46,13 @@ part-header-of-end c =
 
 returns : tie.Need-returns Inv-loop μ-loop
 returns c =
-    let m = c .before .before .before .before .before .before in
+    let m = c .before .before .before .before .before in
     let f = m .before .before in
     let l = f .before .before .loop in
     let x = located-right _ _ _ _ _ _ _ (l .inv .2) (f .find-body .result) (f .find-body .ensures) in
     let e = ap toldNamed (sym (m .body .given .1)) ∙ x in
-    ap gave (c .walk-of .ensures)
-    ∙ ap walkTo (turn-hit _ _ _ _ _ _ _ _ (l .inv .1) (omega arith) _ _ _ _ e (add-sub-cancel-left _ _) (c .before .before .before .header-of .ensures)
-    (sym (c .before .before .is-at .ensures) ∙ c .before .if1 .taken) ∙ l .inv .0)
+    turn-hit _ _ _ _ _ _ _ _ (l .inv .1) (omega arith) _ _ _ _ e (add-sub-cancel-left _ _) (c .before .before .header-of .ensures)
+    (sym (c .before .is-at .ensures) ∙ c .if1 .taken) ∙ l .inv .0
 
 loop-again : tie.Need-loop-again Inv-loop μ-loop
 loop-again c =
@@ -77,12 +75,12 @@ returns-2 c =
     let l = f .before .before .loop in
     let x = located-right _ _ _ _ _ _ _ (l .inv .2) (f .find-body .result) (f .find-body .ensures) in
     let e = ap toldNamed (sym (m .body2 .given .1)) ∙ x in
-    ap walkTo (turn-refused _ _ _ _ _ _ _ _ (l .inv .1) (omega arith) _ _ e ∙ l .inv .0)
+    turn-refused _ _ _ _ _ _ _ _ (l .inv .1) (omega arith) _ _ e ∙ l .inv .0
 
 returns-3 : tie.Need-returns-3 Inv-loop μ-loop
 returns-3 c =
-    let l = c .before .before .loop in
-    ap gave (c .walk-of2 .ensures) ∙ walk-best (l .best) ∙ ap walkTo (turn-end _ _ _ _ _ _ _ (omega arith) _ ∙ l .inv .0)
+    let l = c .before .loop in
+    turn-end _ _ _ _ _ _ _ (omega arith) _ ∙ l .inv .0
 
 pub find-slot-spec : {M : Type 1} → statement M
 find-slot-spec =
@@ -99,7 +97,6 @@ find-slot-spec =
     part-header-of-end
     (λ c κs. search needs)
     (λ c κs. search needs)
-    (λ c κs. search needs)
     returns
     (λ c κs. search needs)
     (λ c. search needs)
@@ -107,5 +104,4 @@ find-slot-spec =
     loop-again
     (λ c. search needs)
     returns-2
-    (λ c κs. search needs)
     returns-3)

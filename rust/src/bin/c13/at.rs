@@ -3,6 +3,7 @@
 use crate::desk::{Desk, Fault};
 use crate::input::Input;
 use crate::names::{shown, Names};
+use crate::reading::Reading;
 use c13::{Area, PdbInternalSectionOffset, Refusal};
 use std::ffi::{OsStr, OsString};
 use std::io::Write;
@@ -31,13 +32,13 @@ pub fn place(word: &OsStr) -> Result<PdbInternalSectionOffset, String> {
     }
 }
 
-/// Asks each area in turn. Those that cover the place answer a line each.
-pub fn print(desk: &mut Desk, areas: &[OsString], names: &Names, place: PdbInternalSectionOffset) -> Result<(), Fault> {
+/// Asks each area in turn. Those that cover the place answer a line each, with the end line and its reading where the call names one.
+pub fn print(desk: &mut Desk, areas: &[OsString], names: &Names, place: PdbInternalSectionOffset, reading: Option<Reading>) -> Result<(), Fault> {
     let asked = format!("{}:{:#x}", place.section, place.offset);
     let mut covered = false;
     for path in areas {
         let area = Input::read(path)?;
-        match source(&area, names, place) {
+        match source(&area, names, place, reading) {
             Ok(Some(text)) => {
                 if areas.len() > 1 {
                     write!(desk, "{}: ", area.name)?;
@@ -62,15 +63,21 @@ pub fn print(desk: &mut Desk, areas: &[OsString], names: &Names, place: PdbInter
 }
 
 /// File, line and checksum of the code at a place, if a line of the area covers it; or what is refused, and why.
-fn source<'a>(area: &'a Input, names: &Names<'a>, place: PdbInternalSectionOffset) -> Result<Option<Vec<u8>>, (&'a str, Refusal)> {
+fn source<'a>(
+    area: &'a Input,
+    names: &Names<'a>,
+    place: PdbInternalSectionOffset,
+    reading: Option<Reading>,
+) -> Result<Option<Vec<u8>>, (&'a str, Refusal)> {
     let of_area = |why| (area.name.as_str(), why);
-    let program = Area::new(&area.bytes).line_program().map_err(of_area)?;
+    let program = Area::new(&area.bytes).line_program().map_err(of_area)?.with_end_lines(reading.unwrap_or_default().end_lines);
     let line = match program.line_at(place).map_err(of_area)? {
         Some(line) => line,
         None => return Ok(None),
     };
     let file = program.get_file_info(line.file_index).map_err(of_area)?;
     let name = names.get(file.name).map_err(|why| (names.input, why))?;
-    let rest = format!(" line {} {} {}", line.line_start, file.checksum.kind(), file.checksum);
+    let end = reading.map_or(String::new(), |reading| format!("-{} {}", line.line_end, reading.name));
+    let rest = format!(" line {}{end} {} {}", line.line_start, file.checksum.kind(), file.checksum);
     Ok(Some([shown(name), rest.into()].concat()))
 }

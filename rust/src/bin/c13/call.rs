@@ -3,21 +3,25 @@
 use crate::at;
 use crate::desk::Fault;
 use crate::files::Check;
+use crate::reading::Reading;
 use c13::PdbInternalSectionOffset;
 use std::ffi::{OsStr, OsString};
 
 pub enum Call {
     Help,
     Version,
-    Sheet { area: OsString, names: Option<OsString> },
-    At { areas: Vec<OsString>, names: OsString, place: PdbInternalSectionOffset },
+    Sheet { area: OsString, names: Option<OsString>, reading: Reading },
+    At { areas: Vec<OsString>, names: OsString, place: PdbInternalSectionOffset, reading: Option<Reading> },
     Files { area: OsString, names: OsString, check: Option<Check> },
-    Json { area: OsString, names: Option<OsString> },
+    Json { area: OsString, names: Option<OsString>, reading: Reading },
 }
 
 fn wrong(why: impl std::fmt::Display) -> Fault {
     Fault::new(format!("{why}; c13 --help says how it is called"))
 }
+
+/// The option of each command that reads lines.
+const END_LINES: &str = "--end-lines";
 
 /// The words behind a command: files and places in order, and options.
 struct Words {
@@ -55,6 +59,11 @@ impl Words {
             None => Ok(first),
             Some(_) => Err(wrong(format_args!("{name} is given twice"))),
         }
+    }
+
+    /// How end lines are read, where the call says it.
+    fn reading(&self) -> Result<Option<Reading>, Fault> {
+        self.option(END_LINES)?.map(|word| Reading::of(word).map_err(wrong)).transpose()
     }
 
     /// The next file or place.
@@ -106,15 +115,15 @@ impl Call {
     }
 
     fn sheet(words: &[OsString]) -> Result<Call, Fault> {
-        let mut words = Words::of("sheet", words, &[], &["--names"])?;
+        let mut words = Words::of("sheet", words, &[], &["--names", END_LINES])?;
         let (area, names) = (words.take("AREA")?, words.option("--names")?.map(OsStr::to_owned));
         words.end()?;
         read_once([&area].into_iter().chain(&names))?;
-        Ok(Call::Sheet { area, names })
+        Ok(Call::Sheet { area, names, reading: words.reading()?.unwrap_or_default() })
     }
 
     fn at(words: &[OsString]) -> Result<Call, Fault> {
-        let mut words = Words::of("at", words, &[], &[])?;
+        let mut words = Words::of("at", words, &[], &[END_LINES])?;
         let mut areas = vec![words.take("AREA")?];
         let mut names = words.take("NAMES")?;
         let mut place = words.take("SECTION:OFFSET")?;
@@ -124,7 +133,7 @@ impl Call {
         }
         read_once(areas.iter().chain([&names]))?;
         let place = at::place(&place).map_err(|why| Fault::new(format!("{}: {why}", place.to_string_lossy())))?;
-        Ok(Call::At { areas, names, place })
+        Ok(Call::At { areas, names, place, reading: words.reading()? })
     }
 
     fn files(words: &[OsString]) -> Result<Call, Fault> {
@@ -147,11 +156,11 @@ impl Call {
     }
 
     fn json(words: &[OsString]) -> Result<Call, Fault> {
-        let mut words = Words::of("json", words, &[], &[])?;
+        let mut words = Words::of("json", words, &[], &[END_LINES])?;
         let area = words.take("AREA")?;
         let names = words.take("NAMES").ok();
         words.end()?;
         read_once([&area].into_iter().chain(&names))?;
-        Ok(Call::Json { area, names })
+        Ok(Call::Json { area, names, reading: words.reading()?.unwrap_or_default() })
     }
 }

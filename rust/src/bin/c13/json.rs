@@ -7,6 +7,7 @@
 use crate::desk::{Desk, Fault};
 use crate::input::{Input, LONGEST};
 use crate::names::Names;
+use crate::reading::Reading;
 use c13::{Area, CrossModuleExport, FileInfo, Inlinee, LineInfo, LineInfoKind, Refusal, StringRef};
 use std::io::{self, Write};
 
@@ -63,18 +64,19 @@ fn table<T>(
     write!(desk, "],\n\"refused\":{}}}", or_null(refused))
 }
 
-pub fn print(desk: &mut Desk, input: &Input, names: Option<&Names>) -> Result<(), Fault> {
+pub fn print(desk: &mut Desk, input: &Input, names: Option<&Names>, reading: Reading) -> Result<(), Fault> {
     let area = Area::new(&input.bytes);
     let name = |desk: &mut Desk, at: StringRef| name_text(desk, names, at);
     let size = Some(input.bytes.len()).filter(|size| *size <= LONGEST);
     write!(desk, "{{\"area\":{},\n\"bytes\":{},\n\"plain\":{}", quoted(&input.name), or_null(size), or_null(area.is_plain().ok()))?;
+    write!(desk, ",\n\"end_lines\":{}", quoted(reading.name))?;
     table(desk, "subsections", input, area.subsections(), |_, sub| {
         let kind = quoted(&sub.kind.to_string());
         format!(r#"{{"kind":{},"name":{kind},"length":{}}}"#, sub.kind.number(), sub.data.len())
     })?;
     table(desk, "files", input, area.files(), |desk, (index, file)| file_text(index.0, &file, &name(desk, file.name)))?;
     match area.line_program() {
-        Ok(program) => table(desk, "lines", input, program.lines(), |_, line| line_text(&line))?,
+        Ok(program) => table(desk, "lines", input, program.with_end_lines(reading.end_lines).lines(), |_, line| line_text(&line))?,
         Err(why) => table(desk, "lines", input, [Err(why)].into_iter(), |_, line| line_text(&line))?,
     }
     table(desk, "inlinees", input, area.inlinees(), |_, inlinee| inlinee_text(inlinee))?;

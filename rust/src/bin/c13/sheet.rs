@@ -1,8 +1,9 @@
-//! The sheet: document 01's text of an area.
+//! The sheet: document 01's text of an area, with the reading of end lines in its first line.
 
 use crate::desk::{Desk, Fault};
 use crate::input::{Input, LONGEST};
 use crate::names::{shown, Names};
+use crate::reading::Reading;
 use c13::{Area, FileIndex, FileInfo, LineInfo, LineInfoKind, LineProgram, Refusal};
 use std::collections::HashMap;
 use std::io::{self, Write};
@@ -25,10 +26,10 @@ impl From<io::Error> for Stop {
     }
 }
 
-/// Prints the sheet: it ends with `end`, or with the refusal in place of the rest.
-pub fn print(desk: &mut Desk, area: &Input, names: Option<&Names>) -> Result<(), Fault> {
+/// Prints the sheet: it ends with `end`, or with the refusal in place of the rest. Its first line says how end lines are read.
+pub fn print(desk: &mut Desk, area: &Input, names: Option<&Names>, reading: Reading) -> Result<(), Fault> {
     let mut shown = names.map(|names| ShownNames { area, names, texts: HashMap::new() });
-    match lines(desk, area, &mut shown) {
+    match lines(desk, area, &mut shown, reading) {
         Ok(()) => writeln!(desk, "end")?,
         Err(Stop::Refused(why)) => {
             writeln!(desk, "refused {}", why.number())?;
@@ -39,11 +40,11 @@ pub fn print(desk: &mut Desk, area: &Input, names: Option<&Names>) -> Result<(),
     Ok(())
 }
 
-fn lines(desk: &mut Desk, input: &Input, names: &mut Option<ShownNames>) -> Result<(), Stop> {
+fn lines(desk: &mut Desk, input: &Input, names: &mut Option<ShownNames>, reading: Reading) -> Result<(), Stop> {
     if input.bytes.len() > LONGEST {
         return Err(Refusal::TooLong.into());
     }
-    writeln!(desk, "c13 {} bytes", input.bytes.len())?;
+    writeln!(desk, "c13 {} bytes end-lines {}", input.bytes.len(), reading.name)?;
     let area = Area::new(&input.bytes);
     for sub in area.subsections() {
         let sub = sub?;
@@ -57,7 +58,7 @@ fn lines(desk: &mut Desk, input: &Input, names: &mut Option<ShownNames>) -> Resu
         }
         writeln!(desk)?;
     }
-    let program = area.line_program()?;
+    let program = area.line_program()?.with_end_lines(reading.end_lines);
     for line in program.lines() {
         let line = line?;
         print_line(desk, &line)?;
