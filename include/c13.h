@@ -148,9 +148,14 @@ enum c13_line_word {
  *   C13_END_LINES_CRATE     as the crate pdb 0.8.0 reads them: the end line is always the start line
  *   C13_END_LINES_LOW_BITS  the seven bits are the lowest of the end line, its other bits are those of the start line; plus 128 where that is below the start
  *                           line. The flags 0x8c00000a are line 10 to 12; start line 127 with 2 in the seven bits is 127 to 130
- * The end line alone depends on it: all other words of a record, which records there are and each refusal are the same by every reading; that is tested on
- * real areas, and not proved. */
-enum c13_end_lines { C13_END_LINES_CRATE = 0, C13_END_LINES_LOW_BITS = 1 };
+ *   C13_END_LINES_DELTA     the seven bits are how many lines the end line is behind the start line. The flags 0x8200000a are line 10 to 12; the largest end
+ *                           line is 0x100007e, of the flags 0x7fffffff
+ * Which to take depends on the compiler. Microsoft's cvinfo.h has the seven bits as deltaLineEnd, and LLVM reads them so: take C13_END_LINES_DELTA for files of
+ * a compiler that follows that, and C13_END_LINES_LOW_BITS for those of one that is known to mean low bits. A compiler that means nothing by them often has 0
+ * there, which by delta is the start line, and by low bits the first line from there on that 128 divides.
+ * Of two walks that are begun alike but for the reading the end lines alone differ: all other words of a record, which records there are, in which order, and
+ * each refusal are the same; that is proved. By none is the end line before the start line; by the last two it may pass 24 bits. */
+enum c13_end_lines { C13_END_LINES_CRATE = 0, C13_END_LINES_LOW_BITS = 1, C13_END_LINES_DELTA = 2 };
 
 /* The word of a line walk's state that holds the reading. */
 enum { C13_STATE_END_LINES = 27 };
@@ -162,7 +167,7 @@ enum { C13_STATE_END_LINES = 27 };
  *   out[22] next block   out[23] file   out[24] lines left in the block   out[25] next line   out[26] next column
  *   out[27] the reading of end lines, C13_STATE_END_LINES: each step leaves it as it is; C13_NO_SUCH_CHOICE where it is none. The record that is held back
  *   keeps the end line that it was read with, also where the caller changes this word
- * All zeros is a new walk by the crate's reading; zeros, and C13_END_LINES_LOW_BITS at out[27], a new walk by low bits.
+ * All zeros is a new walk by the crate's reading; zeros, and another number of enum c13_end_lines at out[27], a new walk by the reading that it names.
  * A record is held back until its end is known, so that its length is right. With the list that c13_order_list made of the same area no slot is wrong;
  * with any other a slot that is missing or names no line body is C13_WRONG_SLOT when the walk comes to it. */
 uint32_t c13_next_line(const uint8_t *area, size_t area_len, const uint32_t *slots, size_t slots_len, const uint32_t *bodies, size_t bodies_len,

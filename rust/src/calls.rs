@@ -20,11 +20,12 @@ pub const NO_SUCH_CHOICE: u32 = 5;
 pub const SUB_STATE: usize = 1;
 pub const TABLE_STATE: usize = 4;
 pub const LINE_STATE: usize = 28;
-/// The word of the lines' state that is the reading of end lines, and its numbers: the crate's, and low bits. The same numbers are a parameter of
-/// `c13_lines_for_symbol`.
+/// The word of the lines' state that is the reading of end lines, and its numbers: the crate's, low bits, and delta. The same numbers are a
+/// parameter of `c13_lines_for_symbol`.
 pub const STATE_END_LINES: usize = 27;
 pub const END_LINES_CRATE: u32 = 0;
 pub const END_LINES_LOW_BITS: u32 = 1;
+pub const END_LINES_DELTA: u32 = 2;
 /// The words of a line record, and of a file of `c13_files`.
 pub const RECORD: usize = 12;
 pub const FILE_RECORD: usize = 5;

@@ -37,6 +37,10 @@ pub enum LineInfoKind {
 
 /// How end lines are read. A line has seven bits for its end line, bits 24 to 30 of its flags, and nothing in an area says how they are meant. Who reads it
 /// does: [`LineProgram::with_end_lines`]. [`LineInfo::line_end`] alone depends on it.
+///
+/// Which to take depends on the compiler: [`Delta`](EndLines::Delta) for files of one that follows Microsoft's cvinfo.h, [`LowBits`](EndLines::LowBits) for
+/// those of one that is known to mean low bits. A compiler that means nothing by the seven bits often has 0 there, which by `Delta` is the start line, and by
+/// `LowBits` the first line from there on that 128 divides.
 #[derive(Clone, Copy, Debug, Default, Eq, Hash, PartialEq)]
 pub enum EndLines {
     /// As the crate pdb 0.8.0 reads them: the end line is always the start line.
@@ -45,6 +49,9 @@ pub enum EndLines {
     /// The seven bits are the lowest of the end line, and its other bits are those of the start line; plus 128 where that is below the start line. The flags
     /// 0x8c00000a are line 10 to 12; start line 127 with 2 in the seven bits is 127 to 130.
     LowBits,
+    /// The seven bits are how many lines the end line is behind the start line: cvinfo.h has them as deltaLineEnd, and LLVM reads them so. The flags 0x8200000a
+    /// are line 10 to 12; start line 0xffffff with 127 in the seven bits ends at 0x100007e, the largest end line.
+    Delta,
 }
 
 impl EndLines {
@@ -53,6 +60,7 @@ impl EndLines {
         match self {
             EndLines::Crate => calls::END_LINES_CRATE,
             EndLines::LowBits => calls::END_LINES_LOW_BITS,
+            EndLines::Delta => calls::END_LINES_DELTA,
         }
     }
 }
@@ -69,7 +77,7 @@ pub struct LineInfo {
     /// The line where the source starts, the first line being 1.
     pub line_start: u32,
     /// The line where the source ends, by the reading that [`LineProgram::with_end_lines`] chose. Without a choice it is as the crate pdb 0.8.0 reads it,
-    /// always the start line. It is never below the start line. LLVM reads it in yet another way: see docs/DIFFERENCES.md.
+    /// always the start line. It is never below the start line. LLVM's reading is [`EndLines::Delta`].
     pub line_end: u32,
     /// The column where the source starts. None where the subsection has no columns.
     pub column_start: Option<u32>,

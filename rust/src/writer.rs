@@ -13,8 +13,8 @@ pub struct LineEntry {
     /// The line where its source starts, at most [`LineEntry::LARGEST_LINE`]. The numbers of the two markers, 0xfeefee and 0xf00f00, are no source lines.
     pub line_start: u32,
     /// The end-line field, bits 24 to 30 of the flags, at most [`LineEntry::LARGEST_END`]. How it is read the
-    /// reader says, [`EndLines`](crate::EndLines): by default as the crate pdb does, whose end line is the start line whatever this is. LLVM reads it as a count
-    /// of further lines (docs/DIFFERENCES.md).
+    /// reader says, [`EndLines`](crate::EndLines): by default as the crate pdb does, whose end line is the start line whatever this is. LLVM reads it as a
+    /// count of further lines, which is [`EndLines::Delta`](crate::EndLines::Delta).
     pub end_field: u32,
     /// What it is of.
     pub kind: LineInfoKind,

@@ -56,13 +56,23 @@ fn a_symbol_has_the_lines_of_its_subsection() {
     assert!(starts(place(0, 0)).is_empty());
 }
 
-/// Three flags words with the end lines that low bits give them: in the same 128 lines, past their end, and behind the last start line.
-const ENDS: [(u32, u32, u32); 3] = [(0x8c00_000a, 10, 12), (0x0200_007f, 127, 130), (0x00ff_ffff, 0xff_ffff, 0x100_0000)];
+/// The readings of end lines.
+const READINGS: [EndLines; 3] = [EndLines::Crate, EndLines::LowBits, EndLines::Delta];
+
+/// Flags words with their start lines, and the end lines that low bits and delta give them. By low bits: in the same 128 lines, past their end, and
+/// behind the last start line. By delta: within few lines, and the largest there is. Of the first three words the end lines differ by all readings.
+const ENDS: [(u32, u32, u32, u32); 5] = [
+    (0x8c00_000a, 10, 12, 22),
+    (0x0200_007f, 127, 130, 129),
+    (0x8200_000a, 10, 130, 12),
+    (0x00ff_ffff, 0xff_ffff, 0x100_0000, 0xff_ffff),
+    (0x7fff_ffff, 0xff_ffff, 0xff_ffff, 0x100_007e),
+];
 
 /// An area of two line subsections, the second one in front, each with the lines of `ENDS` in two blocks.
 fn ends() -> Vec<u8> {
-    let [first, second, third] = ENDS.map(|(flags, ..)| flags);
-    let sub = |offset| subsection(0xf2, &[offset, 1, 12, 0, 2, 28, 0, first, 4, second, 0, 1, 20, 8, third]);
+    let [a, b, c, d, e] = ENDS.map(|(flags, ..)| flags);
+    let sub = |offset| subsection(0xf2, &[offset, 1, 20, 0, 3, 36, 0, a, 4, b, 8, c, 0, 2, 28, 12, d, 16, e]);
     [sub(0x2000), sub(0x1000)].concat()
 }
 
@@ -74,20 +84,21 @@ fn starts_and_ends(lines: LineIterator<'_>) -> Vec<(u32, u32)> {
 #[test]
 fn end_lines_are_read_as_chosen() {
     let area = ends();
-    let by_crate = ENDS.map(|(_, start, _)| (start, start));
-    let by_low_bits = ENDS.map(|(_, start, end)| (start, end));
+    let by_crate = ENDS.map(|(_, start, ..)| (start, start));
+    let by_low_bits = ENDS.map(|(_, start, end, _)| (start, end));
+    let by_delta = ENDS.map(|(_, start, _, end)| (start, end));
     let program = Area::new(&area).line_program().expect("program");
     assert_eq!(EndLines::default(), EndLines::Crate);
-    let readings = [
-        (program.clone(), by_crate),
-        (program.clone().with_end_lines(EndLines::default()), by_crate),
-        (program.clone().with_end_lines(EndLines::Crate), by_crate),
-        (program.clone().with_end_lines(EndLines::LowBits), by_low_bits),
+    let mut chosen = vec![(program.clone(), by_crate), (program.clone().with_end_lines(EndLines::default()), by_crate)];
+    for (last, wanted) in READINGS.into_iter().zip([by_crate, by_low_bits, by_delta]) {
+        chosen.push((program.clone().with_end_lines(last), wanted));
         // the last choice holds, and a copy has it, too
-        (program.clone().with_end_lines(EndLines::LowBits).with_end_lines(EndLines::Crate), by_crate),
-        (program.clone().with_end_lines(EndLines::Crate).with_end_lines(EndLines::LowBits).clone(), by_low_bits),
-    ];
-    for (program, wanted) in readings {
+        for before in READINGS {
+            chosen.push((program.clone().with_end_lines(before).with_end_lines(last), wanted));
+            chosen.push((program.clone().with_end_lines(before).clone().with_end_lines(last).clone(), wanted));
+        }
+    }
+    for (program, wanted) in chosen {
         assert_eq!(starts_and_ends(program.lines()), [wanted, wanted].concat());
         // a symbol's own subsection, and one before it
         for at in [0x1000, 0x2000, 0x2001] {
@@ -100,10 +111,17 @@ fn end_lines_are_read_as_chosen() {
     }
 }
 
-/// The end line by low bits, written another way: the first line from the start line on whose low seven bits are the field.
-fn by_low_bits(flags: u32) -> u32 {
+/// The start line of a flags word, and its end line by a reading, written another way. They are all in the 128 lines from the start line on: by the crate's the
+/// first of them, by low bits the one whose low seven bits are the field, by delta the one that has as many before it as the field says.
+fn start_and_end(flags: u32, reading: EndLines) -> (u32, u32) {
     let (start, field) = (flags & 0xff_ffff, flags >> 24 & 0x7f);
-    (start..start + 128).find(|line| line & 0x7f == field).expect("one of 128")
+    let mut lines = start..start + 128;
+    let end = match reading {
+        EndLines::Crate => lines.next(),
+        EndLines::LowBits => lines.find(|line| line & 0x7f == field),
+        EndLines::Delta => lines.nth(field as usize),
+    };
+    (start, end.expect("one of 128"))
 }
 
 #[test]
@@ -113,9 +131,10 @@ fn every_field_has_its_end_line() {
         let block = flags.iter().flat_map(|flags| [0, *flags]);
         let area = subsection(0xf2, &[0, 1, 4, 0, 256, 12 + 8 * 256].into_iter().chain(block).collect::<Vec<_>>());
         let program = Area::new(&area).line_program().expect("program");
-        assert_eq!(starts_and_ends(program.lines()), flags.iter().map(|_| (start, start)).collect::<Vec<_>>());
-        let program = program.with_end_lines(EndLines::LowBits);
-        assert_eq!(starts_and_ends(program.lines()), flags.iter().map(|flags| (start, by_low_bits(*flags))).collect::<Vec<_>>());
+        for reading in READINGS {
+            let wanted: Vec<_> = flags.iter().map(|flags| start_and_end(*flags, reading)).collect();
+            assert_eq!(starts_and_ends(program.clone().with_end_lines(reading).lines()), wanted, "{reading:?}");
+        }
     }
 }
 
@@ -160,11 +179,16 @@ fn many_files_are_all_given() {
     }
 }
 
+/// A flags word for each start line: the field changes from line to line, and takes all its numbers in turn.
+fn flags_of(start: u32) -> u32 {
+    (5 * start % 128) << 24 | start
+}
+
 /// An area of line subsections of `lines` lines each, whose code is in the reverse order. Where `cut`, the block of the last in order ends past it.
 fn backward(subs: u32, lines: u32, cut: bool) -> Vec<u8> {
     let sub = |i: u32| {
         let size = 12 + 8 * lines + if cut && i == subs - 1 { 4 } else { 0 };
-        let block = (0..lines).flat_map(|l| [l, 1 + lines * i + l]);
+        let block = (0..lines).flat_map(|l| [l, flags_of(1 + lines * i + l)]);
         subsection(0xf2, &[0x1000 * i, 1, lines, 24, lines, size].into_iter().chain(block).collect::<Vec<_>>())
     };
     (0..subs).rev().flat_map(sub).collect()
@@ -182,10 +206,12 @@ fn many_lines_are_all_given() {
             let (given, refused) = all(program.lines_for_symbol(place(1, 0x1000 * i)), area.len());
             assert_eq!((refused, given.iter().map(|l| l.line_start).collect::<Vec<_>>()), (None, (lines * i + 1..=lines * i + lines).collect()));
         }
-        // the reading is kept from call to call: the fields are 0, so that each end is the next multiple of 128
-        let (given, refused) = all(program.clone().with_end_lines(EndLines::LowBits).lines(), area.len());
-        assert_eq!((refused, given.len() as u32), (None, subs * lines));
-        assert!(given.iter().zip(1..).all(|(l, start)| (l.line_start, l.line_end) == (start, (start + 127) / 128 * 128)));
+        // the reading is kept from call to call
+        for reading in READINGS {
+            let (given, refused) = all(program.clone().with_end_lines(reading).lines(), area.len());
+            assert_eq!((refused, given.len() as u32), (None, subs * lines));
+            assert!(given.iter().zip(1..).all(|(l, start)| (l.line_start, l.line_end) == start_and_end(flags_of(start), reading)), "{reading:?}");
+        }
         let area = backward(subs, lines, true);
         let program = Area::new(&area).line_program().expect("program");
         let (given, refused) = all(program.lines(), area.len());
@@ -501,14 +527,22 @@ fn all<T>(mut from: impl Iterator<Item = Result<T, Refusal>>, limit: usize) -> (
     (taken, refused)
 }
 
-/// Tests that the lines of a program, which were read by the crate's reading of end lines, are the same by low bits but for the end lines.
-fn same_by_low_bits(program: LineProgram<'_>, lines: &[LineInfo], refused: Option<Refusal>) {
-    let program = program.with_end_lines(EndLines::LowBits);
-    let (others, also) = all(program.lines(), usize::MAX);
-    assert_eq!((others.len(), also), (lines.len(), refused));
-    for (other, line) in others.into_iter().zip(lines) {
-        assert!((other.line_start..other.line_start + 128).contains(&other.line_end) && line.line_end == line.line_start);
-        assert_eq!(LineInfo { line_end: line.line_end, ..other }, *line);
+/// Tests that the lines of a program, which were read by the crate's reading of end lines, are the same by each reading but for the end lines, and that low
+/// bits and delta tell the same seven bits.
+fn same_by_each_reading(program: &LineProgram<'_>, lines: &[LineInfo], refused: Option<Refusal>) {
+    let [by_crate, by_low_bits, by_delta] = READINGS.map(|reading| {
+        let (others, also) = all(program.clone().with_end_lines(reading).lines(), usize::MAX);
+        assert_eq!((others.len(), also), (lines.len(), refused));
+        let ends: Vec<u32> = others.iter().map(|other| other.line_end).collect();
+        for (other, line) in others.into_iter().zip(lines) {
+            assert!((other.line_start..other.line_start + 128).contains(&other.line_end), "{reading:?}: {other:?}");
+            assert_eq!(LineInfo { line_end: line.line_end, ..other }, *line);
+        }
+        ends
+    });
+    for (i, line) in lines.iter().enumerate() {
+        assert!(line.line_end == line.line_start && by_crate[i] == line.line_start, "{line:?}");
+        assert_eq!(by_low_bits[i] & 0x7f, by_delta[i] - line.line_start, "{line:?}");
     }
 }
 
@@ -521,7 +555,7 @@ fn ask(bytes: &[u8], chance: &mut Chance) -> usize {
             let (lines, refused) = all(program.lines(), limit);
             answers += lines.len();
             assert!(refused != Some(Refusal::WrongSlot), "a list as it was made has no wrong slot");
-            same_by_low_bits(program.clone(), &lines, refused);
+            same_by_each_reading(&program, &lines, refused);
             for line in &lines {
                 let _ = program.get_file_info(line.file_index);
                 answers += all(program.lines_for_symbol(line.offset), limit).0.len();

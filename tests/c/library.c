@@ -13,7 +13,7 @@
 enum { ROOM = 1 << 20, WORDS = 64, RECORDS = 2 * C13_RECORD };
 
 /* How many readings of end lines there are: from this number on a number names none. */
-enum { READINGS = C13_END_LINES_LOW_BITS + 1 };
+enum { READINGS = C13_END_LINES_DELTA + 1 };
 
 /* ---- memory that ends where a page ends */
 
@@ -208,7 +208,7 @@ static size_t words_to(uint8_t *to, const uint32_t *words, size_t n) {
 /* An area with every table: files, lines with a column, inlinees with extra files, imports, exports. */
 static const uint32_t every[] = {
     0xf4, 24, 1, 0x01000110, 0x05040302, 0x09080706, 0x0d0c0b0a, 0x00000f0e,
-    0xf2, 48, 0x1000, 0x00010001, 0x20, 0, 2, 36, 0, 0x8000000a, 8, 0x8000000c, 0x00020001, 0x00040003,
+    0xf2, 48, 0x1000, 0x00010001, 0x20, 0, 2, 36, 0, 0x8200000a, 8, 0x8500000c, 0x00020001, 0x00040003,
     0xf6, 28, 1, 0x1000, 0, 7, 2, 24, 48,
     0xf7, 16, 5, 2, 0x1003, 0x1004,
     0xf8, 16, 7, 0x1007, 0x80000008, 0x1008,
@@ -497,10 +497,11 @@ static void by_chance(void) {
 
 /* ---- end lines */
 
-/* Two line subsections, the second one in front, each with lines whose low bits end them in the same 128 lines, past these, and behind the last start line. */
+/* Two line subsections, the second one in front, each with five lines in two blocks. Low bits end them in the same 128 lines, past these, and behind the last
+ * start line; delta within few lines, and on the largest end line. Of the first three lines the end is another one by each reading. */
 static const uint32_t ends[] = {
-    0xf2, 60, 0x2000, 1, 12, 0, 2, 28, 0, 0x8c00000a, 4, 0x0200007f, 0, 1, 20, 8, 0x00ffffff,
-    0xf2, 60, 0x1000, 1, 12, 0, 2, 28, 0, 0x8c00000a, 4, 0x0200007f, 0, 1, 20, 8, 0x00ffffff,
+    0xf2, 76, 0x2000, 1, 20, 0, 3, 36, 0, 0x8c00000a, 4, 0x0200007f, 8, 0x8200000a, 0, 2, 28, 12, 0x00ffffff, 16, 0x7fffffff,
+    0xf2, 76, 0x1000, 1, 20, 0, 3, 36, 0, 0x8c00000a, 4, 0x0200007f, 8, 0x8200000a, 0, 2, 28, 12, 0x00ffffff, 16, 0x7fffffff,
 };
 
 /* The start and end lines of a walk from a state on, one a call and many a call, which are the same ones. */
@@ -586,7 +587,7 @@ static void body_lists(void) {
     uint64_t out[2];
     printf("-- body lists\n");
     for (uint32_t i = 0; i < SUBS; i++) {
-        const uint32_t sub[SUB_WORDS] = {0xf2, 32, 0x1000 + 0x20 * (7 * i % SUBS), 1, 0x20, 0, 1, 20, 0, 10 + i};
+        const uint32_t sub[SUB_WORDS] = {0xf2, 32, 0x1000 + 0x20 * (7 * i % SUBS), 1, 0x20, 0, 1, 20, 0, (i + 1) << 24 | (10 + i)};
         memcpy(words + i * SUB_WORDS, sub, sizeof sub);
     }
     size_t n = words_to(bytes, words, SUBS * SUB_WORDS);

@@ -12,7 +12,7 @@
 typedef unsigned long long shown;
 
 /* How many readings of end lines there are: from this number on a number names none. */
-enum { READINGS = C13_END_LINES_LOW_BITS + 1 };
+enum { READINGS = C13_END_LINES_DELTA + 1 };
 
 /* ---- the example, by structs alone */
 
@@ -72,11 +72,11 @@ static void words_of_another(const uint8_t *area, size_t n) {
     printf("c13_line_walk_next: given, line %llu\n", (shown)line.start_line);
 }
 
-/* End lines by each reading, in walks over all lines and over those of a symbol. */
+/* End lines by each reading, in walks over all lines and over those of a symbol. The largest by low bits and by delta are among them. */
 static void read_ends(void) {
     static const uint32_t words[] = {
-        0xf2, 32, 0x2000, 1, 4, 0, 1, 20, 0, 0x8c00000a,
-        0xf2, 40, 0x1000, 1, 8, 0, 2, 28, 0, 0x0200007f, 4, 0x00ffffff,
+        0xf2, 32, 0x2000, 1, 4, 0, 1, 20, 0, 0x8200000a,
+        0xf2, 64, 0x1000, 1, 20, 0, 5, 52, 0, 0x8c00000a, 4, 0x0200007f, 8, 0x00ffffff, 12, 0x7effffff, 16, 0x7fffffff,
     };
     uint8_t area[sizeof words];
     uint32_t slots[2];
@@ -425,8 +425,8 @@ static void damaged(const char *what, void (*hold)(const uint8_t *, size_t), con
 /* An area with every table: files, lines with a column, inlinees with extra files, imports, exports. */
 static const uint32_t every[] = {
     0xf4, 24, 1, 0x01000110, 0x05040302, 0x09080706, 0x0d0c0b0a, 0x00000f0e,
-    0xf2, 48, 0x1000, 0x00010001, 0x20, 0, 2, 36, 0, 0x8000000a, 8, 0x8000000c, 0x00020001, 0x00040003,
-    0xf2, 32, 0x0800, 1, 0x20, 0, 1, 20, 4, 0x14,
+    0xf2, 48, 0x1000, 0x00010001, 0x20, 0, 2, 36, 0, 0x8200000a, 8, 0x8500000c, 0x00020001, 0x00040003,
+    0xf2, 32, 0x0800, 1, 0x20, 0, 1, 20, 4, 0x03000014,
     0xf6, 28, 1, 0x1000, 0, 7, 2, 24, 48,
     0xf7, 28, 5, 2, 0x1003, 0x1004, 9, 1, 0x1007,
     0xf8, 24, 1, 0x1001, 7, 0x1007, 0x80000008, 0x1008,

@@ -1,10 +1,10 @@
-// The two readings of an end line, run: reads a fixed list of flags words and of cases from standard input and writes what the library answers for each.
+// The three readings of an end line, run: reads a fixed list of flags words and of cases from standard input and writes what the library answers for each.
 // What is written is compared with the file stdout. Its answers were computed from documents 01 and 02 by two other programs, which share no code with this
 // library and are not kept here: no line of it is this program's own.
 //
 // The list: the number of flags words u32, and the words, u32 each. Then the cases, up to the list's end: a letter u8 (h: hand-chosen, g: generated) and a
 // number u16, its name; the call u8, as below; a section u16 and an offset u32, which only the lines of a symbol need; the length of an area u16, and the
-// area. Every call is made under both readings. A flags word that is not there counts as 0; a case that is cut is not answered, nor what is behind it.
+// area. Every call is made under each reading. A flags word that is not there counts as 0; a case that is cut is not answered, nor what is behind it.
 //
 // The text: a line for each flags word, in their order. Then for each case and reading a line that names both, the records, and `end` or the refusal.
 use libc::STDIN_FILENO;
@@ -136,6 +136,8 @@ fn flags_line(flags: u32) {
     spaced(end_line(EndLines::Crate, flags) as u64);
     say(b" low");
     spaced(end_line(EndLines::LowBits, flags) as u64);
+    say(b" delta");
+    spaced(end_line(EndLines::Delta, flags) as u64);
     say(b"\n");
 }
 
@@ -165,6 +167,7 @@ fn case_line(case: Case, how: EndLines) {
     match how {
         EndLines::Crate => say(b" end=crate\n"),
         EndLines::LowBits => say(b" end=low\n"),
+        EndLines::Delta => say(b" end=delta\n"),
     }
 }
 
@@ -211,9 +214,10 @@ fn answer(area: &[u8], case: Case, how: EndLines) {
     }
 }
 
-fn answer_both(area: &[u8], case: Case) {
+fn answer_each(area: &[u8], case: Case) {
     answer(area, case, EndLines::Crate);
     answer(area, case, EndLines::LowBits);
+    answer(area, case, EndLines::Delta);
 }
 
 fn case_of(head: &[u8]) -> Case {
@@ -236,7 +240,7 @@ fn answers(list: &[u8]) {
             return;
         }
         let end = start + len;
-        answer_both(&list[start..end], case_of(head));
+        answer_each(&list[start..end], case_of(head));
         at = end;
     }
 }

@@ -1,6 +1,6 @@
 -- The readings of the end line. By the crate's every end line is its start line: the low seven bits that it takes are the start line's own, so that the
--- step that adds 128 is never reached. By the low bits it lies at the start line or up to 127 lines behind it, and is the crate's where the field is the
--- start line's own low bits.
+-- step that adds 128 is never reached. By the low bits and by the delta it lies at the start line or up to 127 lines behind it. The low bits give the
+-- crate's where the field is the start line's own low bits, the delta gives it where the field is 0.
 use Prim.Native.Nat.{ℕ, _+_, _-_, _/_, _%_, _^_, _<_, _≤_}
 use mathlib.Core.Path.{_≡_, refl, sym, ap, _∙_}
 use mathlib.Core.Bool.{false}
@@ -9,14 +9,18 @@ use lib.Bits.{bitOr, and-mask, and-high, or-shifted}
 use borrow.Author.Tests.{ltb-true, ltb-false, lt-ltb, le-ltb}
 use Rattle.walk.specs.Cases.{by-cases}
 use Rattle.line_record.specs.declared.EndLines.{EndLines}
-use Rattle.line_record.specs.declared.EndLines.the-variants.{Crate, LowBits}
+use Rattle.line_record.specs.declared.EndLines.the-variants.{Crate, LowBits, Delta}
 use Rattle.line_record.specs.Flags.{startLine}
 use Rattle.line_record.specs.EndLine.{crateLow, endField, joinedLine, fallsBelow, endFrom, endLine}
 
--- the examples of document 02: 10 to 12; line 127 and the low bits of line 130. And the largest start line with an empty field, which passes 24 bits
+-- the examples of document 02: 10 to 12, by the low bits and by the delta; line 127 and the low bits of line 130. And the largest start line with an
+-- empty field, which passes 24 bits by the low bits
 pub ten-to-twelve : endLine LowBits 0x8c00_000a ≡ 12
 unfolding endFrom
 ten-to-twelve = refl
+
+pub ten-and-two : endLine Delta 0x8200_000a ≡ 12
+ten-and-two = refl
 
 pub step-adds : endLine LowBits 0x0200_007f ≡ 130
 unfolding endFrom
@@ -69,22 +73,41 @@ module _ (flags : ℕ) where
   unfolding endFrom
   end-is-start = rw step-never joined-own
 
--- ---- the low bits
+-- ---- the field
 
 module _ (flags : ℕ) where
   pub field-is : flags / 0x100_0000 % 128 ≡ endField flags
   field-is = sym (ap (λ (k : ℕ). k / 2 ^ 24) (and-high flags 7 24) ∙ omega arith)
 
+  pub field-small : endField flags < 2 ^ 7
+  field-small = omega (arith, field-is)
+
+-- ---- the low bits
+
+module _ (flags : ℕ) where
   pub low-only : (startLine flags ≤ endLine LowBits flags) × (endLine LowBits flags < startLine flags + 2 ^ 7)
       × (endLine LowBits flags % 2 ^ 7 ≡ endField flags)
-  low-only = end-only (startLine flags) (endField flags) (omega arith) (omega (arith, field-is))
+  low-only = end-only (startLine flags) (endField flags) (omega arith) (field-small flags)
 
   -- it is the crate's where the field is the start line's own low bits
   pub low-agrees : endField flags ≡ startLine flags % 2 ^ 7 → endLine LowBits flags ≡ endLine Crate flags
   low-agrees e = ap (endFrom (startLine flags)) (e ∙ sym (low-own flags))
+
+-- ---- the delta
+
+module _ (flags : ℕ) where
+  -- it is the line that the field says, counted from the start line on
+  pub delta-only : (startLine flags ≤ endLine Delta flags) × (endLine Delta flags < startLine flags + 2 ^ 7)
+      × (endLine Delta flags - startLine flags ≡ endField flags)
+  delta-only = (omega arith, omega (arith, field-small flags), omega arith)
+
+  -- it is the crate's where the field is 0
+  pub delta-agrees : endField flags ≡ 0 → endLine Delta flags ≡ endLine Crate flags
+  delta-agrees e = omega (arith, end-is-start flags)
 
 -- ---- every reading
 
 pub end-not-before : (how : EndLines) (flags : ℕ) → startLine flags ≤ endLine how flags
 end-not-before Crate flags = omega (arith, end-is-start flags)
 end-not-before LowBits flags = low-only flags .0
+end-not-before Delta flags = delta-only flags .0

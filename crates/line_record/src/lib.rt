@@ -4,7 +4,7 @@
 ghost use mathlib.Core.Path.{_≡_};
 ghost use Prim.Native.Nat.{_<_, _≤_, _^_};
 ghost use Rattle.line_record.specs.Flags.{startLine, lineKind, isMarker};
-ghost use Rattle.line_record.specs.EndLine.{endFrom, endLine};
+ghost use Rattle.line_record.specs.EndLine.{endField, endFrom, endLine};
 ghost use Rattle.line_record.specs.Record.{maxStartLine, emptyRecord, columnIf, startColumn, endColumn, recordOf, entryOf, shorterOf, withLength, closedAt};
 ghost use Rattle.line_record.specs.Told.{toldLineEntry};
 use refusal::Refusal;
@@ -69,10 +69,19 @@ pub fn start_line(flags: u32) -> u32
     flags % (LineRecord::MAX_START_LINE + 1)
 }
 
-// How an end line is read: as the crate does, or with the seven bits above the start line as its low bits.
+// How an end line is read: as the crate does; with the field, which is the seven bits above the start line, as its low bits; or as the start line plus the
+// field.
 pub enum EndLines {
     Crate,
     LowBits,
+    Delta,
+}
+
+// Bits 24 to 30 of the flags word.
+fn end_field(flags: u32) -> u32
+    ensures { λ r. ⌜ r ≡ endField flags ⌝ }
+{
+    flags / 0x100_0000 % 128
 }
 
 // The end line whose low seven bits are these: the first one from the start line on.
@@ -96,7 +105,8 @@ pub fn end_line(how: EndLines, flags: u32) -> u32
     let start = start_line(flags);
     match how {
         EndLines::Crate => start,
-        EndLines::LowBits => end_from(start, flags / 0x100_0000 % 128),
+        EndLines::LowBits => end_from(start, end_field(flags)),
+        EndLines::Delta => start + end_field(flags),
     }
 }
 

@@ -1,10 +1,10 @@
 -- A line record in words, and a state of the line walk: its tag (0 new, 1 between two subsections, 2 inside one); the next slot, how many
 -- subsections are left, how far the area has been searched, 1 and the record held back or 0; and of the place the header's four fields, its end,
 -- the next block, the file, the lines left, the next line and the next column. Where a state lacks a part its words are 0. The last word of a state is its
--- reading of end lines: 0 the crate's, 1 the low bits.
+-- reading of end lines: 0 the crate's, 1 the low bits, 2 the delta.
 -- Read back, a word too large for its field counts modulo the field's size, and a tag above the last is the last. But a word that names no reading is no
 -- reading, and its state no walk.
--- Source: docs/DECISIONS.md, 32 and 59.
+-- Source: docs/DECISIONS.md, 32, 59 and 61.
 -- Definitions only; a reader must believe them, but for `u16Of` to `lineWalkIn`, `noRecord` to `lineWalkWords`: `walk-begins`, `walk-none`,
 -- `state-read` (line_state_words ReadBackLaws) say what these mean.
 use Prim.Native.Nat.{ℕ, _+_, _%_}
@@ -15,7 +15,7 @@ use lib.ListN.{getD, replicate}
 use lib.Dec.{eqb}
 use Rattle.line_record.specs.Told.{toldLength, toldColumn, toldLineKind}
 use Rattle.line_record.specs.declared.EndLines.{EndLines}
-use Rattle.line_record.specs.declared.EndLines.the-variants.{Crate, LowBits}
+use Rattle.line_record.specs.declared.EndLines.the-variants.{Crate, LowBits, Delta}
 use Rattle.line_record.specs.declared.Length.{Length}
 use Rattle.line_record.specs.declared.Length.the-variants as length
 use Rattle.line_record.specs.declared.Column.{Column}
@@ -59,10 +59,11 @@ stateSize = howAt + 1
 abbrev pub howWord : EndLines → ℕ
 howWord Crate = 0
 howWord LowBits = 1
+howWord Delta = 2
 
 -- the reading that a number names; any other number names none
 unfoldable pub howNamed : ℕ → Option EndLines
-howNamed n = cond (eqb n 0) (some Crate) (cond (eqb n 1) (some LowBits) none)
+howNamed n = cond (eqb n 0) (some Crate) (cond (eqb n 1) (some LowBits) (cond (eqb n 2) (some Delta) none))
 
 -- ---- a record
 

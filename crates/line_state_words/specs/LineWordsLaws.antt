@@ -8,7 +8,7 @@ use lib.ListN.{length, getD, length-append}
 use borrow.Author.Tests.{eq-eqb, ne-eqb}
 use Rattle.line_record.specs.Told.{toldLength, toldColumn, toldLineKind}
 use Rattle.line_record.specs.declared.EndLines.{EndLines}
-use Rattle.line_record.specs.declared.EndLines.the-variants.{Crate, LowBits}
+use Rattle.line_record.specs.declared.EndLines.the-variants.{Crate, LowBits, Delta}
 use Rattle.line_record.specs.declared.Length.{Length}
 use Rattle.line_record.specs.declared.Length.the-variants as len
 use Rattle.line_record.specs.declared.Column.{Column}
@@ -64,9 +64,13 @@ module _ (n : ℕ) where
   unfolding howNamed
   named-low z u = rw (ne-eqb n 0 z, eq-eqb n 1 u)
 
-  pub named-none : (n ≡ 0 → ⊥) → (n ≡ 1 → ⊥) → none ≡ howNamed n
+  pub named-delta : (n ≡ 0 → ⊥) → (n ≡ 1 → ⊥) → n ≡ 2 → some Delta ≡ howNamed n
   unfolding howNamed
-  named-none z u = rw (ne-eqb n 0 z, ne-eqb n 1 u)
+  named-delta z u d = rw (ne-eqb n 0 z, ne-eqb n 1 u, eq-eqb n 2 d)
+
+  pub named-none : (n ≡ 0 → ⊥) → (n ≡ 1 → ⊥) → (n ≡ 2 → ⊥) → none ≡ howNamed n
+  unfolding howNamed
+  named-none z u d = rw (ne-eqb n 0 z, ne-eqb n 1 u, ne-eqb n 2 d)
 
 -- n is the word for it, and x what it names
 pub walk-named : (o : List ℕ) (n : ℕ) → n ≡ getD o howAt 0 → (x : Option EndLines) → x ≡ howNamed n → walkIf o x ≡ lineWalkIn o

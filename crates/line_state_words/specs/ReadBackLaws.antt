@@ -184,6 +184,7 @@ how-same : (how : EndLines) → howNamed (howWord how) ≡ some how
 unfolding howNamed
 how-same ends.Crate = refl
 how-same ends.LowBits = refl
+how-same ends.Delta = refl
 
 -- its word is the one behind the parts
 how-behind : (w : LineWalk) (ws : List ℕ) → getD (partWords w ++ (howWord (walkHow w) ∷ ws)) howAt 0 ≡ howWord (walkHow w)
@@ -196,9 +197,9 @@ pub walk-begins : (how : EndLines) (o : List ℕ) → getD o 0 0 ≡ 0 → getD 
 walk-begins how o z e =
     ap (λ (n : ℕ). walkIf o (howNamed n)) e ∙ ap (walkIf o) (how-same how) ∙ ap some (sym (walk-new how o (getD o 0 0) refl z))
 
--- NO WALK: words whose word for it names no reading; so there is no default
-pub walk-none : (o : List ℕ) → (getD o howAt 0 ≡ 0 → ⊥) → (getD o howAt 0 ≡ 1 → ⊥) → lineWalkIn o ≡ none
-walk-none o z u = ap (walkIf o) (sym (named-none (getD o howAt 0) z u))
+-- NO WALK: words whose word for it is that of no reading; so there is no default
+pub walk-none : (o : List ℕ) → ((how : EndLines) → getD o howAt 0 ≡ howWord how → ⊥) → lineWalkIn o ≡ none
+walk-none o f = ap (walkIf o) (sym (named-none (getD o howAt 0) (f ends.Crate) (f ends.LowBits) (f ends.Delta)))
 
 -- THE THEOREM
 pub state-read : (w : LineWalk) (ws : List ℕ) → FitsWalk w → lineWalkIn (lineWalkWords w ++ ws) ≡ some w

@@ -52,6 +52,7 @@ fn how_word(how: EndLines) -> u64
     match how {
         EndLines::Crate => 0,
         EndLines::LowBits => 1,
+        EndLines::Delta => 2,
     }
 }
 
@@ -69,6 +70,9 @@ pub fn how_named(n: u64) -> NamedHow
     }
     if n == 1 {
         return NamedHow::Is(EndLines::LowBits);
+    }
+    if n == 2 {
+        return NamedHow::Is(EndLines::Delta);
     }
     NamedHow::NoSuchChoice
 }

@@ -6,3 +6,4 @@ pub mod NextLaws
 pub mod WalkLaws
 pub mod AreaLaws
 pub mod LimitsLaws
+pub mod ReadingsLaws

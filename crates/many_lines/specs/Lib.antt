@@ -5,3 +5,4 @@ pub mod AgainLaws
 pub mod Bodies
 pub mod BodiesLaws
 pub mod LinesLaws
+pub mod ReadingsLaws

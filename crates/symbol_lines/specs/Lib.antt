@@ -4,3 +4,4 @@ pub mod Untold
 pub mod SymbolLaws
 pub mod RecordsLaws
 pub mod BuiltLaws
+pub mod ReadingsLaws

@@ -38,8 +38,9 @@ c13 json AREA [NAMES] [--end-lines READING]
 c13 --help, c13 --version
 
 READING says how end lines are read: crate, as the crate pdb does, which is always the start line; low-bits, by which the seven
-bits above the start line are the low bits of the end line. Without it, it is crate. Which it is stands in the answer: in the
-first line of a sheet, in JSON, and in each line of 'at' where --end-lines is given.
+bits above the start line are the low bits of the end line; delta, by which they are how many lines it is behind the start line,
+as Microsoft's cvinfo.h names them and LLVM reads them. Without it, it is crate. Which it is stands in the answer: in the first
+line of a sheet, in JSON, and in each line of 'at' where --end-lines is given.
 AREA is a file with a module's C13 area, of at most 16,777,216 bytes, and NAMES one with the string table (scripts/areas-of takes
 both out of a PDB); - is standard input. The status is 0 where the whole answer was written; 1 where the answer is a refusal
 or 'no'; 2 where input could not be read, output not written, or the call is wrong. Standard error says why it is not 0.

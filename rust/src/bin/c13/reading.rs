@@ -12,12 +12,13 @@ pub struct Reading {
 
 const CRATE: Reading = Reading { name: "crate", end_lines: EndLines::Crate };
 const LOW_BITS: Reading = Reading { name: "low-bits", end_lines: EndLines::LowBits };
+const DELTA: Reading = Reading { name: "delta", end_lines: EndLines::Delta };
 
 impl Reading {
     /// The reading that a word names. One that names none is refused: nothing says which is meant.
     pub fn of(word: &OsStr) -> Result<Reading, String> {
-        let known = [CRATE, LOW_BITS].into_iter().find(|reading| word == reading.name);
-        known.ok_or_else(|| format!("--end-lines {} is not crate or low-bits", word.to_string_lossy()))
+        let known = [CRATE, LOW_BITS, DELTA].into_iter().find(|reading| word == reading.name);
+        known.ok_or_else(|| format!("--end-lines {} is not crate, low-bits or delta", word.to_string_lossy()))
     }
 }
 
