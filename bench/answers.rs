@@ -28,7 +28,10 @@ impl Numbers for [u8] {
     }
 }
 
-/// A line of either crate, in the words of a record: these name their fields alike.
+/// How many words of a record the crate has, too: all but the last, the position of the body that it was read from.
+pub const SHARED: usize = RECORD - 1;
+
+/// A line of either crate, in these words: both name their fields alike.
 macro_rules! line_numbers {
     ($line:ty, $kind:ty) => {
         impl Numbers for $line {
@@ -37,7 +40,7 @@ macro_rules! line_numbers {
                 let ((a, length), (b, start), (c, end)) = (number(self.length), number(self.column_start), number(self.column_end));
                 let (at, statement) = (self.offset, matches!(self.kind, <$kind>::Statement) as u32);
                 let (first, last) = (self.line_start, self.line_end);
-                let words: [u32; RECORD] = [at.section.into(), at.offset, a, length, self.file_index.0, first, last, b, start, c, end, statement];
+                let words: [u32; SHARED] = [at.section.into(), at.offset, a, length, self.file_index.0, first, last, b, start, c, end, statement];
                 words[..].numbers(add);
             }
         }

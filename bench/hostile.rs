@@ -216,7 +216,7 @@ fn forged(name: String, area: &[u8], slots: &[u32], words: &[(usize, usize)], ti
 /// Forged walks: one that stands in a body as long as the area, whose lines have no end; and where there are many bodies, one that has as many slots as the
 /// area has words, which all name the last body. That is a short one: see `one_body_again`.
 fn forgeries(name: &str, area: &[u8], times: &mut Times) {
-    let inside = [(0, 2), (21, area.len()), (24, usize::MAX)];
+    let inside = [(0, 2), (23, area.len()), (26, usize::MAX)];
     forged(format!("{name}; a forged state inside a body"), area, &[], &inside, times);
     let lists = Lists::of(area).unwrap_or_default();
     if lists.bodies.len() > area.len() / 64 {

@@ -1,6 +1,6 @@
 //! The cases, on each side.
 
-use crate::answers::{FileWords, Taker};
+use crate::answers::{FileWords, Taker, SHARED};
 use crate::input::{Input, Lists};
 use c13::calls::{self, RecordWord, END_LINES_CRATE, FILE_RECORD, GIVEN, LAST, LINE_STATE, NONE, RECORD, TABLE_STATE};
 use pdb::{FallibleIterator, FileIndex, LineIterator, Local, PdbInternalSectionOffset, StringRef, TypeIndex};
@@ -64,7 +64,7 @@ pub mod calls_side {
     }
     fn records(area: &[u8], lists: &Lists, out: &mut [u64], room: &mut [RecordWord], t: &mut impl Taker) {
         let call = |records: &mut [RecordWord], out: &mut [u64]| calls::c13_lines(area, &lists.slots, &lists.bodies, records, out);
-        fills::<RECORD>((out, LINE_STATE), room, call, |r| t.take(r));
+        fills::<RECORD>((out, LINE_STATE), room, call, |r| t.take(&r[..SHARED]));
     }
     pub fn walk(i: &Input, lists: &Lists, room: &mut [RecordWord], t: &mut impl Taker) {
         records(black_box(i.bytes.as_slice()), lists, &mut [0; LINE_STATE + 2], room, t);
@@ -72,7 +72,7 @@ pub mod calls_side {
     pub fn stepped(i: &Input, lists: &Lists, t: &mut impl Taker) {
         let area = black_box(i.bytes.as_slice());
         let step = |out: &mut [u64]| calls::c13_next_line(area, &lists.slots, &lists.bodies, out);
-        steps(&mut [0; LINE_STATE + RECORD], step, |out| t.take(&out[LINE_STATE..]));
+        steps(&mut [0; LINE_STATE + RECORD], step, |out| t.take(&out[LINE_STATE..LINE_STATE + SHARED]));
     }
     pub fn symbol(i: &Input, lists: &Lists, symbols: &[(u16, u32)], room: &mut [RecordWord], t: &mut impl Taker) {
         let area = black_box(i.bytes.as_slice());

@@ -317,7 +317,8 @@ fn body_lists(area: &[u8], slots: &[u32]) -> Result<Vec<Vec<u32>>, String> {
     Ok(lists)
 }
 
-/// A line record of 12 words: section, offset, length, file, lines, columns and kind, where a 0 in front of a number says that there is none.
+/// The words of a line record that the crate has, too: section, offset, length, file, lines, columns and kind, where a 0 in front of a number says that
+/// there is none. The last word, the position of the body that it was read from, the crate does not tell.
 fn line_text(r: &[u64]) -> String {
     let maybe = |at: usize| if r[at] == 0 { "-".into() } else { r[at + 1].to_string() };
     format!(
@@ -340,6 +341,19 @@ fn kept_line(records: &mut Vec<u64>, r: &[u64]) -> String {
     line_text(r)
 }
 
+/// Whether the last words of the records of a walk are positions that the slots name, in their order, each of a body of the record's section that begins no
+/// later than the record.
+fn in_their_bodies(area: &[u8], slots: &[u32], records: &[u64]) -> bool {
+    let word = |at: usize| u64::from(u32::from_le_bytes(area[at..at + 4].try_into().expect("four")));
+    let mut left = slots;
+    records.chunks_exact(RECORD).all(|r| {
+        while left.first().map_or(false, |slot| u64::from(*slot) != r[RECORD - 1]) {
+            left = &left[1..];
+        }
+        left.first().map_or(false, |slot| word(*slot as usize + 4) & 0xffff == r[0] && word(*slot as usize) <= r[1])
+    })
+}
+
 /// The walk from a state on, one record a call with one of the body lists, and many a call with each of them.
 fn line_walk(b: &mut Block, words: Words, name: &str, area: &[u8], slots: &[u32], lists: &[Vec<u32>]) {
     let one = &lists[area.len() / 4 % lists.len()];
@@ -349,6 +363,10 @@ fn line_walk(b: &mut Block, words: Words, name: &str, area: &[u8], slots: &[u32]
         // In each call a list that goes back often is held against the area, so a long one is asked in fewer.
         let call = |records: &mut [RecordWord], w: &mut Words| calls::c13_lines(area, slots, bodies, records, &mut w.0);
         b.walk_many(words.again(), name, LINE_STATE, Many { size: RECORD, times: 1 + slots.len() / 16, call: &call }, &stepped);
+    }
+    if !in_their_bodies(area, slots, &stepped) {
+        // A kind of answer that the crate does not have, so that it counts as different.
+        b.put(&format!("body {name}"));
     }
 }
 

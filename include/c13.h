@@ -22,7 +22,7 @@
  *   C13_LAST       an answer as C13_GIVEN, and nothing comes behind it: the next call from there answers C13_NONE. Only a call that gives many records
  *                  answers it; C13_GIVEN does not say that there are more.
  *   C13_REFUSED    a refusal: its number (enum c13_refusal) and what it carries, or 0. The words stand at out[0] and out[1], or behind the state if the
- *                  call steps a walk: at out[1], out[4] or out[28].
+ *                  call steps a walk: at out[1], out[4] or out[30].
  *   C13_TOO_SHORT  the words of the answer do not fit in `out`. `out` is left as it was. C13_MOST words are always enough. A call that writes to other
  *                  memory asks for two words, behind the state if it steps a walk, before it does anything.
  *   C13_NO_SUCH_CHOICE  what the caller chose is none of the choices: the reading of end lines, in the state of a walk over lines or as a parameter, is no
@@ -79,7 +79,7 @@ enum c13_refusal {
 };
 
 /* Lengths in words: the states of walks, a line record, a file of c13_files, and what is always enough for `out`. */
-enum { C13_SUB_STATE = 1, C13_TABLE_STATE = 4, C13_LINE_STATE = 28, C13_RECORD = 12, C13_FILE_RECORD = 5, C13_MOST = 40 };
+enum { C13_SUB_STATE = 1, C13_TABLE_STATE = 4, C13_LINE_STATE = 30, C13_RECORD = 13, C13_FILE_RECORD = 5, C13_MOST = 43 };
 
 /* ---- subsections */
 
@@ -127,7 +127,12 @@ uint32_t c13_body_list(const uint8_t *area, size_t area_len, uint32_t *bodies, s
  * in one pass, and then each slot is found in it by halving. Where the out[0] slots that c13_order_list wrote ascend they are the body list
  * themselves: just these may be lent in both places, and no call for it is needed. */
 
-/* The words of a line record, counted from its first. An optional number is 1 and the number, or 0 and 0. */
+/* The words of a line record, counted from its first. An optional number is 1 and the number, or 0 and 0.
+ * Word 12, the last, is the position of the body of the subsection that the record was read from, as the two lists above have it: it counts from the area's
+ * first byte, also where the area is a part of a module's stream, and the subsection's header is the 8 bytes before it. So of a walk that was begun with a
+ * new state or by c13_lines_for_symbol the records of one subsection all have the same number there, and those of two subsections never, also where these
+ * overlap or have the same section and offset. UINT32_MAX, 0xffffffff, is a position that no area has, and stands for "of no line subsection": no record of
+ * such a walk has it. */
 enum c13_line_word {
     C13_SECTION = 0,
     C13_OFFSET = 1,
@@ -140,7 +145,8 @@ enum c13_line_word {
     C13_START_COLUMN = 8,
     C13_HAS_END_COLUMN = 9,
     C13_END_COLUMN = 10,
-    C13_IS_STATEMENT = 11 /* 1 a statement, 0 an expression */
+    C13_IS_STATEMENT = 11, /* 1 a statement, 0 an expression */
+    C13_BODY = 12 /* where the body of its subsection starts in the area */
 };
 
 /* How end lines are read. A line has seven bits for its end line, bits 24 to 30 of its flags word; no field of an area says how they are meant, so the caller
@@ -158,25 +164,29 @@ enum c13_line_word {
 enum c13_end_lines { C13_END_LINES_CRATE = 0, C13_END_LINES_LOW_BITS = 1, C13_END_LINES_DELTA = 2 };
 
 /* The word of a line walk's state that holds the reading. */
-enum { C13_STATE_END_LINES = 27 };
+enum { C13_STATE_END_LINES = 29 };
 
 /* The next line record of the walk over an area and its order list.
- * State, 28 words. Given: the state behind the record, and at out[28] the 12 words of the record.
+ * State, 30 words. Given: the state behind the record, and at out[30] the 13 words of the record.
  *   out[0] 0 a new walk, 1 between two subsections, 2 inside one   out[1] next slot   out[2] line subsections left   out[3] how far the area was searched
- *   out[4] 1 if a record is held back   out[5] its 12 words   out[17] offset, section, flags and code size of the line header   out[21] end of the body
- *   out[22] next block   out[23] file   out[24] lines left in the block   out[25] next line   out[26] next column
- *   out[27] the reading of end lines, C13_STATE_END_LINES: each step leaves it as it is; C13_NO_SUCH_CHOICE where it is none. The record that is held back
+ *   out[4] 1 if a record is held back   out[5] its 13 words, which are given as they stand but for its length; of a number too large for its field the low
+ *   bits are, and a word that says which of two is 1 where it is above that
+ *   out[18] offset, section, flags and code size of the line header
+ *   out[22] start of the body, which the records that are read in it have as C13_BODY: C13_CUT where it lies behind the end, and else no call asks what is
+ *   there   out[23] end of the body
+ *   out[24] next block   out[25] file   out[26] lines left in the block   out[27] next line   out[28] next column
+ *   out[29] the reading of end lines, C13_STATE_END_LINES: each step leaves it as it is; C13_NO_SUCH_CHOICE where it is none. The record that is held back
  *   keeps the end line that it was read with, also where the caller changes this word
- * All zeros is a new walk by the crate's reading; zeros, and another number of enum c13_end_lines at out[27], a new walk by the reading that it names.
+ * All zeros is a new walk by the crate's reading; zeros, and another number of enum c13_end_lines at out[29], a new walk by the reading that it names.
  * A record is held back until its end is known, so that its length is right. With the list that c13_order_list made of the same area no slot is wrong;
  * with any other a slot that is missing or names no line body is C13_WRONG_SLOT when the walk comes to it. */
 uint32_t c13_next_line(const uint8_t *area, size_t area_len, const uint32_t *slots, size_t slots_len, const uint32_t *bodies, size_t bodies_len,
                        uint64_t *out, size_t out_len);
 
-/* Many line records in one call: those from the walk on, as many as `records` has room for, 12 words of 32 bits each. State as above, 28 words of 64.
- * Given: the state behind the last of them, and at out[28] how many there are; C13_LAST where the walk is over behind them, so that a short walk is one
+/* Many line records in one call: those from the walk on, as many as `records` has room for, 13 words of 32 bits each. State as above, 30 words of 64.
+ * Given: the state behind the last of them, and at out[30] how many there are; C13_LAST where the walk is over behind them, so that a short walk is one
  * call. The records before a refusal are given first; the next call tells it, as c13_next_line would. With room for no record C13_NO_ROOM; with
- * fewer than 30 words of `out` too short, and nothing changes. */
+ * fewer than 32 words of `out` too short, and nothing changes. */
 uint32_t c13_lines(const uint8_t *area, size_t area_len, const uint32_t *slots, size_t slots_len, const uint32_t *bodies, size_t bodies_len,
                    uint32_t *records, size_t records_len, uint64_t *out, size_t out_len);
 
@@ -184,7 +194,7 @@ uint32_t c13_lines(const uint8_t *area, size_t area_len, const uint32_t *slots, 
  * with just that section and offset; where there is none, over the last one in list order of the same section with a smaller offset, whether or
  * not it covers the offset asked; where there is none of these either, it has no records. Its end lines are read as `end_lines` says, a number of
  * enum c13_end_lines; C13_NO_SUCH_CHOICE where it is none. What `out` holds before the call is not looked at.
- *   out[0] .. out[27] the state */
+ *   out[0] .. out[29] the state */
 uint32_t c13_lines_for_symbol(const uint8_t *area, size_t area_len, const uint32_t *slots, size_t slots_len, const uint32_t *bodies,
                               size_t bodies_len, uint16_t section, uint32_t offset, uint32_t end_lines, uint64_t *out, size_t out_len);
 
@@ -413,13 +423,14 @@ static inline enum c13_status c13_told(uint32_t status, const uint64_t *words, s
 }
 
 /* Records, in words as the calls give them: of 32 bits where c13_lines and c13_files write them, else of 64. `kind` is of enum c13_kind or
- * enum c13_checksum_kind; `start` and `length` name a part of the lent bytes (but the length of a line is that of its code); `file` and `index` are for
- * c13_ask_file_at, `name` is for c13_ask_name, `words` and `count` are for c13_ask_word. Where has_.. is 0 there is no such number. */
+ * enum c13_checksum_kind; `start` and `length` name a part of the lent bytes (but the length of a line is that of its code); `body` is where the body of
+ * a line's subsection starts, as C13_BODY says; `file` and `index` are for c13_ask_file_at, `name` is for c13_ask_name, `words` and `count` are for
+ * c13_ask_word. Where has_.. is 0 there is no such number. */
 struct c13_sub {
     uint64_t kind, start, length;
 };
 struct c13_line {
-    uint32_t section, offset, has_length, length, file, start_line, end_line, has_start_column, start_column, has_end_column, end_column, is_statement;
+    uint32_t section, offset, has_length, length, file, start_line, end_line, has_start_column, start_column, has_end_column, end_column, is_statement, body;
 };
 struct c13_file {
     uint32_t index, name, kind, start, length;
@@ -542,7 +553,7 @@ static inline void c13_line_of(struct c13_line *line, const uint64_t *words) {
     line->start_line = (uint32_t)words[C13_START_LINE]; line->end_line = (uint32_t)words[C13_END_LINE];
     line->has_start_column = (uint32_t)words[C13_HAS_START_COLUMN]; line->start_column = (uint32_t)words[C13_START_COLUMN];
     line->has_end_column = (uint32_t)words[C13_HAS_END_COLUMN]; line->end_column = (uint32_t)words[C13_END_COLUMN];
-    line->is_statement = (uint32_t)words[C13_IS_STATEMENT];
+    line->is_statement = (uint32_t)words[C13_IS_STATEMENT]; line->body = (uint32_t)words[C13_BODY];
 }
 /* Whether a walk stays refused: so does each but one that lacks room, which may be given. */
 static inline int c13_line_walk_stays(const struct c13_line_walk *walk) { return walk->refused.number && walk->refused.number != C13_NO_ROOM; }

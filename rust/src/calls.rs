@@ -19,15 +19,15 @@ pub const NO_SUCH_CHOICE: u32 = 5;
 /// How many words the state of a walk takes at the front of `out`: of the subsections, of a table, of the lines.
 pub const SUB_STATE: usize = 1;
 pub const TABLE_STATE: usize = 4;
-pub const LINE_STATE: usize = 28;
+pub const LINE_STATE: usize = 30;
 /// The word of the lines' state that is the reading of end lines, and its numbers: the crate's, low bits, and delta. The same numbers are a
 /// parameter of `c13_lines_for_symbol`.
-pub const STATE_END_LINES: usize = 27;
+pub const STATE_END_LINES: usize = 29;
 pub const END_LINES_CRATE: u32 = 0;
 pub const END_LINES_LOW_BITS: u32 = 1;
 pub const END_LINES_DELTA: u32 = 2;
 /// The words of a line record, and of a file of `c13_files`.
-pub const RECORD: usize = 12;
+pub const RECORD: usize = 13;
 pub const FILE_RECORD: usize = 5;
 /// A word of the records that `c13_lines` and `c13_files` give.
 pub type RecordWord = u32;

@@ -85,12 +85,16 @@ pub struct LineInfo {
     pub column_end: Option<u32>,
     /// What it is of.
     pub kind: LineInfoKind,
+    /// The subsection that it was read from: where the body of it starts in the area, behind the 8 bytes of its header. It counts from the area's first byte,
+    /// also where [`ModuleInfo`](crate::ModuleInfo) cut the area out of a module's stream. The records of one subsection have the same number, those of two
+    /// never, also where these overlap or start at the same place of the code. [`u32::MAX`], a position that no area has, stands for "of no line subsection".
+    pub body: u32,
 }
 
 impl LineInfo {
     #[inline]
     fn of(w: &[RecordWord; RECORD]) -> LineInfo {
-        let [section, offset, has_length, length, file, start, end, has_start, column_start, has_end, column_end, statement] = *w;
+        let [section, offset, has_length, length, file, start, end, has_start, column_start, has_end, column_end, statement, body] = *w;
         LineInfo {
             offset: PdbInternalSectionOffset { section: section as u16, offset },
             length: optional(has_length, length),
@@ -100,6 +104,7 @@ impl LineInfo {
             column_start: optional(has_start, column_start),
             column_end: optional(has_end, column_end),
             kind: if statement == 0 { LineInfoKind::Expression } else { LineInfoKind::Statement },
+            body,
         }
     }
 

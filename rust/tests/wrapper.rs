@@ -56,6 +56,35 @@ fn a_symbol_has_the_lines_of_its_subsection() {
     assert!(starts(place(0, 0)).is_empty());
 }
 
+/// Where the bodies of the subsections start that the lines of a walk are from.
+fn bodies(lines: LineIterator<'_>) -> Vec<u32> {
+    lines.map(|line| line.map(|line| line.body)).collect::<Result<_, _>>().expect("lines")
+}
+
+#[test]
+fn a_line_tells_its_subsection() {
+    let program = Area::new(AREA).line_program().expect("program");
+    assert_eq!(bodies(program.lines()), [vec![8; 6], vec![88; 7], vec![176]].concat());
+    assert_eq!(bodies(program.lines_for_symbol(place(1, 0x71))), [88; 7]);
+    // two that are the same but for where they stand, and two over these
+    let sub = |offset, start| subsection(0xf2, &[offset, 1, 0x20, 0, 1, 20, 0, start]);
+    let area = [subsection(0xf4, &[]), sub(0x1010, 30), sub(0x1000, 10), sub(0x1000, 10), sub(0x1008, 20)].concat();
+    let program = Area::new(&area).line_program().expect("program");
+    assert_eq!(bodies(program.lines()), [56, 96, 136, 16]);
+    for (at, body) in [(0x1000, 56), (0x1007, 96), (0x1008, 136), (0x1018, 16)] {
+        assert_eq!(bodies(program.lines_for_symbol(place(1, at))), [body]);
+    }
+}
+
+/// Tests that before a line's position stands the header of a line subsection that ends in the area, that this is of the line's section, and that its code
+/// begins no later than the line.
+fn has_its_subsection(area: &[u8], line: &LineInfo) {
+    let body = line.body as usize;
+    let word = |at: usize| u32::from_le_bytes(area[at..at + 4].try_into().expect("four"));
+    assert!(word(body - 8) == 0xf2 && word(body - 4) as usize <= area.len() - body, "{line:?}");
+    assert!(word(body + 4) as u16 == line.offset.section && word(body) <= line.offset.offset, "{line:?}");
+}
+
 /// The readings of end lines.
 const READINGS: [EndLines; 3] = [EndLines::Crate, EndLines::LowBits, EndLines::Delta];
 
@@ -202,6 +231,8 @@ fn many_lines_are_all_given() {
         let program = Area::new(&area).line_program().expect("program");
         let (given, refused) = all(program.lines(), area.len());
         assert_eq!((refused, given.iter().map(|l| l.line_start).collect::<Vec<_>>()), (None, (1..=subs * lines).collect()));
+        let body_of = |start: u32| 8 + (32 + 8 * lines) * (subs - 1 - (start - 1) / lines);
+        assert!(given.iter().all(|l| l.body == body_of(l.line_start)), "{subs} subsections of {lines} lines");
         for i in [0, subs / 2, subs - 1] {
             let (given, refused) = all(program.lines_for_symbol(place(1, 0x1000 * i)), area.len());
             assert_eq!((refused, given.iter().map(|l| l.line_start).collect::<Vec<_>>()), (None, (lines * i + 1..=lines * i + lines).collect()));
@@ -329,7 +360,10 @@ fn a_module_is_its_parts() {
     let stream = [bytes_of(&[4]), AREA.to_vec()].concat();
     let module = ModuleInfo { stream: &stream, symbols_size: 4, lines_size: 0, c13_lines_size: AREA.len() as u32 };
     assert_eq!(module.symbols(), Ok(()));
-    assert_eq!(module.line_program().expect("program").lines().count(), 14);
+    let lines = |program: LineProgram<'_>| program.lines().collect::<Result<Vec<LineInfo>, _>>().expect("lines");
+    // the same, also in the positions, which count from the area's start
+    let (of_module, of_area) = (lines(module.line_program().expect("program")), lines(Area::new(AREA).line_program().expect("program")));
+    assert_eq!((of_module.len(), of_module), (14, of_area));
     assert_eq!(module.exports().expect("exports").len(), 0);
     let old = ModuleInfo { lines_size: 1, ..module };
     assert_eq!(old.line_program().map(|_| ()), Err(Refusal::OldFormat));
@@ -368,8 +402,8 @@ fn what_was_written_is_read() {
     let program = area.line_program().expect("program");
     let lines: Vec<LineInfo> = program.lines().collect::<Result<_, _>>().expect("lines");
     assert_eq!(
-        lines.iter().map(|l| (l.offset.offset, l.line_start, l.column_end)).collect::<Vec<_>>(),
-        [(0x1000, 10, Some(2)), (0x1008, 12, Some(4))]
+        lines.iter().map(|l| (l.offset.offset, l.line_start, l.column_end, l.body)).collect::<Vec<_>>(),
+        [(0x1000, 10, Some(2), 40), (0x1008, 12, Some(4), 40)]
     );
     assert_eq!(program.get_file_info(FileIndex(0)).expect("file").checksum, FileChecksum::Md5(&sum));
     assert_eq!(area.inlinees().next().expect("one").expect("inlinee").extra_files.collect::<Vec<_>>(), [24]);
@@ -557,6 +591,7 @@ fn ask(bytes: &[u8], chance: &mut Chance) -> usize {
             assert!(refused != Some(Refusal::WrongSlot), "a list as it was made has no wrong slot");
             same_by_each_reading(&program, &lines, refused);
             for line in &lines {
+                has_its_subsection(bytes, line);
                 let _ = program.get_file_info(line.file_index);
                 answers += all(program.lines_for_symbol(line.offset), limit).0.len();
                 let _ = program.line_at(line.offset);

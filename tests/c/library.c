@@ -561,6 +561,86 @@ static void end_lines(void) {
     reading = C13_END_LINES_CRATE;
 }
 
+/* ---- the subsections that lines are from */
+
+/* The words of a walk's state with the record that is held back, and those that say where the body starts that it stands in, and where it ends. */
+enum { HELD_RECORD = 5, BODY_START = 22, BODY_END = 23 };
+
+/* Where the bodies start that the lines of a walk are from, from a state on, and how it ends. */
+static void show_bodies(const struct function *f, const uint8_t *area, size_t n, const uint64_t *state) {
+    uint64_t out[WORDS];
+    uint32_t status;
+    memcpy(out, state, sizeof out);
+    do {
+        status = tried(f, area, n, out, WORDS);
+        memcpy(out, words_end - WORDS, sizeof out);
+        if (f->f == next_line && status == C13_GIVEN) printf(" %llu", (unsigned long long)out[C13_LINE_STATE + C13_BODY]);
+        for (size_t i = 0; f->f == lines && answered(status) && i < out[C13_LINE_STATE]; i++)
+            printf(" %u", (records_end - RECORDS)[i * C13_RECORD + C13_BODY]);
+    } while (status == C13_GIVEN);
+    printf(" %s", status_names[status]);
+    if (status == C13_REFUSED) printf(" %llu", (unsigned long long)out[C13_LINE_STATE]);
+    printf("\n");
+}
+
+/* A walk that stands in a body, with another start of that body in its state. Up to the body's end the lines that are read from then on tell that start, and
+ * the one that is held back keeps its own; behind the end it is refused. And with another position of the one that is held back, which is told as it stands. */
+static void show_starts(const struct function *f, const uint8_t *area, size_t n) {
+    uint64_t state[WORDS] = {0};
+    if (next_line(area, n, state, WORDS) != C13_GIVEN) fail(f, "no line");
+    const uint64_t start = state[BODY_START], end = state[BODY_END];
+    const uint64_t starts[] = {start, 0, 8, start + 1, end - 1, end, end + 1, UINT32_MAX, (UINT64_C(1) << 32) + start, UINT64_MAX};
+    for (size_t i = 0; i < sizeof starts / sizeof *starts; i++) {
+        state[BODY_START] = starts[i];
+        printf("%s, start %llu, end %llu:", f->name, (unsigned long long)starts[i], (unsigned long long)end);
+        show_bodies(f, area, n, state);
+    }
+    state[BODY_START] = start;
+    const uint64_t held[] = {0, UINT32_MAX, (UINT64_C(1) << 32) + start};
+    for (size_t i = 0; i < sizeof held / sizeof *held; i++) {
+        state[HELD_RECORD + C13_BODY] = held[i];
+        printf("%s, held at %llu:", f->name, (unsigned long long)held[i]);
+        show_bodies(f, area, n, state);
+    }
+}
+
+static void line_bodies(void) {
+    static uint8_t bytes[sizeof ends];
+    size_t n = words_to(bytes, ends, sizeof ends / 4);
+    const uint8_t *area = lent(bytes, n);
+    printf("-- bodies of lines\n");
+    use_lists(area, n);
+    for (const struct function *f = functions; f < functions + FUNCTIONS; f++) {
+        uint64_t state[WORDS] = {0};
+        if (f->f != next_line && f->f != lines) continue;
+        printf("%s, all:", f->name);
+        show_bodies(f, area, n, state);
+        number = 0x1fff;
+        if (symbol(area, n, state, WORDS) != C13_GIVEN) fail(f, "no walk");
+        printf("%s, those of a symbol:", f->name);
+        show_bodies(f, area, n, state);
+        show_starts(f, area, n);
+    }
+}
+
+/* A line whose offset in the section is above 32 bits, and a subsection whose end is. */
+static void too_large(void) {
+    static const uint32_t lines_of[][10] = {{0xf2, 32, UINT32_MAX, 1, 0, 0, 1, 20, 1, 10}, {0xf2, 32, UINT32_MAX, 1, 1, 0, 1, 20, 0, 10}};
+    static uint8_t bytes[sizeof *lines_of];
+    printf("-- offsets that are too large\n");
+    for (size_t i = 0; i < sizeof lines_of / sizeof *lines_of; i++) {
+        size_t n = words_to(bytes, lines_of[i], sizeof *lines_of / 4);
+        const uint8_t *area = lent(bytes, n);
+        use_lists(area, n);
+        for (const struct function *f = functions; f < functions + FUNCTIONS; f++) {
+            uint64_t state[WORDS] = {0};
+            if (f->f != next_line && f->f != lines) continue;
+            printf("%s, %s:", f->name, i ? "an end" : "a line");
+            show_bodies(f, area, n, state);
+        }
+    }
+}
+
 /* A walk, or one answer, with each body list at each step; told counts its statuses. */
 static void walked(call *named, const uint8_t *area, size_t n, uint64_t *told) {
     uint64_t state[WORDS] = {0};
@@ -701,6 +781,8 @@ int main(int argc, char **argv) {
     few_words();
     by_chance();
     end_lines();
+    too_large();
+    line_bodies();
     body_lists();
     writing_by_chance();
     too_long();

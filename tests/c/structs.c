@@ -51,7 +51,8 @@ static void read_area(const uint8_t *area, size_t n, const uint8_t *names, size_
     while (c13_line_walk_next(&lines, &line) == C13_GIVEN)
         if (line.offset <= 0x88 && line.has_length && 0x88 < line.offset + line.length) {
             if (c13_ask_file_at(area, n, line.file, &file, &why) != C13_GIVEN || c13_ask_name(names, k, file.name, &name, &why) != C13_GIVEN) exit(1);
-            printf("1:88 is of %.*s, line %llu\n", (int)name.length, (const char *)names + name.start, (shown)line.start_line);
+            printf("1:88 is of %.*s, line %llu, of the subsection whose body starts at %llu\n", (int)name.length, (const char *)names + name.start, (shown)line.start_line,
+                   (shown)line.body);
         }
     if (lines.refused.number) exit(1);
 }
@@ -152,7 +153,8 @@ static enum c13_status next_line(struct c13_line_walk *walk, struct line_words *
     enum c13_status status = c13_line_walk_next(walk, &line);
     if (status == C13_GIVEN) {
         const struct line_words fields = {{line.section, line.offset, line.has_length, line.length, line.file, line.start_line, line.end_line,
-                                           line.has_start_column, line.start_column, line.has_end_column, line.end_column, line.is_statement}};
+                                           line.has_start_column, line.start_column, line.has_end_column, line.end_column, line.is_statement,
+                                           line.body}};
         *to = fields;
     }
     return status;

@@ -205,7 +205,7 @@ static void parameters(uint32_t call, uint64_t small, uint64_t *given) {
     for (size_t i = 0; i < n; i++) {
         int is_first = i == 0, is_last = i + 2 == n;
         if (bits[i] == 1) given[i] = (uint64_t)(uintptr_t)(is_first ? (void *)lent.bytes : is_last ? (void *)lent.out : (void *)lent.words[middle++ % 2]);
-        else if (i && bits[i - 1] == 1) given[i] = i == 1 ? area_len : i + 1 == n ? C13_MOST : 24;
+        else if (i && bits[i - 1] == 1) given[i] = i == 1 ? area_len : i + 1 == n ? C13_MOST : 2 * C13_RECORD;
         else if (bits[i] != 64) given[i] = small;
     }
 }

@@ -13,7 +13,7 @@ use Rattle.word.specs.Word.{u32At}
 use Rattle.word.specs.WordLaws.{u32-drop}
 use Rattle.walk.specs.Cases.{by-cases, tests}
 use Rattle.walk.specs.Listing.{Move, item, pass, over, fail, Listing, more, ends, fails, gives, none, refuses, onMove, mapped, moved, all, calls, replies, Answer}
-use Rattle.walk.specs.ListingLaws.{To, Every, all-ind, all-unique, calls-are}
+use Rattle.walk.specs.ListingLaws.{To, Holds, Every, every-map, all-ind, all-every, all-unique, calls-are}
 use Rattle.walk.specs.WithinLaws.{Within, within-falls}
 use Rattle.refusal.specs.Told.{Told, told, longest, numberOf}
 use Rattle.refusal.specs.declared.Refusal.the-variants as why
@@ -325,15 +325,51 @@ module _ (rule : ℕ → Sort) (s : List ℕ) where
 abbrev pub Inside : ℕ → Sub → Type 0
 Inside m b = b .start + b .len ≤ m
 
+-- and, in an area that is not too long, its header stands right before its body: its kind, and the length of the body
+pub record SubHead (s : List ℕ) (b : Sub) : Type 0 where
+  pub short : length s ≤ longest
+  pub behind : 8 ≤ b .start
+  pub kind : u32At s (b .start - 8) ≡ b .kind
+  pub len : u32At s (b .start - 4) ≡ b .len
+  pub inside : Inside (length s) b
+
+module _ (rule : ℕ → Sort) (s : List ℕ) where
+  whole-headed : (k p n : ℕ) → SubHead s (record { kind = k; start = p + 8; len = n }) → Holds (SubHead s) (wholeAs rule k p n)
+  unfolding wholeAs
+  whole-headed k p n h = by (rule k)
+    where
+      by : (o : Sort) → Holds (SubHead s) (onSort o (item (record { kind = k; start = p + 8; len = n }) (p + 8 + n)) (pass (p + 8 + n)) (fail (told (why.UnknownKind k))))
+      by known = h
+      by skipped = tt
+      by unknown = tt
+
+  judged-headed : (p : ℕ) → length s ≤ longest → p ≤ length s → (u : Move (List ℕ) Raw Lack) → Bitten (drop p s) u → Holds (SubHead s) (judged rule p u)
+  judged-headed p m h (item r t) w =
+      let e₀ : p + 8 - 8 ≡ p + 0 = omega arith in
+      let e₄ : p + 8 - 4 ≡ p + 4 = omega arith in
+      whole-headed (r .kind) p (length (r .body)) (record {
+        short = m;
+        behind = omega arith;
+        kind = ap (u32At s) e₀ ∙ sym (u32-drop s p 0) ∙ sym (w .1);
+        len = ap (u32At s) e₄ ∙ sym (u32-drop s p 4) ∙ sym (w .2);
+        inside = omega (arith, length-drop p s);
+      })
+  judged-headed p m h (pass t) w = tt
+  judged-headed p m h over w = tt
+  judged-headed p m h (fail c) w = tt
+
+  head-headed : (p : ℕ) → Holds (SubHead s) (headAt rule s p)
+  unfolding headAt
+  head-headed p =
+      by-cases (Holds (SubHead s)) (ltb longest (length s)) (λ d. tt)
+      (λ d. by-cases (Holds (SubHead s)) (ltb (length s) p) (λ e. tt)
+      (λ e. judged-headed p (ltb-false longest (length s) d) (ltb-false (length s) p e) (bite (drop p s)) (bitten (drop p s))))
+
+  pub subs-headed : (p : ℕ) → Every (SubHead s) (subsFrom rule s p)
+  subs-headed p = subst⁻¹ (Every (SubHead s)) (subs-all rule s p) (all-every (headAt rule s) (left s) (falls rule s) (SubHead s) head-headed p)
+
 pub subs-inside : (rule : ℕ → Sort) (s : List ℕ) (p : ℕ) → Every (Inside (length s)) (subsFrom rule s p)
-subs-inside rule s = subs-ind rule s (λ p l. Every (Inside (length s)) l) by
-  where
-    by : (p : ℕ) (u : Move ℕ Sub Told) → Within 8 SubLies (length s) p u → To u (λ t. Every (Inside (length s)) (subsFrom rule s t))
-        → Every (Inside (length s)) (onMove (subsFrom rule s) u)
-    by p (item b x) w f = (omega arith, f)
-    by p (pass x) w f = f
-    by p over w f = tt
-    by p (fail r) w f = tt
+subs-inside rule s p = every-map (SubHead s) (Inside (length s)) (λ b h. h .inside) (subsFrom rule s p) (subs-headed rule s p)
 
 -- ---- the walk: n steps, each at the place that the step before left, are answered by the subsections in order, and then by the end, or by
 -- the same refusal, again and again

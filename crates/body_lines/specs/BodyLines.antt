@@ -29,10 +29,11 @@ use Rattle.body_lines.specs.Turns.{TurnsPut}
 abbrev pub heldRecord : Place → ℕ → ℕ → ℕ → LineRecord
 heldRecord p offset flags word = recordOf (sourceOf p) offset flags (columnIf (sourceOf p .columns) word)
 
--- the lines of the place, and their columns, lie in its body, and that in the area s
+-- the lines of the place, and their columns, lie in its body, which starts no later than it ends, and that in the area s
 pub record LinesFit (s : List ℕ) (p : Place) : Type 0 where
   pub short : length s ≤ longest
-  pub body : p .end ≤ length s
+  pub end : p .end ≤ length s
+  pub body : p .body ≤ p .end
   pub lines : p .line + 8 * p .lines ≤ p .end
   pub columns : p .column + 4 * p .lines ≤ p .end
 

@@ -57,14 +57,14 @@ record-held p offset flags w x r ex er = er ∙ ap (λ y. recordOf y offset flag
 
 module _ (rule : ℕ → Sort) (s v : List ℕ) (p : Place) (f : LinesFit s p) (i : ℕ) (l : i < p .lines) where
   body-length : length (take (p .end) s) ≡ p .end
-  body-length = length-take-le (p .end) s (f .body)
+  body-length = length-take-le (p .end) s (f .end)
 
   past-line : linesOn (linesOn p i) 1 ≡ linesOn p (i + 1)
   past-line =
       let a : p .lines - i - 1 ≡ p .lines - (i + 1) = omega arith in
       let b : p .line + 8 * i + 8 ≡ p .line + 8 * (i + 1) = omega arith in
       let c : p .column + 4 * i + 4 ≡ p .column + 4 * (i + 1) = omega arith in
-      λ j. record { head = p .head; how = p .how; end = p .end; next = p .next; file = p .file; lines = a j; line = b j; column = c j }
+      λ j. record { head = p .head; how = p .how; body = p .body; end = p .end; next = p .next; file = p .file; lines = a j; line = b j; column = c j }
 
   -- o and g are the line's words, and w its column word where it has one
   module _ (o g w : ℕ) (eo : o ≡ u32At s (p .line + 8 * i)) (eg : g ≡ u32At s (p .line + 8 * i + 4))
@@ -80,7 +80,7 @@ module _ (rule : ℕ → Sort) (s v : List ℕ) (p : Place) (f : LinesFit s p) (
 
     line-turn-is : (t : Rest) → lineTurn (take (p .end) s) (linesOn p i) t ≡ turnOf rule s v (Inside (linesOn p i) t)
     line-turn-is t =
-        inside-line s (linesOn p i) t (f .body) (λ z. omega arith) ∙ turn-is rule s v (Inside (linesOn p i) t) (f .short) (Inside (linesOn p i) t) refl
+        inside-line s (linesOn p i) t (f .end) (f .body) (λ z. omega arith) ∙ turn-is rule s v (Inside (linesOn p i) t) (f .short) (Inside (linesOn p i) t) refl
 
     pub turn-marker : isMarker g ≡ true → (t : Rest) → pass (Inside (linesOn p (i + 1)) t) ≡ turnOf rule s v (Inside (linesOn p i) t)
     turn-marker m t =
@@ -171,9 +171,9 @@ pub false-not : {A : Type 0} → false ≡ true → A
 false-not e = let z : _≡_ {A = ℕ} 0 1 = cc in absurd (omega arith)
 
 -- the tests as code makes them
-pub lines-fit-from : (s : List ℕ) (p : Place) → length s ≤ longest → p .end ≤ length s → p .line ≤ p .end → p .lines ≤ (p .end - p .line) / 8 → p .column ≤ p .end
+pub lines-fit-from : (s : List ℕ) (p : Place) → length s ≤ longest → p .end ≤ length s → p .body ≤ p .end → p .line ≤ p .end → p .lines ≤ (p .end - p .line) / 8 → p .column ≤ p .end
     → p .lines ≤ (p .end - p .column) / 4 → LinesFit s p
-lines-fit-from s p a b c d e f = record { short = a; body = b; lines = omega arith; columns = omega arith }
+lines-fit-from s p a b k c d e f = record { short = a; end = b; body = k; lines = omega arith; columns = omega arith }
 
 -- what is asked of a walk that turns on, where it does not
 pub not-false : {A : Type 0} → true ≡ false → A
@@ -185,15 +185,15 @@ at-none p =
     let a : p .lines - 0 ≡ p .lines = omega arith in
     let b : p .line + 8 * 0 ≡ p .line = omega arith in
     let c : p .column + 4 * 0 ≡ p .column = omega arith in
-    λ j. record { head = p .head; how = p .how; end = p .end; next = p .next; file = p .file; lines = a j; line = b j; column = c j }
+    λ j. record { head = p .head; how = p .how; body = p .body; end = p .end; next = p .next; file = p .file; lines = a j; line = b j; column = c j }
 
 lines-fit-on : (s : List ℕ) (p : Place) → LinesFit s p → (i : ℕ) → i ≤ p .lines → LinesFit s (linesOn p i)
 lines-fit-on s p f i h =
-    record { short = f .short; body = f .body; lines = omega (arith, f .lines); columns = omega (arith, f .columns) }
+    record { short = f .short; end = f .end; body = f .body; lines = omega (arith, f .lines); columns = omega (arith, f .columns) }
 
 -- i lines on, as code has it
 past-fit : (s : List ℕ) (p : Place) → LinesFit s p → (i : ℕ) → i ≤ p .lines → (q : Place) → q ≡ pastLines p i → q ≡ linesOn p i
-past-fit s p f i h = past-lines-are p i (omega (arith, f .short, f .body, f .lines)) (omega (arith, f .short, f .body, f .columns))
+past-fit s p f i h = past-lines-are p i (omega (arith, f .short, f .end, f .lines)) (omega (arith, f .short, f .end, f .columns))
 
 module _ (rule : ℕ → Sort) (s : List ℕ) (room : ℕ) (p : Place) (held : Held) (n : ℕ) (o : List ℕ) (f : LinesFit s p) (less : n < room) where
   -- it stays
@@ -277,14 +277,14 @@ module _ (rule : ℕ → Sort) (s : List ℕ) (room : ℕ) (p : Place) (held : H
   module _ (x : InBody) (o′ : List ℕ) (h : BlocksPut rule s room p held n o x o′) where
     block-turn-is : x .place .lines ≡ 0 → (v : List ℕ) (t : Rest) → blockTurn (take (x .place .end) s) (x .place) t ≡ turnOf rule s v (Inside (x .place) t)
     block-turn-is z v t =
-        inside-block s (x .place) t (h .fit .body) z ∙ turn-is rule s v (Inside (x .place) t) (h .fit .short) (Inside (x .place) t) refl
+        inside-block s (x .place) t (h .fit .end) (h .fit .body) z ∙ turn-is rule s v (Inside (x .place) t) (h .fit .short) (Inside (x .place) t) refl
 
     pub blocks-put-block : x .place .lines ≡ 0 → (q : Place) (stuck : Bool) → gave q ≡ nextBlock (take (x .place .end) s) (x .place)
         → BlocksPut rule s room p held n o (record { n = x .n; place = q; held = x .held; stuck = stuck }) o′
     blocks-put-block z q stuck e =
-        let k = next-block-opens s (x .place) (h .fit .body) q e in
+        let k = next-block-opens s (x .place) (h .fit .end) q e in
         record {
-          fit = record { short = h .fit .short; body = omega (arith, k .end, h .fit .body); lines = k .lines; columns = k .columns };
+          fit = record { short = h .fit .short; end = omega (arith, k .end, h .fit .end); body = omega (arith, k .body, k .end, h .fit .body); lines = k .lines; columns = k .columns };
           less = h .less;
           size = h .size;
           head = k .head ∙ h .head;

@@ -216,7 +216,7 @@ fn block_lines(area: &[u8], p: Place, held: Held, n: usize, room: usize, out: &m
     first_line(area, p, held, n, e, room, out)
 }
 
-// Do the lines of the place, and their columns, lie in its body, and that in an area that is not too long?
+// Do the lines of the place, and their columns, lie in its body, does that start no later than it ends, and lie in an area that is not too long?
 fn fits(area: &[u8], p: Place) -> bool
     ensures { λ r. ⌜ (r ≡ true → LinesFit (now (area .entry)) p) ⌝ }
 {
@@ -226,6 +226,9 @@ fn fits(area: &[u8], p: Place) -> bool
         return false;
     }
     if area.len() < end {
+        return false;
+    }
+    if end < p.body {
         return false;
     }
     if end < p.line {

@@ -19,7 +19,7 @@ use Rattle.line_record.specs.Record.{maxOffset, headSource, recordOf, en
 -- a record with the end line `last`, and all else as it was
 abbrev pub withEnd : ℕ → LineRecord → LineRecord
 withEnd last r =
-    record { section = r .section; offset = r .offset; length = r .length; file = r .file; «start_line» = r .«start_line»; «end_line» = last; «column_start» = r .«column_start»; «column_end» = r .«column_end»; kind = r .kind }
+    record { section = r .section; offset = r .offset; length = r .length; file = r .file; «start_line» = r .«start_line»; «end_line» = last; «column_start» = r .«column_start»; «column_end» = r .«column_end»; kind = r .kind; body = r .body }
 
 -- nothing else is changed: with its own end line it is itself. So two records that are the same with any line in the place of the end line are one another
 -- with the end line exchanged
@@ -30,14 +30,14 @@ pub end-exchanged : (r q : LineRecord) → ((last : ℕ) → withEnd last r ≡ 
 end-exchanged r q h = h (r .«end_line»)
 
 module _ (last : ℕ) where
-  module _ (how also : EndLines) (h : LineHead) (f offset flags : ℕ) (cs : List ℕ) where
+  module _ (how also : EndLines) (a : ℕ) (h : LineHead) (f offset flags : ℕ) (cs : List ℕ) where
     -- what an entry says, by the two tests
     abbrev said : Bool → Bool → EndLines → Reply LineRecord Told
     said marker large x =
-        cond marker nothing (cond large (refused (told why.OffsetTooLarge)) (gave (recordOf (headSource x h f) (h .offset + offset) flags cs)))
+        cond marker nothing (cond large (refused (told why.OffsetTooLarge)) (gave (recordOf (headSource x a h f) (h .offset + offset) flags cs)))
 
-    pub entry-readings : through (withEnd last) (entryOf (headSource how h f) offset flags cs)
-        ≡ through (withEnd last) (entryOf (headSource also h f) offset flags cs)
+    pub entry-readings : through (withEnd last) (entryOf (headSource how a h f) offset flags cs)
+        ≡ through (withEnd last) (entryOf (headSource also a h f) offset flags cs)
     unfolding entryOf
     entry-readings = by (isMarker flags) (ltb maxOffset (h .offset + offset))
       where

@@ -36,6 +36,8 @@ pub struct LineRecord {
     pub column_start: Column,
     pub column_end: Column,
     pub kind: LineKind,
+    // Where the body starts that it was read from, counted from the area's start.
+    pub body: u32,
 }
 
 impl LineRecord {
@@ -43,6 +45,9 @@ impl LineRecord {
     pub const MAX_START_LINE: u32 = 0xff_ffff;
 
     pub const MAX_OFFSET: u32 = 0xffff_ffff;
+
+    // The position of no body: no area is as long.
+    pub const NO_POSITION: u32 = 0xffff_ffff;
 
     // No answer is made of it.
     pub fn empty() -> Self
@@ -58,6 +63,7 @@ impl LineRecord {
             column_start: Column::None,
             column_end: Column::None,
             kind: LineKind::Statement,
+            body: LineRecord::NO_POSITION,
         }
     }
 }
@@ -131,14 +137,15 @@ pub fn is_marker(flags: u32) -> bool
     line == 0xf00f00
 }
 
-// What the lines of a block have in common: the section and the start of their subsection, their file, whether they have columns, and how their end lines are
-// read.
+// What the lines of a block have in common: the section and the start of their subsection, where in the area its body stands, their file, whether they have
+// columns, and how their end lines are read.
 pub struct LineSource {
     pub section: u16,
     pub base: u32,
     pub file: u32,
     pub columns: bool,
     pub how: EndLines,
+    pub body: u32,
 }
 
 // The start column: the low half of the column word, if there are columns.
@@ -181,6 +188,7 @@ pub fn record_of(source: LineSource, offset: u32, flags: u32, word: u32) -> Line
         column_start: a,
         column_end: b,
         kind: k,
+        body: source.body,
     }
 }
 
@@ -231,6 +239,7 @@ fn with_length(r: LineRecord, length: Length) -> LineRecord
         column_start: a,
         column_end: b,
         kind: k,
+        body: r.body,
     }
 }
 

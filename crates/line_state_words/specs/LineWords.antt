@@ -1,10 +1,10 @@
--- A line record in words, and a state of the line walk: its tag (0 new, 1 between two subsections, 2 inside one); the next slot, how many
--- subsections are left, how far the area has been searched, 1 and the record held back or 0; and of the place the header's four fields, its end,
--- the next block, the file, the lines left, the next line and the next column. Where a state lacks a part its words are 0. The last word of a state is its
--- reading of end lines: 0 the crate's, 1 the low bits, 2 the delta.
+-- A line record in words, and a state of the line walk: its tag (0 new, 1 between two subsections, 2 inside one); the next slot, how many subsections are left,
+-- how far the area has been searched, 1 and the record held back or 0; and of the place the header's four fields, where its body starts and ends, the next
+-- block, the file, the lines left, the next line and the next column. Where a state lacks a part its words are 0. The last word of a state is its reading of
+-- end lines: 0 the crate's, 1 the low bits, 2 the delta.
 -- Read back, a word too large for its field counts modulo the field's size, and a tag above the last is the last. But a word that names no reading is no
 -- reading, and its state no walk.
--- Source: docs/DECISIONS.md, 32, 59 and 61.
+-- Source: docs/DECISIONS.md, 32, 59, 61 and 62.
 -- Definitions only; a reader must believe them, but for `u16Of` to `lineWalkIn`, `noRecord` to `lineWalkWords`: `walk-begins`, `walk-none`,
 -- `state-read` (line_state_words ReadBackLaws) say what these mean.
 use Prim.Native.Nat.{ℕ, _+_, _%_}
@@ -34,7 +34,7 @@ use Rattle.line_step.specs.declared.LineWalk.the-variants as walk
 -- ---- how many words
 
 abbrev pub recordSize : ℕ
-recordSize = 12
+recordSize = 13
 
 -- where in a state it says whether a record is held back; that record stands behind the word
 abbrev pub heldAt : ℕ
@@ -45,7 +45,7 @@ abbrev pub restSize : ℕ
 restSize = heldAt + 1 + recordSize
 
 abbrev pub placeSize : ℕ
-placeSize = 10
+placeSize = 11
 
 -- where it says how end lines are read, behind these
 abbrev pub howAt : ℕ
@@ -80,7 +80,7 @@ recordWords r =
     ++ (r .file
     ∷ r .«start_line»
     ∷ r .«end_line»
-    ∷ (optionWords (toldColumn (r .«column_start»)) ++ (optionWords (toldColumn (r .«column_end»)) ++ (toldLineKind (r .kind) ∷ [])))))
+    ∷ (optionWords (toldColumn (r .«column_start»)) ++ (optionWords (toldColumn (r .«column_end»)) ++ (toldLineKind (r .kind) ∷ r .body ∷ [])))))
 
 -- ---- read back
 
@@ -112,6 +112,7 @@ recordIn o =
       «column_start» = columnOf (getD o 12 0) (getD o 13 0);
       «column_end» = columnOf (getD o 14 0) (getD o 15 0);
       kind = kindIn (getD o 16 0);
+      body = u32Of (getD o 17 0);
     }
 
 unfoldable pub heldIn : List ℕ → Held
@@ -121,19 +122,20 @@ abbrev pub restIn : List ℕ → Rest
 restIn o = record { slot = getD o 1 0; left = getD o 2 0; scan = getD o 3 0; held = heldIn o }
 
 abbrev pub headIn : List ℕ → LineHeader
-headIn o = record { offset = u32Of (getD o 17 0); section = u16Of (getD o 18 0); flags = u16Of (getD o 19 0); code = u32Of (getD o 20 0) }
+headIn o = record { offset = u32Of (getD o 18 0); section = u16Of (getD o 19 0); flags = u16Of (getD o 20 0); code = u32Of (getD o 21 0) }
 
 abbrev pub placeIn : EndLines → List ℕ → Place
 placeIn how o =
     record {
       head = headIn o;
       how = how;
-      end = getD o 21 0;
-      next = getD o 22 0;
-      file = u32Of (getD o 23 0);
-      lines = getD o 24 0;
-      line = getD o 25 0;
-      column = getD o 26 0;
+      body = getD o 22 0;
+      end = getD o 23 0;
+      next = getD o 24 0;
+      file = u32Of (getD o 25 0);
+      lines = getD o 26 0;
+      line = getD o 27 0;
+      column = getD o 28 0;
     }
 
 unfoldable pub walkBy : EndLines → List ℕ → LineWalk
@@ -167,6 +169,7 @@ placeWords p =
     ∷ p .head .section
     ∷ p .head .flags
     ∷ p .head .code
+    ∷ p .body
     ∷ p .end
     ∷ p .next
     ∷ p .file

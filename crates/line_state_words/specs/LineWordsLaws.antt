@@ -110,9 +110,9 @@ walk-length w = simp length-append (omega (arith, part-length w))
 -- the words of a record from those of its parts
 pub record-words : (r : LineRecord) {l₀ l₁ s₀ s₁ e₀ e₁ k : ℕ} → optionWords (toldLength (r .length)) ≡ l₀ ∷ l₁ ∷ [] → optionWords (toldColumn (r .«column_start»)) ≡ s₀ ∷ s₁ ∷ []
     → optionWords (toldColumn (r .«column_end»)) ≡ e₀ ∷ e₁ ∷ [] → toldLineKind (r .kind) ≡ k
-    → recordWords r ≡ r .section ∷ r .offset ∷ l₀ ∷ l₁ ∷ r .file ∷ r .«start_line» ∷ r .«end_line» ∷ s₀ ∷ s₁ ∷ e₀ ∷ e₁ ∷ k ∷ []
+    → recordWords r ≡ r .section ∷ r .offset ∷ l₀ ∷ l₁ ∷ r .file ∷ r .«start_line» ∷ r .«end_line» ∷ s₀ ∷ s₁ ∷ e₀ ∷ e₁ ∷ k ∷ r .body ∷ []
 record-words r l s e k =
-    λ i. r .section ∷ r .offset ∷ (l i ++ (r .file ∷ r .«start_line» ∷ r .«end_line» ∷ (s i ++ (e i ++ (k i ∷ [])))))
+    λ i. r .section ∷ r .offset ∷ (l i ++ (r .file ∷ r .«start_line» ∷ r .«end_line» ∷ (s i ++ (e i ++ (k i ∷ r .body ∷ [])))))
 
 -- a record that fits
 pub record-is : (o left : List ℕ) (at : ℕ) (r : LineRecord) → left ≡ store o at (recordWords r) → at + recordSize ≤ length o

@@ -52,6 +52,7 @@ pub record FitsRecord (r : LineRecord) : Type 0 where
   pub end-line : Fits32 (r .«end_line»)
   pub column-start : FitsColumn (r .«column_start»)
   pub column-end : FitsColumn (r .«column_end»)
+  pub body : Fits32 (r .body)
 
 abbrev pub FitsHeld : Held → Type 0
 FitsHeld held.Nothing = Unit {0}
@@ -111,6 +112,7 @@ record-read a b c d r ws f =
     let e₇ = S .read in
     let e₈ = E .read in
     let e₉ = kind-same (r .kind) in
+    let e₁₀ = u32-same (r .body) (f .body) in
     ap (λ (x : List ℕ). recordIn (a ∷ b ∷ c ∷ d ∷ 1 ∷ (x ++ ws))) e
     ∙ (λ i. record {
       section = e₁ i;
@@ -122,6 +124,7 @@ record-read a b c d r ws f =
       «column_start» = e₇ i;
       «column_end» = e₈ i;
       kind = e₉ i;
+      body = e₁₀ i;
     })
 
 held-read : (a b c d : ℕ) (h : Held) (ws : List ℕ) → FitsHeld h → heldIn (a ∷ b ∷ c ∷ d ∷ (heldWords h ++ ws)) ≡ h
@@ -146,25 +149,27 @@ place-read : (tag : ℕ) (t : Rest) (p : Place) (ws : List ℕ) → FitsPlace p 
 place-read tag t p ws f =
     let at : (n i : ℕ) → n ≡ restSize + i → getD (tag ∷ (restWords t ++ (placeWords p ++ ws))) n 0 ≡ getD (placeWords p ++ ws) i 0
     = behind-rest tag t (placeWords p ++ ws) in
-    let e₁ = ap u32Of (at 17 0 refl) ∙ u32-same (p .head .offset) (f .offset) in
-    let e₂ = ap u16Of (at 18 1 refl) ∙ u16-same (p .head .section) (f .section) in
-    let e₃ = ap u16Of (at 19 2 refl) ∙ u16-same (p .head .flags) (f .flags) in
-    let e₄ = ap u32Of (at 20 3 refl) ∙ u32-same (p .head .code) (f .code) in
-    let e₅ = at 21 4 refl in
-    let e₆ = at 22 5 refl in
-    let e₇ = ap u32Of (at 23 6 refl) ∙ u32-same (p .file) (f .file) in
-    let e₈ = at 24 7 refl in
-    let e₉ = at 25 8 refl in
-    let e₁₀ = at 26 9 refl in
+    let e₁ = ap u32Of (at 18 0 refl) ∙ u32-same (p .head .offset) (f .offset) in
+    let e₂ = ap u16Of (at 19 1 refl) ∙ u16-same (p .head .section) (f .section) in
+    let e₃ = ap u16Of (at 20 2 refl) ∙ u16-same (p .head .flags) (f .flags) in
+    let e₄ = ap u32Of (at 21 3 refl) ∙ u32-same (p .head .code) (f .code) in
+    let e₅ = at 22 4 refl in
+    let e₆ = at 23 5 refl in
+    let e₇ = at 24 6 refl in
+    let e₈ = ap u32Of (at 25 7 refl) ∙ u32-same (p .file) (f .file) in
+    let e₉ = at 26 8 refl in
+    let e₁₀ = at 27 9 refl in
+    let e₁₁ = at 28 10 refl in
     λ i. record {
       head = record { offset = e₁ i; section = e₂ i; flags = e₃ i; code = e₄ i };
       how = p .how;
-      end = e₅ i;
-      next = e₆ i;
-      file = e₇ i;
-      lines = e₈ i;
-      line = e₉ i;
-      column = e₁₀ i;
+      body = e₅ i;
+      end = e₆ i;
+      next = e₇ i;
+      file = e₈ i;
+      lines = e₉ i;
+      line = e₁₀ i;
+      column = e₁₁ i;
     }
 
 -- all but the reading

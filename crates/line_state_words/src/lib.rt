@@ -26,7 +26,7 @@ use line_step::Rest;
 use lines::LineHeader;
 
 // The words of a line record.
-pub const RECORD_WORDS: usize = 12;
+pub const RECORD_WORDS: usize = 13;
 
 // Where in a state it says whether a record is held back, and where behind that word the record stands.
 const HELD_AT: usize = 4;
@@ -36,7 +36,7 @@ const HELD_RECORD: usize = HELD_AT + 1;
 // The words of a state without its place, and behind them those of the place.
 const REST_WORDS: usize = HELD_RECORD + RECORD_WORDS;
 
-const PLACE_WORDS: usize = 10;
+const PLACE_WORDS: usize = 11;
 
 // Where behind these it says how end lines are read.
 const HOW_AT: usize = REST_WORDS + PLACE_WORDS;
@@ -138,6 +138,7 @@ fn record_in(out: &[u64]) -> LineRecord
         column_start,
         column_end,
         kind,
+        body: word32(out, 17),
     }
 }
 
@@ -166,10 +167,10 @@ fn head_in(out: &[u64]) -> LineHeader
     ensures { λ r. ⌜ r ≡ headIn (now (out .entry)) ⌝ }
 {
     LineHeader {
-        offset: word32(out, 17),
-        section: word16(out, 18),
-        flags: word16(out, 19),
-        code: word32(out, 20),
+        offset: word32(out, 18),
+        section: word16(out, 19),
+        flags: word16(out, 20),
+        code: word32(out, 21),
     }
 }
 
@@ -180,12 +181,13 @@ fn place_in(how: EndLines, out: &[u64]) -> Place
     Place {
         head,
         how,
-        end: state_word(out, 21) as usize,
-        next: state_word(out, 22) as usize,
-        file: word32(out, 23),
-        lines: state_word(out, 24) as usize,
-        line: state_word(out, 25) as usize,
-        column: state_word(out, 26) as usize,
+        body: state_word(out, 22) as usize,
+        end: state_word(out, 23) as usize,
+        next: state_word(out, 24) as usize,
+        file: word32(out, 25),
+        lines: state_word(out, 26) as usize,
+        line: state_word(out, 27) as usize,
+        column: state_word(out, 28) as usize,
     }
 }
 
@@ -277,6 +279,7 @@ fn put_record(out: &mut [u64], at: usize, r: LineRecord)
             e.0 as u64,
             e.1 as u64,
             k as u64,
+            r.body as u64,
         ],
         GIVEN,
     );
@@ -310,6 +313,7 @@ pub fn put_row(records: &mut [u32], at: usize, r: LineRecord)
             e.0,
             e.1,
             k,
+            r.body,
         ],
     );
 }
@@ -356,6 +360,7 @@ fn put_place(out: &mut [u64], p: Place)
             head.section as u64,
             head.flags as u64,
             head.code as u64,
+            p.body as u64,
             p.end as u64,
             p.next as u64,
             p.file as u64,

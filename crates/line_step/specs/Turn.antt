@@ -35,9 +35,9 @@ LineMove = Move LineWalk LineRecord Told
 
 -- ---- a line
 
--- what the lines at a place have in common
+-- what the lines at a place have in common; the start of their body as 32 bits hold it, for every place, also where no walk comes to it
 abbrev pub sourceOf : Place → LineSource
-sourceOf p = headSource (p .how) (toldHeader (p .head)) (p .file)
+sourceOf p = headSource (p .how) (p .body % 2 ^ 32) (toldHeader (p .head)) (p .file)
 
 -- what the entry says whose words stand at the place
 abbrev pub entryIn : List ℕ → Place → Reply LineRecord Told
@@ -58,12 +58,12 @@ withHeld t h = record { slot = t .slot; left = t .left; scan = t .scan; held = h
 -- the place n lines on: each line uses up its column entry
 abbrev pub linesOn : Place → ℕ → Place
 linesOn p n =
-    record { head = p .head; how = p .how; end = p .end; next = p .next; file = p .file; lines = p .lines - n; line = p .line + 8 * n; column = p .column + 4 * n }
+    record { head = p .head; how = p .how; body = p .body; end = p .end; next = p .next; file = p .file; lines = p .lines - n; line = p .line + 8 * n; column = p .column + 4 * n }
 
 -- and as 64 bits hold it, for every place and n, also where a walk comes to none
 abbrev pub pastLines : Place → ℕ → Place
 pastLines p n =
-    record { head = p .head; how = p .how; end = p .end; next = p .next; file = p .file; lines = p .lines - n; line = (p .line + 8 * n) % 2 ^ 64; column = (p .column + 4 * n) % 2 ^ 64 }
+    record { head = p .head; how = p .how; body = p .body; end = p .end; next = p .next; file = p .file; lines = p .lines - n; line = (p .line + 8 * n) % 2 ^ 64; column = (p .column + 4 * n) % 2 ^ 64 }
 
 -- a new record r, with the walk w behind it: the record that was held is closed by it
 abbrev pub holdIn : Held → LineRecord → LineWalk → LineMove
@@ -92,6 +92,7 @@ abbrev pub inBlock : Place → LineBlock → ℕ → Place
 inBlock p k x = record {
   head = p .head;
   how = p .how;
+  body = p .body;
   end = p .end;
   next = x;
   file = k .file;
@@ -135,16 +136,17 @@ blockTurn b p t = blockOf p t (nextBlock b p)
 unfoldable pub insideTurn : List ℕ → Place → Rest → LineMove
 insideTurn s p t =
     cond (ltb (length s) (p .end)) (fail (told why.Cut))
-    (cond (eqb (p .lines) 0) (blockTurn (take (p .end) s) p t) (lineTurn (take (p .end) s) p t))
+    (cond (ltb (p .end) (p .body)) (fail (told why.Cut))
+    (cond (eqb (p .lines) 0) (blockTurn (take (p .end) s) p t) (lineTurn (take (p .end) s) p t)))
 
 -- ---- a subsection
 
-abbrev pub placeAt : EndLines → LineHeader → ℕ → ℕ → Place
-placeAt how h first end = record { head = h; how = how; end = end; next = first; file = 0; lines = 0; line = 0; column = 0 }
+abbrev pub placeAt : EndLines → LineHeader → ℕ → ℕ → ℕ → Place
+placeAt how h body first end = record { head = h; how = how; body = body; end = end; next = first; file = 0; lines = 0; line = 0; column = 0 }
 
 -- before the first block of the body of n bytes at a
 abbrev pub bodyPlace : EndLines → List ℕ → ℕ → ℕ → Place
-bodyPlace how s a n = placeAt how (untoldHeader (lineHead (bytesAt s (record { start = a; len = n })))) (a + lineHeadSize) (a + n)
+bodyPlace how s a n = placeAt how (untoldHeader (lineHead (bytesAt s (record { start = a; len = n })))) a (a + lineHeadSize) (a + n)
 
 -- a body without room for a header is 1
 unfoldable pub headedPlace : EndLines → List ℕ → ℕ → ℕ → Reply Place Told

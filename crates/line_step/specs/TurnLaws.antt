@@ -79,18 +79,18 @@ entry-within b p e q = subst⁻¹ (EntryIn (length b) p) q (entry-lies b p)
 
 -- n lines on, as code reckons it
 pub past-lines-in : (p : Place) (n l a k : ℕ) → l ≡ p .lines - n → a ≡ (p .line + 8 * (n % 2 ^ 61)) % 2 ^ 64 → k ≡ (p .column + 4 * (n % 2 ^ 62)) % 2 ^ 64
-    → record { head = p .head; how = p .how; end = p .end; next = p .next; file = p .file; lines = l; line = a; column = k } ≡ pastLines p n
+    → record { head = p .head; how = p .how; body = p .body; end = p .end; next = p .next; file = p .file; lines = l; line = a; column = k } ≡ pastLines p n
 past-lines-in p n l a k el ea ek =
     let fa : a ≡ (p .line + 8 * n) % 2 ^ 64 = omega arith in
     let fk : k ≡ (p .column + 4 * n) % 2 ^ 64 = omega arith in
-    λ i. record { head = p .head; how = p .how; end = p .end; next = p .next; file = p .file; lines = el i; line = fa i; column = fk i }
+    λ i. record { head = p .head; how = p .how; body = p .body; end = p .end; next = p .next; file = p .file; lines = el i; line = fa i; column = fk i }
 
 -- and where the places fit
 pub past-lines-are : (p : Place) (n : ℕ) → p .line + 8 * n < 2 ^ 64 → p .column + 4 * n < 2 ^ 64 → (q : Place) → q ≡ pastLines p n → q ≡ linesOn p n
 past-lines-are p n h g q e =
     let a : (p .line + 8 * n) % 2 ^ 64 ≡ p .line + 8 * n = omega arith in
     let b : (p .column + 4 * n) % 2 ^ 64 ≡ p .column + 4 * n = omega arith in
-    e ∙ (λ i. record { head = p .head; how = p .how; end = p .end; next = p .next; file = p .file; lines = p .lines - n; line = a i; column = b i })
+    e ∙ (λ i. record { head = p .head; how = p .how; body = p .body; end = p .end; next = p .next; file = p .file; lines = p .lines - n; line = a i; column = b i })
 
 module _ (o : Held) (p : Place) (t : Rest) (r : LineRecord) (u : Rest) (eu : u ≡ withHeld t (One r)) where
   pub hold-nothing : o ≡ Nothing → pass (Inside p u) ≡ holdIn o r (Inside p (withHeld t (One r)))
@@ -141,15 +141,16 @@ module _ (b : List ℕ) (p : Place) (c : Bool) (ec : c ≡ columned (p .head .fl
 
   -- k is the block, x the place behind it, and j that of its columns
   pub next-block-in : (k : LineBlock) (x j : ℕ) → gives k x ≡ blockAt c b (p .next) → j ≡ columnPlace c (k .start) (k .count)
-      → gave (record { head = p .head; how = p .how; end = p .end; next = x; file = k .file; lines = k .count; line = k .start; column = j }) ≡ nextBlock b p
+      → gave (record { head = p .head; how = p .how; body = p .body; end = p .end; next = x; file = k .file; lines = k .count; line = k .start; column = j }) ≡ nextBlock b p
   next-block-in k x j e ej =
       let ej′ = ej ∙ ap (λ d. columnPlace d (k .start) (k .count)) ec in
-      ap (λ i. gave (record { head = p .head; how = p .how; end = p .end; next = x; file = k .file; lines = k .count; line = k .start; column = i })) ej′
+      ap (λ i. gave (record { head = p .head; how = p .how; body = p .body; end = p .end; next = x; file = k .file; lines = k .count; line = k .start; column = i })) ej′
       ∙ next-block-is (gives k x) e
 
 -- q is a place in the block behind p: its lines and columns lie in the body, and less of that is left
 pub record Opens (p q : Place) : Type 0 where
   pub head : q .head ≡ p .head
+  pub body : q .body ≡ p .body
   pub end : q .end ≡ p .end
   pub next : q .next ≤ q .end
   pub lines : q .line + 8 * q .lines ≤ q .end
@@ -180,7 +181,7 @@ module _ (s : List ℕ) (p : Place) (h : p .end ≤ length s) where
       on (gives k x) e =
           let m = length-take-le (p .end) s h in
           let w = block-in c b (p .next) k x e in
-          record { head = refl; end = refl; next = omega arith; lines = omega arith; columns = omega (arith, bytes-columns c (k .start) (k .count)); less = omega arith }
+          record { head = refl; body = refl; end = refl; next = omega arith; lines = omega arith; columns = omega (arith, bytes-columns c (k .start) (k .count)); less = omega arith }
       on none e = tt
       on (refuses t) e = tt
 
@@ -195,7 +196,11 @@ module _ (s : List ℕ) (p : Place) (t : Rest) where
   unfolding insideTurn
   inside-past h = simp tests
 
-  module _ (h₁ : p .end ≤ length s) where
+  pub inside-behind : p .end ≤ length s → p .end < p .body → fail (told why.Cut) ≡ insideTurn s p t
+  unfolding insideTurn
+  inside-behind h g = simp tests
+
+  module _ (h₁ : p .end ≤ length s) (h₂ : p .body ≤ p .end) where
     pub inside-block : p .lines ≡ 0 → blockTurn (take (p .end) s) p t ≡ insideTurn s p t
     unfolding insideTurn
     inside-block h = sym (simp tests)
@@ -223,11 +228,11 @@ module _ (how : EndLines) (s : List ℕ) (a n : ℕ) where
 
     -- k is the length of the part that was lent, g its header, and q the place before its first block
     pub enter-in : lineHeadSize ≤ n → (k : ℕ) (g : LineHeader) (q : Place) → k ≡ n
-        → toldHeader g ≡ lineHead (bytesAt s (record { start = a; len = k })) → q ≡ placeAt how g (a + lineHeadSize) (a + n) → gave q ≡ enterPlace how s a n
+        → toldHeader g ≡ lineHead (bytesAt s (record { start = a; len = k })) → q ≡ placeAt how g a (a + lineHeadSize) (a + n) → gave q ≡ enterPlace how s a n
     unfolding headedPlace
     enter-in h k g q ek eg eq =
         let e = eg ∙ ap (λ (j : ℕ). lineHead (bytesAt s (record { start = a; len = j }))) ek in
-        ap gave (eq ∙ ap (λ x. placeAt how (untoldHeader x) (a + lineHeadSize) (a + n)) e) ∙ sym (simp tests) ∙ enter-lies
+        ap gave (eq ∙ ap (λ x. placeAt how (untoldHeader x) a (a + lineHeadSize) (a + n)) e) ∙ sym (simp tests) ∙ enter-lies
 
 -- a place in a body ends where the body does
 abbrev EndsAt : ℕ → Reply Place Told → Type 0

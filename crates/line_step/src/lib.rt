@@ -47,10 +47,11 @@ pub struct Rest {
     pub held: Held,
 }
 
-// A place in a subsection: its header and its end, the next block; of the present block the file, the lines left, the next line and column; and how end lines
-// are read, which stands last, since a walk takes up to 12 % fewer instructions so (docs/SPEED.md).
+// A place in a subsection: its header, the start and the end of its body, the next block; of the present block the file, the lines left, the next line and
+// column; and how end lines are read, which stands last, since a walk takes up to 12 % fewer instructions so (docs/SPEED.md).
 pub struct Place {
     pub head: LineHeader,
+    pub body: usize,
     pub end: usize,
     pub next: usize,
     pub file: u32,
@@ -76,7 +77,8 @@ pub enum Turn {
     Refused(Refusal),
 }
 
-// What the lines at a place have in common.
+// What the lines at a place have in common. Where the body of a forged place starts too far on for 32 bits, its low bits are taken: no turn comes to its
+// lines.
 pub fn source_of(p: Place) -> LineSource
     ensures { λ r. ⌜ r ≡ sourceOf p ⌝ }
 {
@@ -89,6 +91,7 @@ pub fn source_of(p: Place) -> LineSource
         file: p.file,
         columns,
         how,
+        body: (p.body % 0x1_0000_0000) as u32,
     }
 }
 
@@ -174,6 +177,7 @@ pub fn past_lines(p: Place, n: usize) -> Place
     Place {
         head,
         how,
+        body: p.body,
         end: p.end,
         next: p.next,
         file: p.file,
@@ -294,12 +298,15 @@ fn block_turn(body: &[u8], p: Place, t: Rest) -> Turn
     }
 }
 
-// Inside a subsection, whose bytes end at the place's end.
+// Inside a subsection, whose bytes end at the place's end, and whose body starts no later.
 fn inside_turn(area: &[u8], p: Place, t: Rest) -> Turn
     ensures { λ r. ⌜ toldTurn r ≡ insideTurn (now (area .entry)) p t ⌝ }
 {
     let end = p.end;
     if area.len() < end {
+        return Turn::Refused(Refusal::Cut);
+    }
+    if end < p.body {
         return Turn::Refused(Refusal::Cut);
     }
     if p.lines == 0 {
@@ -308,13 +315,14 @@ fn inside_turn(area: &[u8], p: Place, t: Rest) -> Turn
     line_turn(&area[..end], p, t)
 }
 
-// Before the first block, at `first`, of a subsection that ends at `end`.
-pub fn place_at(how: EndLines, head: LineHeader, first: usize, end: usize) -> Place
-    ensures { λ r. ⌜ r ≡ placeAt how head first end ⌝ }
+// Before the first block, at `first`, of a subsection whose body goes from `body` to `end`.
+pub fn place_at(how: EndLines, head: LineHeader, body: usize, first: usize, end: usize) -> Place
+    ensures { λ r. ⌜ r ≡ placeAt how head body first end ⌝ }
 {
     Place {
         head,
         how,
+        body,
         end,
         next: first,
         file: 0,
@@ -345,7 +353,7 @@ pub fn enter(area: &[u8], how: EndLines, start: usize, len: usize) -> Entered
     }
     let end = start + len;
     let h = header_of(&area[start..end]);
-    Entered::In(place_at(how, h, start + LINE_HEAD, end))
+    Entered::In(place_at(how, h, start, start + LINE_HEAD, end))
 }
 
 // The next subsection: the one that the next slot names.

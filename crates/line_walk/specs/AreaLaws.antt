@@ -55,19 +55,20 @@ module _ (Q : Told → Type 0) (cut : Q (told why.Cut)) (size : Q (told why.Bloc
   then-by nothing l f g = g
   then-by (refused t) l f g = f
 
-  lines-by : (how : EndLines) (h : LineHead) (f : ℕ) (ws cs : List ℕ) (l : Events) → FailsBy Q l → FailsBy Q (linesThen how h f ws cs l)
+  lines-by : (source : LineSource) (ws cs : List ℕ) (l : Events) → FailsBy Q l → FailsBy Q (linesThen source ws cs l)
   unfolding linesThen
-  lines-by how h f (offset ∷ flags ∷ ws) cs l g =
-      then-by (entryOf (headSource how h f) offset flags cs) (linesThen how h f ws (behind cs) l)
-      (entry-by (headSource how h f) offset flags cs) (lines-by how h f ws (behind cs) l g)
-  lines-by how h f (offset ∷ []) cs l g = g
-  lines-by how h f [] cs l g = g
+  lines-by source (offset ∷ flags ∷ ws) cs l g =
+      then-by (entryOf source offset flags cs) (linesThen source ws (behind cs) l) (entry-by source offset flags cs) (lines-by source ws (behind cs) l g)
+  lines-by source (offset ∷ []) cs l g = g
+  lines-by source [] cs l g = g
 
-  blocks-then-by : (how : EndLines) (h : LineHead) (k : Listing Block Told) (l : Events) → FailsBy Q k → FailsBy Q l → FailsBy Q (blocksThen how h k l)
+  blocks-then-by : (how : EndLines) (a : ℕ) (h : LineHead) (k : Listing Block Told) (l : Events) → FailsBy Q k → FailsBy Q l
+      → FailsBy Q (blocksThen how a h k l)
   unfolding blocksThen
-  blocks-then-by how h (more b k) l e g = lines-by how h (b .file) (b .lines) (b .columns) (blocksThen how h k l) (blocks-then-by how h k l e g)
-  blocks-then-by how h ends l e g = g
-  blocks-then-by how h (fails t) l e g = e
+  blocks-then-by how a h (more b k) l e g =
+      lines-by (headSource how a h (b .file)) (b .lines) (b .columns) (blocksThen how a h k l) (blocks-then-by how a h k l e g)
+  blocks-then-by how a h ends l e g = g
+  blocks-then-by how a h (fails t) l e g = e
 
   pub body-by : (how : EndLines) (b : Body) (l : Events) → FailsBy Q l → FailsBy Q (bodyThen how b l)
   unfolding bodyThen
@@ -75,7 +76,7 @@ module _ (Q : Told → Type 0) (cut : Q (told why.Cut)) (size : Q (told why.Bloc
       let h = lineHead (b .bytes) in
       let r = drop lineHeadSize (b .bytes) in
       by-cases (FailsBy Q) (ltb (length (b .bytes)) lineHeadSize) (λ e. cut)
-      (λ e. blocks-then-by how h (blocks (columned (h .flags)) r) l (blocks-by Q cut size (columned (h .flags)) r) g)
+      (λ e. blocks-then-by how (b .start) h (blocks (columned (h .flags)) r) l (blocks-by Q cut size (columned (h .flags)) r) g)
 
   events-by : (how : EndLines) (bs : List Body) → FailsBy Q (eventsOf how (before bs ends))
   unfolding eventsOf

@@ -5,5 +5,7 @@ pub mod Untold
 pub mod NextLaws
 pub mod WalkLaws
 pub mod AreaLaws
+pub mod EveryLaws
 pub mod LimitsLaws
 pub mod ReadingsLaws
+pub mod PositionLaws

@@ -1,8 +1,8 @@
--- What the line walk means: the line bodies that the list names, one after the other, as events; and the records that these events settle, their end lines
--- by the one reading that the caller names. There is no state in it, and no place but where each body starts, which is handed on with its bytes. Source:
--- document 01, "Line subsections": markers give no record but use up their column entry; one record is held back until its end is known; the ends are the
--- next non-marker line's offset, then section offset plus code size when a subsection's blocks are done, this also when a later subsection had no line; 8 at
--- a subsection's end only if a record is held.
+-- What the line walk means: the line bodies that the list names, one after the other, as events; and the records that these events settle, their end lines by
+-- the one reading that the caller names. There is no state in it, and no place but where each body starts, which its records are given. Source: document 01,
+-- "Line subsections", amended by [9]: each record has the position of its subsection's body; markers give no record but use up their column entry; one record
+-- is held back until its end is known; the ends are the next non-marker line's offset, then section offset plus code size when a subsection's blocks are done,
+-- this also when a later subsection had no line; 8 at a subsection's end only if a record is held.
 -- Definitions only; a reader must believe them.
 use Prim.Native.Nat.{ℕ, _+_}
 use mathlib.Core.List.{List, [], _∷_}
@@ -17,6 +17,7 @@ use Rattle.body.specs.Lines.{LineHead, lineHeadSize, lineHead, columned, Block,
 use Rattle.line_record.specs.Record.{maxOffset, headSource, entryOf, closedAt}
 use Rattle.line_record.specs.declared.EndLines.{EndLines}
 use Rattle.line_record.specs.declared.LineRecord.{LineRecord}
+use Rattle.line_record.specs.declared.LineSource.{LineSource}
 use Rattle.lines.specs.Lines.{Body}
 use Rattle.lines.specs.Slots.{listOf}
 use Rattle.order.specs.Order.{inOrder}
@@ -40,24 +41,23 @@ abbrev pub behind : List ℕ → List ℕ
 behind [] = []
 behind (w ∷ ws) = ws
 
--- the lines of a block of file f, offset and flags of each, with a column word for each if there are columns; and then l
-unfoldable pub linesThen : EndLines → LineHead → ℕ → List ℕ → List ℕ → Events → Events
-linesThen how h f (offset ∷ flags ∷ ws) cs l =
-    entryThen (entryOf (headSource how h f) offset flags cs) (linesThen how h f ws (behind cs) l)
-linesThen how h f (offset ∷ []) cs l = l
-linesThen how h f [] cs l = l
+-- the lines of a block, offset and flags of each, with a column word for each if there are columns; and then l
+unfoldable pub linesThen : LineSource → List ℕ → List ℕ → Events → Events
+linesThen source (offset ∷ flags ∷ ws) cs l = entryThen (entryOf source offset flags cs) (linesThen source ws (behind cs) l)
+linesThen source (offset ∷ []) cs l = l
+linesThen source [] cs l = l
 
--- the blocks of a subsection, its end, and then l
-unfoldable pub blocksThen : EndLines → LineHead → Listing Block Told → Events → Events
-blocksThen how h (more k ks) l = linesThen how h (k .file) (k .lines) (k .columns) (blocksThen how h ks l)
-blocksThen how h ends l = more (done h) l
-blocksThen how h (fails t) l = fails t
+-- the blocks of a subsection whose body starts at a, its end, and then l
+unfoldable pub blocksThen : EndLines → ℕ → LineHead → Listing Block Told → Events → Events
+blocksThen how a h (more k ks) l = linesThen (headSource how a h (k .file)) (k .lines) (k .columns) (blocksThen how a h ks l)
+blocksThen how a h ends l = more (done h) l
+blocksThen how a h (fails t) l = fails t
 
 -- a line body, and then l
 unfoldable pub bodyThen : EndLines → Body → Events → Events
 bodyThen how b l =
     cond (ltb (length (b .bytes)) lineHeadSize) (fails (told why.Cut))
-    (blocksThen how (lineHead (b .bytes)) (blocks (columned (lineHead (b .bytes) .flags)) (drop lineHeadSize (b .bytes))) l)
+    (blocksThen how (b .start) (lineHead (b .bytes)) (blocks (columned (lineHead (b .bytes) .flags)) (drop lineHeadSize (b .bytes))) l)
 
 unfoldable pub eventsOf : EndLines → Listing Body Told → Events
 eventsOf how (more b l) = bodyThen how b (eventsOf how l)

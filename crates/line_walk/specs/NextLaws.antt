@@ -95,9 +95,10 @@ module _ (rule : ℕ → Sort) (s v : List ℕ) where
   inside-less p t =
       let b = take (p .end) s in
       by-cases (Less (todo rule s (Inside p t))) (ltb (length s) (p .end)) (λ g. tt)
-      (λ g. by-cases (Less (todo rule s (Inside p t))) (eqb (p .lines) 0)
+      (λ g. by-cases (Less (todo rule s (Inside p t))) (ltb (p .end) (p .body)) (λ f. tt)
+      (λ f. by-cases (Less (todo rule s (Inside p t))) (eqb (p .lines) 0)
       (λ e. block-less p t (nextBlock b p) (eqb-true (p .lines) 0 e) (next-block-lies s p (ltb-false (length s) (p .end) g)))
-      (λ e. line-less p t (lineEntryAt b p) (omega (arith, eqb-false))))
+      (λ e. line-less p t (lineEntryAt b p) (omega (arith, eqb-false)))))
 
   turn-less : (w : LineWalk) → Less (todo rule s w) (turnIn rule s v w)
   turn-less (New how) = open-less how (countLines rule s)

@@ -63,31 +63,31 @@ module _ (last : ℕ) where
   -- ---- with the same end lines the events are the same
 
   module _ (how also : EndLines) where
-    lines-same : (h : LineHead) (f : ℕ) (ws cs : List ℕ) (l m : Events) → eventsWith l ≡ eventsWith m
-        → eventsWith (linesThen how h f ws cs l) ≡ eventsWith (linesThen also h f ws cs m)
+    lines-same : (a : ℕ) (h : LineHead) (f : ℕ) (ws cs : List ℕ) (l m : Events) → eventsWith l ≡ eventsWith m
+        → eventsWith (linesThen (headSource how a h f) ws cs l) ≡ eventsWith (linesThen (headSource also a h f) ws cs m)
     unfolding linesThen
-    lines-same h f (offset ∷ flags ∷ ws) cs l m e =
-        let rest = lines-same h f ws (behind cs) l m e in
-        entry-with (entryOf (headSource how h f) offset flags cs) (linesThen how h f ws (behind cs) l)
-        ∙ (λ i. entryThen (entry-readings last how also h f offset flags cs i) (rest i))
-        ∙ sym (entry-with (entryOf (headSource also h f) offset flags cs) (linesThen also h f ws (behind cs) m))
-    lines-same h f (offset ∷ []) cs l m e = e
-    lines-same h f [] cs l m e = e
+    lines-same a h f (offset ∷ flags ∷ ws) cs l m e =
+        let rest = lines-same a h f ws (behind cs) l m e in
+        entry-with (entryOf (headSource how a h f) offset flags cs) (linesThen (headSource how a h f) ws (behind cs) l)
+        ∙ (λ i. entryThen (entry-readings last how also a h f offset flags cs i) (rest i))
+        ∙ sym (entry-with (entryOf (headSource also a h f) offset flags cs) (linesThen (headSource also a h f) ws (behind cs) m))
+    lines-same a h f (offset ∷ []) cs l m e = e
+    lines-same a h f [] cs l m e = e
 
-    blocks-same : (h : LineHead) (k : Listing Block Told) (l m : Events) → eventsWith l ≡ eventsWith m
-        → eventsWith (blocksThen how h k l) ≡ eventsWith (blocksThen also h k m)
+    blocks-same : (a : ℕ) (h : LineHead) (k : Listing Block Told) (l m : Events) → eventsWith l ≡ eventsWith m
+        → eventsWith (blocksThen how a h k l) ≡ eventsWith (blocksThen also a h k m)
     unfolding blocksThen
-    blocks-same h (more b k) l m e =
-        lines-same h (b .file) (b .lines) (b .columns) (blocksThen how h k l) (blocksThen also h k m) (blocks-same h k l m e)
-    blocks-same h ends l m e = ap (more (done h)) e
-    blocks-same h (fails t) l m e = refl
+    blocks-same a h (more b k) l m e =
+        lines-same a h (b .file) (b .lines) (b .columns) (blocksThen how a h k l) (blocksThen also a h k m) (blocks-same a h k l m e)
+    blocks-same a h ends l m e = ap (more (done h)) e
+    blocks-same a h (fails t) l m e = refl
 
     body-same : (b : Body) (l m : Events) → eventsWith l ≡ eventsWith m → eventsWith (bodyThen how b l) ≡ eventsWith (bodyThen also b m)
     unfolding bodyThen
     body-same b l m e =
         let h = lineHead (b .bytes) in
         let k = blocks (columned (h .flags)) (drop lineHeadSize (b .bytes)) in
-        both-ways eventsWith (ltb (length (b .bytes)) lineHeadSize) (λ c. refl) (λ c. blocks-same h k l m e)
+        both-ways eventsWith (ltb (length (b .bytes)) lineHeadSize) (λ c. refl) (λ c. blocks-same (b .start) h k l m e)
         ∙ sym (both-ways eventsWith (ltb (length (b .bytes)) lineHeadSize) (λ c. refl) (λ c. refl))
 
     events-same : (l : Listing Body Told) → eventsWith (eventsOf how l) ≡ eventsWith (eventsOf also l)

@@ -1,6 +1,6 @@
 -- The walk is its meaning: n steps from a new walk on answer the records of `recordsOf` in order, by the reading of end lines that the new walk names, and
 -- then its end again and again.
-use Prim.Native.Nat.{ℕ, zero, suc, _+_, _-_, _*_, _<_, _≤_}
+use Prim.Native.Nat.{ℕ, zero, suc, _+_, _-_, _*_, _%_, _^_, _<_, _≤_}
 use mathlib.Core.Path.{_≡_, refl, sym, ap, _∙_, subst⁻¹}
 use mathlib.Core.List.{List, [], _∷_}
 use mathlib.Core.Bool.{Bool, true, false, cond}
@@ -28,6 +28,7 @@ use Rattle.find.specs.Find.{same, Span, bytesAt}
 use Rattle.line_record.specs.Record.{maxOffset, columnIf, headSource, entryOf, closedAt}
 use Rattle.line_record.specs.declared.EndLines.{EndLines}
 use Rattle.line_record.specs.declared.LineRecord.{LineRecord}
+use Rattle.line_record.specs.declared.LineSource.{LineSource}
 use Rattle.lines.specs.declared.LineHeader.{LineHeader}
 use Rattle.lines.specs.Told.{toldHeader}
 use Rattle.lines.specs.Lines.{countLines, bodyOn}
@@ -42,7 +43,7 @@ use Rattle.line_step.specs.declared.Rest.{Rest}
 use Rattle.line_step.specs.declared.Place.{Place}
 use Rattle.line_step.specs.declared.LineWalk.{LineWalk}
 use Rattle.line_step.specs.declared.LineWalk.the-variants.{New, Between, Inside}
-use Rattle.line_step.specs.Turn.{LineMove, entryIn, lineEntryAt, withHeld, linesOn, holdIn, lineOf, columnPlace, blockPlace, nextBlock, endHeld, endMove, blockOf, insideTurn, bodyPlace, headedPlace, restAt, enterMove, enterAt, namedOf, finishIn, betweenTurn, openOf, turnIn, turnOf}
+use Rattle.line_step.specs.Turn.{LineMove, sourceOf, entryIn, lineEntryAt, withHeld, linesOn, holdIn, lineOf, columnPlace, blockPlace, nextBlock, endHeld, endMove, blockOf, insideTurn, bodyPlace, headedPlace, restAt, enterMove, enterAt, namedOf, finishIn, betweenTurn, openOf, turnIn, turnOf}
 use Rattle.line_step.specs.TurnLaws.{entry-inside, OpensIn, next-block-lies}
 use Rattle.line_walk.specs.Meaning.{line, done, Events, entryThen, linesThen, blocksThen, bodyThen, eventsOf, Records, settleOne, settle, recordsOf}
 use Rattle.line_walk.specs.Next.{todo, nextOf}
@@ -62,13 +63,13 @@ words-two n s p =
     ∙ ap (λ k. u32At s p ∷ u32At s (p + 4) ∷ wordsIn (2 * n) (drop k s)) f
 
 -- the first of n + 1 lines at a, their columns at k
-lines-at : (how : EndLines) (c : Bool) (h : LineHead) (f n : ℕ) (b : List ℕ) (a k : ℕ) (l : Events)
-    → linesThen how h f (wordsIn (2 * suc n) (drop a b)) (wordsIn (columnsOf c (suc n)) (drop k b)) l
-    ≡ entryThen (entryOf (headSource how h f) (u32At b a) (u32At b (a + 4)) (columnIf c (u32At b k)))
-    (linesThen how h f (wordsIn (2 * n) (drop (a + 8) b)) (wordsIn (columnsOf c n) (drop (k + 4) b)) l)
+lines-at : (source : LineSource) (c : Bool) (n : ℕ) (b : List ℕ) (a k : ℕ) (l : Events)
+    → linesThen source (wordsIn (2 * suc n) (drop a b)) (wordsIn (columnsOf c (suc n)) (drop k b)) l
+    ≡ entryThen (entryOf source (u32At b a) (u32At b (a + 4)) (columnIf c (u32At b k)))
+    (linesThen source (wordsIn (2 * n) (drop (a + 8) b)) (wordsIn (columnsOf c n) (drop (k + 4) b)) l)
 unfolding linesThen wordsIn entryOf
-lines-at how true h f n b a k l = λ i. linesThen how h f (words-two n b a i) (words-one n b k i) l
-lines-at how false h f n b a k l = λ i. linesThen how h f (words-two n b a i) [] l
+lines-at source true n b a k l = λ i. linesThen source (words-two n b a i) (words-one n b k i) l
+lines-at source false n b a k l = λ i. linesThen source (words-two n b a i) [] l
 
 -- where the columns of n lines at a begin
 columns-at : (c : Bool) (b : List ℕ) (a n : ℕ) → wordsIn (columnsOf c n) (drop (a + 8 * n) b) ≡ wordsIn (columnsOf c n) (drop (columnPlace c a n) b)
@@ -99,16 +100,20 @@ held-fails (One o) t = refl
 abbrev headOf : Place → LineHead
 headOf p = toldHeader (p .head)
 
+-- where its body starts, as `sourceOf` has it
+abbrev startOn : Place → ℕ
+startOn p = p .body % 2 ^ 32
+
 abbrev columnsOn : Place → Bool
 columnsOn p = columned (p .head .flags)
 
 -- of the present block, and of those behind it, in the bytes b; and then l
 abbrev pub linesLeft : List ℕ → Place → Events → Events
 linesLeft b p l =
-    linesThen (p .how) (headOf p) (p .file) (wordsIn (2 * p .lines) (drop (p .line) b)) (wordsIn (columnsOf (columnsOn p) (p .lines)) (drop (p .column) b)) l
+    linesThen (sourceOf p) (wordsIn (2 * p .lines) (drop (p .line) b)) (wordsIn (columnsOf (columnsOn p) (p .lines)) (drop (p .column) b)) l
 
 abbrev pub blocksLeft : List ℕ → Place → Events → Events
-blocksLeft b p l = blocksThen (p .how) (headOf p) (blocks (columnsOn p) (drop (p .next) b)) l
+blocksLeft b p l = blocksThen (p .how) (startOn p) (headOf p) (blocks (columnsOn p) (drop (p .next) b)) l
 
 module _ (rule : ℕ → Sort) (s v : List ℕ) where
   -- of the subsections that are to come
@@ -126,7 +131,7 @@ module _ (rule : ℕ → Sort) (s v : List ℕ) where
   Walked (Between how t) = (length s ≤ longest) × Scans rule s (t .scan)
   Walked (Inside p t) =
       (length s ≤ longest) × Scans rule s (t .scan) × (p .end ≤ length s) × (p .next ≤ p .end)
-      × (p .line + 8 * p .lines ≤ p .end) × (p .column + 4 * p .lines ≤ p .end)
+      × (p .line + 8 * p .lines ≤ p .end) × (p .column + 4 * p .lines ≤ p .end) × (p .body ≤ p .end)
 
   -- ---- a turn leaves the records as they are
 
@@ -147,19 +152,20 @@ module _ (rule : ℕ → Sort) (s v : List ℕ) where
       ∙ ap (more r) (sym (ap (λ n. settle (eventsOf how (named (bodyAt rule s) n (drop (t .slot) v)))) e))
 
   -- a body is the same in its own bytes and in those of the area up to its end
-  body-blocks : (how : EndLines) (a : Span) (h : LineHead) (l : Events)
-      → blocksThen how h (blocks (columned (h .flags)) (drop 12 (bytesAt s a))) l
-      ≡ blocksThen how h (blocks (columned (h .flags)) (drop (a .start + 12) (take (a .start + a .len) s))) l
-  body-blocks how a h l =
-      ap (λ k. blocksThen how h (blocks (columned (h .flags)) k) l)
-      (ap (drop 12) (take-behind (a .start) (a .len) s) ∙ drop-drop 12 (a .start) (take (a .start + a .len) s))
+  body-blocks : (how : EndLines) (a : Span) (h : LineHead) (l : Events) → a .start ≤ longest
+      → blocksThen how (a .start) h (blocks (columned (h .flags)) (drop 12 (bytesAt s a))) l
+      ≡ blocksThen how (a .start % 2 ^ 32) h (blocks (columned (h .flags)) (drop (a .start + 12) (take (a .start + a .len) s))) l
+  body-blocks how a h l g =
+      let start : a .start ≡ a .start % 2 ^ 32 = omega arith in
+      let bytes = ap (drop 12) (take-behind (a .start) (a .len) s) ∙ drop-drop 12 (a .start) (take (a .start + a .len) s) in
+      λ i. blocksThen how (start i) h (blocks (columned (h .flags)) (bytes i)) l
 
-  enter-right : (how : EndLines) (t : Rest) (a : Span) → a .start + a .len ≤ length s
+  enter-right : (how : EndLines) (t : Rest) (a : Span) → length s ≤ longest → a .start + a .len ≤ length s
       → Right (heldThen (t .held) (bodyThen how (bodyOn s a) (later how (restAt t (a .start + a .len))))) (enterAt s how t (a .start) (a .len))
   unfolding bodyThen headedPlace linesThen wordsIn
-  enter-right how t a g =
+  enter-right how t a m g =
       let n : length (bytesAt s a) ≡ a .len = length-take-le (a .len) (drop (a .start) s) (simp length-drop (omega arith)) in
-      ap (λ k. heldThen (t .held) (cond (ltb k 12) (fails (told why.Cut)) (blocksThen how h (blocks (columned (h .flags)) (drop 12 (bytesAt s a))) l))) n
+      ap (λ k. heldThen (t .held) (cond (ltb k 12) (fails (told why.Cut)) (blocksThen how (a .start) h (blocks (columned (h .flags)) (drop 12 (bytesAt s a))) l))) n
       ∙ both (ltb (a .len) 12)
     where
       h : LineHead
@@ -169,24 +175,24 @@ module _ (rule : ℕ → Sort) (s v : List ℕ) where
       l = later how (restAt t (a .start + a .len))
 
       both : (c : Bool) → Right
-          (heldThen (t .held) (cond c (fails (told why.Cut)) (blocksThen how h (blocks (columned (h .flags)) (drop 12 (bytesAt s a))) l)))
+          (heldThen (t .held) (cond c (fails (told why.Cut)) (blocksThen how (a .start) h (blocks (columned (h .flags)) (drop 12 (bytesAt s a))) l)))
           (enterMove t (a .start + a .len) (cond c (refused (told why.Cut)) (gave (bodyPlace how s (a .start) (a .len)))))
       both true = held-fails (t .held) (told why.Cut)
-      both false = ap (heldThen (t .held)) (body-blocks how a h l)
+      both false = ap (heldThen (t .held)) (body-blocks how a h l (omega arith))
 
-  named-right : (how : EndLines) (t : Rest) (o : Reply Span Told) → Gives (SlotIn rule s v (t .slot) (t .scan)) o
+  named-right : (how : EndLines) (t : Rest) (o : Reply Span Told) → length s ≤ longest → Gives (SlotIn rule s v (t .slot) (t .scan)) o
       → Right (heldThen (t .held) (eventsOf how (nameThen (mapReply (bodyOn s) same o) (named (bodyAt rule s) (t .left - 1) (drop (t .slot + 1) v))))) (namedOf s how t o)
   unfolding eventsOf
-  named-right how t (gave a) g = enter-right how t a (g .1)
-  named-right how t nothing g = held-fails (t .held) (told why.WrongSlot)
-  named-right how t (refused e) g = held-fails (t .held) e
+  named-right how t (gave a) m g = enter-right how t a m (g .1)
+  named-right how t nothing m g = held-fails (t .held) (told why.WrongSlot)
+  named-right how t (refused e) m g = held-fails (t .held) e
 
-  between-right : (how : EndLines) (t : Rest) → Scans rule s (t .scan) → Right (heldThen (t .held) (later how t)) (betweenTurn rule s v how t)
+  between-right : (how : EndLines) (t : Rest) → length s ≤ longest → Scans rule s (t .scan) → Right (heldThen (t .held) (later how t)) (betweenTurn rule s v how t)
   unfolding betweenTurn
-  between-right how t g =
+  between-right how t m g =
       by-cases (Right (heldThen (t .held) (later how t))) (eqb (t .left) 0) (λ e. finish-right how t (t .held) (eqb-true (t .left) 0 e))
       (λ e. ap (λ k. heldThen (t .held) (eventsOf how k)) (named-slot rule s v (t .slot) (t .scan) g (t .left) (omega (arith, eqb-false)))
-      ∙ named-right how t (slotAt rule s v (t .slot) (t .scan)) (slot-lies rule s v (t .slot) (t .scan)))
+      ∙ named-right how t (slotAt rule s v (t .slot) (t .scan)) m (slot-lies rule s v (t .slot) (t .scan)))
 
   end-right : (how : EndLines) (h : LineHeader) (t : Rest) (o : Held) → t .held ≡ o
       → Right (heldThen o (more (done (toldHeader h)) (later how t))) (endMove how t (endHeld h o))
@@ -201,11 +207,11 @@ module _ (rule : ℕ → Sort) (s v : List ℕ) where
       both false = refl
 
   block-right : (p : Place) (t : Rest) (k : Answer ℕ LineBlock Told)
-      → Right (heldThen (t .held) (blocksThen (p .how) (headOf p) (blocksOn (columnsOn p) (take (p .end) s) k) (later (p .how) t))) (blockOf p t (blockPlace p k))
+      → Right (heldThen (t .held) (blocksThen (p .how) (startOn p) (headOf p) (blocksOn (columnsOn p) (take (p .end) s) k) (later (p .how) t))) (blockOf p t (blockPlace p k))
   unfolding blocksThen
   block-right p t (gives k x) =
-      ap (λ cs. heldThen (t .held) (linesThen (p .how) (headOf p) (k .file) (wordsIn (2 * k .count) (drop (k .start) (take (p .end) s))) cs
-      (blocksThen (p .how) (headOf p) (blocks (columnsOn p) (drop x (take (p .end) s))) (later (p .how) t))))
+      ap (λ cs. heldThen (t .held) (linesThen (headSource (p .how) (startOn p) (headOf p) (k .file)) (wordsIn (2 * k .count) (drop (k .start) (take (p .end) s))) cs
+      (blocksThen (p .how) (startOn p) (headOf p) (blocks (columnsOn p) (drop x (take (p .end) s))) (later (p .how) t))))
       (columns-at (columnsOn p) (take (p .end) s) (k .start) (k .count))
   block-right p t none = end-right (p .how) (p .head) t (t .held) refl
   block-right p t (refuses e) = held-fails (t .held) e
@@ -228,21 +234,22 @@ module _ (rule : ℕ → Sort) (s v : List ℕ) where
       let b = take (p .end) s in
       let m : length b ≡ p .end = length-take-le (p .end) s (w .2) in
       by-cases (Right (recordsAt (Inside p t))) (ltb (length s) (p .end)) (λ f. absurd (omega (arith, ltb-true)))
+      (λ f. by-cases (Right (recordsAt (Inside p t))) (ltb (p .end) (p .body)) (λ f. absurd (omega (arith, ltb-true)))
       (λ f. by-cases (Right (recordsAt (Inside p t))) (eqb (p .lines) 0)
-      (λ e. ap (λ n. heldThen (t .held) (linesThen (p .how) (headOf p) (p .file) (wordsIn (2 * n) (drop (p .line) b)) (wordsIn (columnsOf (columnsOn p) n) (drop (p .column) b)) (blocksLeft b p (later (p .how) t)))) (eqb-true (p .lines) 0 e)
-      ∙ ap (λ k. heldThen (t .held) (blocksThen (p .how) (headOf p) k (later (p .how) t))) (blocks-step (columnsOn p) b (p .next) (omega arith))
+      (λ e. ap (λ n. heldThen (t .held) (linesThen (sourceOf p) (wordsIn (2 * n) (drop (p .line) b)) (wordsIn (columnsOf (columnsOn p) n) (drop (p .column) b)) (blocksLeft b p (later (p .how) t)))) (eqb-true (p .lines) 0 e)
+      ∙ ap (λ k. heldThen (t .held) (blocksThen (p .how) (startOn p) (headOf p) k (later (p .how) t))) (blocks-step (columnsOn p) b (p .next) (omega arith))
       ∙ block-right p t (blockAt (columnsOn p) b (p .next)))
       (λ e.
       let one : 1 ≤ p .lines = omega (arith, eqb-false) in
       let n : p .lines ≡ suc (p .lines - 1) = omega arith in
-      ap (λ k. heldThen (t .held) (linesThen (p .how) (headOf p) (p .file) (wordsIn (2 * k) (drop (p .line) b)) (wordsIn (columnsOf (columnsOn p) k) (drop (p .column) b)) (blocksLeft b p (later (p .how) t)))) n
-      ∙ ap (heldThen (t .held)) (lines-at (p .how) (columnsOn p) (headOf p) (p .file) (p .lines - 1) b (p .line) (p .column) (blocksLeft b p (later (p .how) t)))
+      ap (λ k. heldThen (t .held) (linesThen (sourceOf p) (wordsIn (2 * k) (drop (p .line) b)) (wordsIn (columnsOf (columnsOn p) k) (drop (p .column) b)) (blocksLeft b p (later (p .how) t)))) n
+      ∙ ap (heldThen (t .held)) (lines-at (sourceOf p) (columnsOn p) (p .lines - 1) b (p .line) (p .column) (blocksLeft b p (later (p .how) t)))
       ∙ line-right p t (entryIn b p)
-      ∙ ap (λ k. onMove recordsAt (lineOf p t k)) (entry-inside b p (omega arith) (omega arith))))
+      ∙ ap (λ k. onMove recordsAt (lineOf p t k)) (entry-inside b p (omega arith) (omega arith)))))
 
   turn-right : (w : LineWalk) → Walked w → Right (recordsAt w) (turnIn rule s v w)
   turn-right (New how) i = open-right how (countLines rule s)
-  turn-right (Between how t) i = between-right how t (i .1)
+  turn-right (Between how t) i = between-right how t (i .0) (i .1)
   turn-right (Inside p t) i = inside-right p t i
 
   long-right : (w : LineWalk) → Walked w → longest < length s → recordsAt w ≡ fails (told why.TooLong)
@@ -273,7 +280,7 @@ module _ (rule : ℕ → Sort) (s v : List ℕ) where
   enter-kept : (how : EndLines) (t : Rest) (a n : ℕ) → length s ≤ longest → a + n ≤ length s → Scans rule s (a + n) → Kept (enterAt s how t a n)
   unfolding headedPlace
   enter-kept how t a n m h g =
-      by-cases (λ k. Kept (enterMove t (a + n) k)) (ltb n 12) (λ e. tt) (λ e. let l = ltb-false n 12 e in (m, g, h, omega arith, omega arith, omega arith))
+      by-cases (λ k. Kept (enterMove t (a + n) k)) (ltb n 12) (λ e. tt) (λ e. let l = ltb-false n 12 e in (m, g, h, omega arith, omega arith, omega arith, omega arith))
 
   named-kept : (how : EndLines) (t : Rest) (o : Reply Span Told) → length s ≤ longest → Gives (SlotIn rule s v (t .slot) (t .scan)) o
       → Gives (λ a. Scans rule s (a .start + a .len)) o → Kept (namedOf s how t o)
@@ -292,10 +299,10 @@ module _ (rule : ℕ → Sort) (s v : List ℕ) where
   end-kept how h t Nothing g = g
   end-kept how h t (One r) g = by-cases (λ k. Kept (endMove how t k)) (ltb maxOffset (h .offset + h .code)) (λ e. tt) (λ e. g)
 
-  block-kept : (p : Place) (t : Rest) (k : Reply Place Told) → Walked (Between (p .how) t) → p .end ≤ length s → OpensIn p k → Kept (blockOf p t k)
-  block-kept p t (gave q) g l o = (g .0, g .1, omega (arith, o .end), o .next, o .lines, o .columns)
-  block-kept p t nothing g l o = end-kept (p .how) (p .head) t (t .held) g
-  block-kept p t (refused e) g l o = tt
+  block-kept : (p : Place) (t : Rest) (k : Reply Place Told) → Walked (Between (p .how) t) → p .end ≤ length s → p .body ≤ p .end → OpensIn p k → Kept (blockOf p t k)
+  block-kept p t (gave q) g l m o = (g .0, g .1, omega (arith, o .end), o .next, o .lines, o .columns, omega (arith, o .end, o .body))
+  block-kept p t nothing g l m o = end-kept (p .how) (p .head) t (t .held) g
+  block-kept p t (refused e) g l m o = tt
 
   hold-kept : (p : Place) (t : Rest) (r : LineRecord) (o : Held) → Walked (Inside p t) → Kept (holdIn o r (Inside p (withHeld t (One r))))
   hold-kept p t r Nothing w = w
@@ -311,10 +318,11 @@ module _ (rule : ℕ → Sort) (s v : List ℕ) where
   inside-kept p t w =
       let b = take (p .end) s in
       by-cases Kept (ltb (length s) (p .end)) (λ f. tt)
+      (λ f. by-cases Kept (ltb (p .end) (p .body)) (λ f. tt)
       (λ f. by-cases Kept (eqb (p .lines) 0)
-      (λ e. block-kept p t (nextBlock b p) (w .0, w .1) (w .2) (next-block-lies s p (w .2)))
+      (λ e. block-kept p t (nextBlock b p) (w .0, w .1) (w .2) (w .6) (next-block-lies s p (w .2)))
       (λ e. let one : 1 ≤ p .lines = omega (arith, eqb-false) in
-      line-kept p t (lineEntryAt b p) (w .0, w .1, w .2, w .3, omega arith, omega arith)))
+      line-kept p t (lineEntryAt b p) (w .0, w .1, w .2, w .3, omega arith, omega arith, w .6))))
 
   turn-kept : (w : LineWalk) → Walked w → Kept (turnIn rule s v w)
   turn-kept (New how) i = open-kept how (countLines rule s) refl

@@ -40,7 +40,8 @@ countOf (fails r) = refused r
 abbrev pub countLines : (ℕ → Sort) → List ℕ → Reply ℕ Told
 countLines rule s = countOf (linesFrom rule s 0)
 
--- a line body as the lines' meaning takes it: where in the area it starts, and its bytes. The start is handed on; what the bytes mean does not depend on it
+-- a line body as the lines' meaning takes it: where in the area it starts, and its bytes. The start is handed on to its records; nothing else that the bytes
+-- mean depends on it
 pub record Body : Type 0 where
   pub start : ℕ
   pub bytes : List ℕ

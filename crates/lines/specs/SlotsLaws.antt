@@ -1,8 +1,8 @@
 -- Laws of the bodies that slots name: the search for a body, where it lies, that a search need not begin at the area's start, and one slot after
 -- the other.
-use Prim.Native.Nat.{ℕ, suc, _+_, _-_, _<_, _≤_}
+use Prim.Native.Nat.{ℕ, zero, suc, _+_, _-_, _<_, _≤_}
 use mathlib.Core.Path.{_≡_, refl, sym, ap, _∙_, subst⁻¹}
-use mathlib.Core.List.{List}
+use mathlib.Core.List.{List, [], _∷_}
 use mathlib.Core.Bool.{true, false, cond}
 use native.Mathlib.Numerals.{add-one}
 use native.Mathlib.Omega.{arith}
@@ -11,19 +11,20 @@ use lib.Seq.{drop-cons}
 use lib.Dec.{ltb, leb, eqb}
 use borrow.Author.Tests.{ltb-true, leb-true, leb-false, eqb-true, eq-eqb, ne-eqb}
 use Rattle.walk.specs.Cases.{tests, by-cases, and-true}
+use Rattle.word.specs.Word.{u32At}
 use Rattle.walk.specs.Listing.{Listing, more, ends, fails, Reply, gave, nothing, refused, gives}
-use Rattle.walk.specs.ListingLaws.{Every}
+use Rattle.walk.specs.ListingLaws.{Every, Has, every-both, every-has}
 use Rattle.walk.specs.Pick.{firstBy, mapReply}
 use Rattle.walk.specs.PickLaws.{Gives}
 use Rattle.refusal.specs.Told.{Told, told}
 use Rattle.refusal.specs.declared.Refusal.the-variants as why
 use Rattle.kinds.specs.Kind.{LINES, Sort}
 use Rattle.area.specs.Subs.{Sub, subsFrom, stepAt}
-use Rattle.area.specs.SubsLaws.{Inside, subs-inside, Chained, subs-chained}
+use Rattle.area.specs.SubsLaws.{Inside, subs-inside, SubHead, subs-headed, Chained, subs-chained}
 use Rattle.find.specs.Find.{same, Span, spanOf}
 use Rattle.find.specs.FindLaws.{first-hit, first-miss}
-use Rattle.lines.specs.Lines.{bodyOn}
-use Rattle.lines.specs.Slots.{startsAt, bodyIn, bodyFrom, bodyAt, nameThen, named, scanFrom, nameOf, slotAt, Scans}
+use Rattle.lines.specs.Lines.{countLines, Body, bodyOn}
+use Rattle.lines.specs.Slots.{startsAt, bodyIn, bodyFrom, bodyAt, nameThen, named, listIn, listOf, scanFrom, nameOf, slotAt, Scans}
 
 -- ---- the loop of `seek`: the laws of `find` for a first one, at this test
 
@@ -181,3 +182,67 @@ module _ (rule : ℕ → Sort) (s v : List ℕ) (i p : ℕ) where
         (λ j. named (bodyAt rule s) (e j) (drop-cons v i 0 (leb-false (length v) i l) j))
         ∙ name-then (bodyOn s) (bodyFrom rule s 0 k) (named (bodyAt rule s) (n - 1) (drop (suc i) v))
         ∙ (λ j. nameThen (mapReply (bodyOn s) same (nameOf (scan j))) (named (bodyAt rule s) (n - 1) (drop (next j) v))))
+
+-- ---- each body of a list is that of a line subsection of the area, whose header stands before it
+
+-- the line subsection whose body starts at a, of the length that stands before it
+abbrev pub subBy : List ℕ → ℕ → Sub
+subBy s a = record { kind = LINES; start = a; len = u32At s (a - 4) }
+
+abbrev pub bodyBy : List ℕ → ℕ → Body
+bodyBy s a = bodyOn s (spanOf (subBy s a))
+
+-- it is one of the area's, and the bytes before a are its header
+pub record LineSubAt (rule : ℕ → Sort) (s : List ℕ) (a : ℕ) : Type 0 where
+  pub header : SubHead s (subBy s a)
+  pub among : Has (subBy s a) (subsFrom rule s 0)
+
+pub record IsLineBody (rule : ℕ → Sort) (s : List ℕ) (b : Body) : Type 0 where
+  pub at : LineSubAt rule s (b .start)
+  pub is : b ≡ bodyBy s (b .start)
+
+module _ (rule : ℕ → Sort) (s : List ℕ) where
+  abbrev Among : Sub → Type 0
+  Among b = SubHead s b × Has b (subsFrom rule s 0)
+
+  line-body : (v : ℕ) (b : Sub) → Among b → startsAt v b ≡ true → IsLineBody rule s (bodyOn s (spanOf b))
+  line-body v b h e =
+      let k = eqb-true (b .kind) LINES (and-true (eqb (b .start) v) (eqb (b .kind) LINES) e .1) in
+      let n = h .0 .len in
+      let is : subBy s (b .start) ≡ b = λ i. record { kind = sym k i; start = b .start; len = n i } in record {
+        at = record { header = subst⁻¹ (SubHead s) is (h .0); among = subst⁻¹ (λ (x : Sub). Has x (subsFrom rule s 0)) is (h .1) };
+        is = ap (λ (x : Sub). bodyOn s (spanOf x)) (sym is);
+      }
+
+  line-body-in : (v : ℕ) (l : Listing Sub Told) → Every Among l → Gives (IsLineBody rule s) (mapReply (bodyOn s) same (bodyIn v l))
+  unfolding firstBy
+  line-body-in v (more b l) q =
+      by-cases (λ (x : Reply Sub Told). Gives (IsLineBody rule s) (mapReply (bodyOn s) same (mapReply spanOf same x))) (startsAt v b)
+      (λ e. line-body v b (q .0) e) (λ e. line-body-in v l (q .1))
+  line-body-in v ends q = tt
+  line-body-in v (fails t) q = tt
+
+  line-body-at : (v : ℕ) → Gives (IsLineBody rule s) (bodyAt rule s v)
+  line-body-at v =
+      let l = subsFrom rule s 0 in
+      line-body-in v l (every-both (SubHead s) (λ b. Has b l) Among (λ b p q. (p, q)) l (subs-headed rule s 0) (every-has l))
+
+  name-line-body : (x : Reply Body Told) (l : Listing Body Told) → Gives (IsLineBody rule s) x → Every (IsLineBody rule s) l
+      → Every (IsLineBody rule s) (nameThen x l)
+  name-line-body (gave b) l h e = (h, e)
+  name-line-body nothing l h e = tt
+  name-line-body (refused t) l h e = tt
+
+  named-line-bodies : (n : ℕ) (vs : List ℕ) → Every (IsLineBody rule s) (named (bodyAt rule s) n vs)
+  unfolding named
+  named-line-bodies zero vs = tt
+  named-line-bodies (suc n) [] = tt
+  named-line-bodies (suc n) (v ∷ vs) = name-line-body (bodyAt rule s v) (named (bodyAt rule s) n vs) (line-body-at v) (named-line-bodies n vs)
+
+  pub list-line-bodies : (v : List ℕ) → Every (IsLineBody rule s) (listOf rule s v)
+  list-line-bodies v = by (countLines rule s)
+    where
+      by : (x : Reply ℕ Told) → Every (IsLineBody rule s) (listIn rule s v x)
+      by (gave n) = named-line-bodies n v
+      by nothing = tt
+      by (refused t) = tt

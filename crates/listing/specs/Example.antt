@@ -37,6 +37,6 @@ lines =
     ++ (le32 0 ++ (le32 0x8000000a ++ (le32 8 ++ le32 0x8000000c)))))))))))
 
 pub example : textOf crateRule (checksums ++ lines)
-    ≡ ascii "c13 80 bytes\nsub f4 24\nsub f2 40\nfile 0 name 1 md5 000102030405060708090a0b0c0d0e0f\nline 1:1000 len 8 file 0 10-10 - st\nline 1:1008 len 24 file 0 12-12 - st\nend\n"
+    ≡ ascii "c13 80 bytes\nsub f4 24\nsub f2 40\nfile 0 name 1 md5 000102030405060708090a0b0c0d0e0f\nline 1:1000 len 8 file 0 10-10 - st @40\nline 1:1008 len 24 file 0 12-12 - st @40\nend\n"
 unfolding le16 le32 u16At u32At run all lastBy only bite parts crateRule placed subsFrom wordsIn blockBite blocks spotIn keptOf closedAs entryAt entriesFrom headed countOf filesSub partOf insBy sortBy listed keyOf lineKind isMarker endFrom entryOf shorterOf closedAt linesThen blocksThen bodyThen eventsOf settleOne settle ascii glyph numeralIn numeral hexBytes bytesText closing sheetLines sheetBytes
 example = refl

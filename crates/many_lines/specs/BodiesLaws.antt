@@ -140,7 +140,7 @@ module _ (rule : ℕ → Sort) (s v : List ℕ) where
   pub pass-end : (p : Place) (t u : Rest) (o : Held) → Used s p → gave o ≡ endHeld (p .head) (t .held) → u ≡ withHeld t o
       → pass (Between (p .how) u) ≡ turnOf rule s v (Inside p t)
   pass-end p t u o k e eu =
-      end-on p t o u e eu ∙ block-is (take (p .end) s) p t nothing (k .over) ∙ inside-block s p t (k .fit .body) (k .lines)
+      end-on p t o u e eu ∙ block-is (take (p .end) s) p t nothing (k .over) ∙ inside-block s p t (k .fit .end) (k .fit .body) (k .lines)
       ∙ turn-is rule s v (Inside p t) (k .fit .short) (Inside p t) refl
 
   -- into the next one, whose n bytes start at a

@@ -283,7 +283,7 @@ fn bodies_on(area: &[u8], slots: &[u32], bodies: &[u32], from: Stand, out: &mut 
 fn nowhere(how: EndLines) -> Place
     ensures { λ r. ⌜ r .how ≡ how ⌝ }
 {
-    place_at(how, header_of(&[]), 0, 0)
+    place_at(how, header_of(&[]), 0, 0, 0)
 }
 
 // Where a walk stands, if the turn from there passes on.

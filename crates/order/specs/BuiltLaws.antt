@@ -27,7 +27,7 @@ use Rattle.lines.specs.LinesLaws.{counted-short}
 use Rattle.body_list.specs.BodyList.{listed, subStart, startsFrom, slotsHolding}
 use Rattle.body_list.specs.BodyListLaws.{plus-one, counted-starts, listed-counted}
 use Rattle.slot_key.specs.Sort.{sortBy}
-use Rattle.slot_key.specs.SortLaws.{Each, each-map, each-sort, map-sort, length-sort}
+use Rattle.slot_key.specs.SortLaws.{Each, each-map, each-sort, Pairs, pairs-sort, map-sort, length-sort}
 use Rattle.slot_key.specs.Rank.{keyAt}
 use Rattle.slot_key.specs.RankLaws.{After, Ascends, stable}
 use Rattle.order.specs.Order.{orderOf, ordered, slotsAfter, bodyOf, lineBodies, keyOf, inOrder}
@@ -74,6 +74,23 @@ module _ (rule : ℕ → Sort) (s : List ℕ) (short : length s ≤ longest) whe
       (λ e. ascends l x c)
   ascends ends p w = tt
   ascends (fails t) p w = tt
+
+-- so no two line bodies of an area start at the same place
+abbrev pub StartsApart : Body → Body → Type 0
+StartsApart b c = b .start ≡ c .start → ⊥
+
+apart-after : (s : List ℕ) (b : Sub) (ds : List Sub) → After (b .start) (map subStart ds) → Each (StartsApart (bodyOf s b)) (map (bodyOf s) ds)
+apart-after s b [] h = tt
+apart-after s b (d ∷ ds) h = (λ e. omega arith, apart-after s b ds (h .2))
+
+apart-ascending : (s : List ℕ) (ds : List Sub) → Ascends (map subStart ds) → Pairs StartsApart (map (bodyOf s) ds)
+apart-ascending s [] h = tt
+apart-ascending s (d ∷ ds) h = (apart-after s d ds (h .1), apart-ascending s ds (h .2))
+
+pub bodies-apart : (rule : ℕ → Sort) (s : List ℕ) → length s ≤ longest → Pairs StartsApart (inOrder rule s)
+bodies-apart rule s h =
+    pairs-sort keyOf StartsApart (λ b c f e. f (sym e)) (lineBodies rule s)
+    (apart-ascending s (lines (subsFrom rule s 0)) (ascends rule s h (subsFrom rule s 0) 0 (subs-chained rule s 0)))
 
 -- to sort by rank is to sort by the key alone: equal keys stay in the order of the area
 pub order-stable : (rule : ℕ → Sort) (s : List ℕ) → length s ≤ longest → sortBy (keyAt s) (startsFrom rule s 0) ≡ orderOf rule s

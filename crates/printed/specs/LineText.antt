@@ -1,5 +1,5 @@
--- The line of a line record in `c13dump`'s text, as its pieces. Source: document 01, "Sheet lines to try": the code offset in hex, other numbers in
--- decimal; columns as start-end, an unset length as -, the kinds of line by their words.
+-- The line of a line record in `c13dump`'s text, as its pieces. Source: document 01, "Sheet lines to try", as amended by [9] of document 02: the code
+-- offset in hex, other numbers in decimal; columns as start-end, an unset length as -, the kinds of line by their words, the body's position behind an @.
 -- Definitions only; a reader must believe them.
 use Prim.Native.Nat.{ℕ}
 use mathlib.Core.List.{List, [], _∷_, _++_}
@@ -21,7 +21,7 @@ sideText (some n) = decimal n
 
 -- the word of a line's kind, by its number
 abbrev pub kindText : ℕ → List ℕ
-kindText kind = getD (ascii " ex\n" ∷ ascii " st\n" ∷ []) kind []
+kindText kind = getD (ascii " ex" ∷ ascii " st" ∷ []) kind []
 
 -- line 1:1000 len 8
 abbrev pub addressPieces : LineRecord → Pieces
@@ -33,7 +33,11 @@ abbrev pub sourcePieces : LineRecord → Pieces
 sourcePieces r =
     ascii " file " ∷ decimal (r .file) ∷ ascii " " ∷ decimal (r .«start_line») ∷ ascii "-" ∷ decimal (r .«end_line») ∷ []
 
--- line 1:1000 len 8 file 0 10-10 - st
+--  st @40
+abbrev pub originPieces : LineRecord → Pieces
+originPieces r = kindText (toldLineKind (r .kind)) ∷ ascii " @" ∷ decimal (r .body) ∷ ascii "\n" ∷ []
+
+-- line 1:1000 len 8 file 0 10-10 - st @40
 abbrev pub recordLine : LineRecord → Pieces
 recordLine r =
     addressPieces r
@@ -42,5 +46,4 @@ recordLine r =
     ∷ sideText (toldColumn (r .«column_start»))
     ∷ ascii "-"
     ∷ sideText (toldColumn (r .«column_end»))
-    ∷ kindText (toldLineKind (r .kind))
-    ∷ []))
+    ∷ originPieces r))

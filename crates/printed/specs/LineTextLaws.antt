@@ -26,7 +26,7 @@ ShortColumn (column.At n) = Short n
 abbrev pub ShortRecord : LineRecord → Type 0
 ShortRecord r =
     Short (r .section) × Short (r .offset) × ShortLength (r .length) × Short (r .file) × Short (r .«start_line») × Short (r .«end_line»)
-    × ShortColumn (r .«column_start») × ShortColumn (r .«column_end»)
+    × ShortColumn (r .«column_start») × ShortColumn (r .«column_end») × Short (r .body)
 
 length-short : (l : Length) → ShortLength l → length (lengthText (toldLength l)) ≤ 20
 unfolding ascii
@@ -37,7 +37,7 @@ side-short : (c : Column) → ShortColumn c → length (sideText (toldColumn c))
 side-short column.None h = omega arith
 side-short (column.At n) h = decimal-short n h
 
-kind-short : (k : LineKind) → length (kindText (toldLineKind k)) ≤ 4
+kind-short : (k : LineKind) → length (kindText (toldLineKind k)) ≤ 3
 unfolding ascii
 kind-short Statement = omega arith
 kind-short Expression = omega arith
@@ -57,15 +57,16 @@ record-fits r h =
       side-short (r .«column_start») (h .6),
       side-short (r .«column_end») (h .7),
       kind-short (r .kind),
+      decimal-short (r .body) (h .8),
     ))
 
 -- ---- the lines of document 01's example
 
 abbrev lineOf : Length → Column → Column → LineKind → LineRecord
 lineOf l a b k =
-    record { section = 1; offset = 0x1000; length = l; file = 0; «start_line» = 10; «end_line» = 10; «column_start» = a; «column_end» = b; kind = k }
+    record { section = 1; offset = 0x1000; length = l; file = 0; «start_line» = 10; «end_line» = 10; «column_start» = a; «column_end» = b; kind = k; body = 40 }
 
-pub example : (joined (recordLine (lineOf (Is 8) column.None column.None Statement)) ≡ ascii "line 1:1000 len 8 file 0 10-10 - st\n")
-    × (joined (recordLine (lineOf Unset (column.At 3) (column.At 7) Expression)) ≡ ascii "line 1:1000 len - file 0 10-10 3-7 ex\n")
+pub example : (joined (recordLine (lineOf (Is 8) column.None column.None Statement)) ≡ ascii "line 1:1000 len 8 file 0 10-10 - st @40\n")
+    × (joined (recordLine (lineOf Unset (column.At 3) (column.At 7) Expression)) ≡ ascii "line 1:1000 len - file 0 10-10 3-7 ex @40\n")
 unfolding ascii numeral numeralIn glyph
 example = (refl, refl)

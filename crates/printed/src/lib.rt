@@ -15,7 +15,7 @@ ghost use Rattle.checksums.specs.Told.{toldKind};
 ghost use Rattle.line_record.specs.Told.{toldLineKind, toldLength, toldColumn};
 ghost use Rattle.printed.specs.Printed.{headLine, subLine, checksumWord, bytesText, fileLine, endOfText, refusedLine, longestLine};
 ghost use Rattle.printed.specs.PrintedLaws.{Short, shortLine, fileHead, textSize};
-ghost use Rattle.printed.specs.LineText.{lengthText, sideText, kindText, addressPieces, sourcePieces, recordLine};
+ghost use Rattle.printed.specs.LineText.{lengthText, sideText, kindText, addressPieces, sourcePieces, originPieces, recordLine};
 ghost use Rattle.printed.specs.LineTextLaws.{ShortLength, ShortColumn};
 use checksums::ChecksumKind;
 use line_record::Column;
@@ -192,7 +192,7 @@ pub fn put_refused(buf: &mut [u8], place: Place, why: Refusal) -> Place
     put_line(buf, place, &line, made)
 }
 
-// ---- the line of a line record: address and length, file and lines, columns and kind
+// ---- the line of a line record: address and length, file and lines, columns and kind, where the body stands
 
 fn put_length(buf: &mut [u8], place: Place, length: Length) -> Place
     ensures { λ r. ⌜ page (now (buf .exit)) (toldPlace r) ≡ pieceWritten (lengthText (toldLength length)) (page (now (buf .entry)) (toldPlace place)) ⌝ }
@@ -218,8 +218,8 @@ fn put_kind(buf: &mut [u8], place: Place, kind: LineKind) -> Place
     ensures { λ r. ⌜ page (now (buf .exit)) (toldPlace r) ≡ pieceWritten (kindText (toldLineKind kind)) (page (now (buf .entry)) (toldPlace place)) ⌝ }
 {
     match kind {
-        LineKind::Statement => put_bytes(buf, place, b" st\n"),
-        LineKind::Expression => put_bytes(buf, place, b" ex\n"),
+        LineKind::Statement => put_bytes(buf, place, b" st"),
+        LineKind::Expression => put_bytes(buf, place, b" ex"),
     }
 }
 
@@ -246,6 +246,17 @@ fn put_source(buf: &mut [u8], place: Place, r: LineRecord) -> Place
     put_count(buf, b, b"-", r.end_line as u64)
 }
 
+// Kind, and where the body stands.
+fn put_origin(buf: &mut [u8], place: Place, r: LineRecord) -> Place
+    ensures { λ q. ⌜ page (now (buf .exit)) (toldPlace q) ≡ writtenAll (originPieces r) (page (now (buf .entry)) (toldPlace place)) ⌝ }
+    ensures { λ _. ⌜ Short (r .body) ⌝ }
+{
+    let kind = r.kind;
+    let k = put_kind(buf, place, kind);
+    let p = put_count(buf, k, b" @", r.body as u64);
+    put_bytes(buf, p, b"\n")
+}
+
 // The second promise is what every record's type keeps.
 fn record_pieces(line: &mut [u8], place: Place, r: LineRecord) -> Place
     ensures { λ q. ⌜ page (now (line .exit)) (toldPlace q) ≡ writtenAll (recordLine r) (page (now (line .entry)) (toldPlace place)) ⌝ }
@@ -253,14 +264,13 @@ fn record_pieces(line: &mut [u8], place: Place, r: LineRecord) -> Place
 {
     let start = r.column_start;
     let end = r.column_end;
-    let kind = r.kind;
     let a = put_address(line, place, r);
     let b = put_source(line, a, r);
     let c = put_bytes(line, b, b" ");
     let d = put_side(line, c, start);
     let e = put_bytes(line, d, b"-");
     let f = put_side(line, e, end);
-    put_kind(line, f, kind)
+    put_origin(line, f, r)
 }
 
 // The second promise is what every record's type keeps: its line fits the room that a line has.

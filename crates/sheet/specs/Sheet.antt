@@ -19,7 +19,7 @@ use Rattle.lines.specs.Blocks.{blockAt}
 use Rattle.order.specs.Order.{ordered, slotsAfter}
 use Rattle.line_record.specs.declared.EndLines.the-variants.{Crate}
 use Rattle.line_record.specs.declared.LineSource.{LineSource}
-use Rattle.line_record.specs.Record.{columnIf, entryOf}
+use Rattle.line_record.specs.Record.{noPosition, columnIf, entryOf}
 use Rattle.line_record.specs.Told.{ToldLine, toldRecord}
 use Rattle.line_step.specs.declared.Held.the-variants.{Nothing}
 use Rattle.line_step.specs.declared.LineWalk.{LineWalk}
@@ -61,9 +61,9 @@ noLines = line.Between Crate (record { slot = 0; left = 0; scan = 0; held = Noth
 abbrev pub seven : List ℕ
 seven = 0 ∷ 0 ∷ 0 ∷ 0 ∷ 0 ∷ 0 ∷ 0 ∷ []
 
--- of a section, from its start on, without columns, end lines by the crate's reading
+-- of a section, from its start on, without columns, of no body, end lines by the crate's reading
 abbrev pub source : LineSource
-source = record { section = 1; base = 0; file = 0; columns = false; how = Crate }
+source = record { section = 1; base = 0; file = 0; columns = false; how = Crate; body = noPosition }
 
 -- what an entry says, its record by its numbers
 abbrev pub entryTold : ℕ → Reply ToldLine Told
@@ -72,7 +72,7 @@ entryTold flags = mapReply toldRecord same (entryOf source 0 flags (columnIf fal
 -- the record of lines 10 to 10, Expression
 abbrev pub tenToTen : ToldLine
 tenToTen =
-    record { section = 1; offset = 0; length = option.none; file = 0; startLine = 10; endLine = 10; startColumn = option.none; endColumn = option.none; kind = 0 }
+    record { section = 1; offset = 0; length = option.none; file = 0; startLine = 10; endLine = 10; startColumn = option.none; endColumn = option.none; kind = 0; body = noPosition }
 
 -- a line body with a header of zeros, and behind it a block of file 0 with this number of lines and this size
 abbrev pub oneBlock : ℕ → ℕ → List ℕ → List ℕ

@@ -117,6 +117,7 @@ fn flags(word: u32) {
         file: 0,
         columns: false,
         how: EndLines::Crate,
+        body: LineRecord::NO_POSITION,
     };
     match line_record::entry_of(source, 0, word, 0) {
         Entry::Line(r) => line(r),

@@ -1,5 +1,5 @@
--- The walk that `lines_for_symbol` answers gives the records of the symbol's subsection, all of them and no others; and they keep to the limits of a
--- line record.
+-- The walk that `lines_for_symbol` answers gives the records of the symbol's subsection, all of them and no others; they keep to the limits of a line record;
+-- and each has the position of the body that it was read from.
 use Prim.Native.Nat.{ℕ, zero, suc, _+_, _-_, _<_, _≤_}
 use mathlib.Core.Path.{_≡_, refl, sym, ap, _∙_, subst⁻¹}
 use mathlib.Core.List.{List}
@@ -19,12 +19,13 @@ use Rattle.line_record.specs.declared.EndLines.{EndLines}
 use Rattle.lines.specs.Lines.{countLines, Body, bodyOn}
 use Rattle.lines.specs.LinesLaws.{count-long}
 use Rattle.lines.specs.Slots.{bodyAt, nameThen, named, slotAt, listIn, listOf}
-use Rattle.lines.specs.SlotsLaws.{scans-start, named-slot}
+use Rattle.lines.specs.SlotsLaws.{scans-start, named-slot, IsLineBody, list-line-bodies}
 use Rattle.line_step.specs.declared.LineWalk.{LineWalk}
 use Rattle.line_walk.specs.Meaning.{bodyThen, eventsOf, settle}
 use Rattle.line_walk.specs.Next.{nextOf}
 use Rattle.line_walk.specs.WalkLaws.{walk-from}
 use Rattle.line_walk.specs.LimitsLaws.{body-limits, settle-limits}
+use Rattle.line_walk.specs.PositionLaws.{ReadFrom, bodies-read}
 use Rattle.symbol_lines.specs.Symbol.{isAt, isBefore, symbolBody, bodyRecords, symbolRecords, Numbered, numbered, slotOf, atSlot, beforeSlot, walkOf, walkTo, symbolWalk}
 use Rattle.symbol_lines.specs.SymbolLaws.{symbol-refused}
 
@@ -38,6 +39,11 @@ unfolding numbered
 bodies-numbered i (more b l) = ap (more b) (bodies-numbered (i + 1) l)
 bodies-numbered i ends = refl
 bodies-numbered i (fails t) = refl
+
+or-gives : {B : Type 0} (P : B → Type 0) (x y : Reply B Told) → Gives P x → Gives P y → Gives P (orElse x y)
+or-gives P (gave b) y p q = p
+or-gives P nothing y p q = q
+or-gives P (refused t) y p q = tt
 
 module _ (rule : ℕ → Sort) (s v : List ℕ) where
   -- the slot of k names its body
@@ -67,11 +73,6 @@ module _ (rule : ℕ → Sort) (s v : List ℕ) where
   list-names nothing = tt
   list-names (refused t) = tt
 
-  or-gives : (x y : Reply Numbered Told) → Gives Names x → Gives Names y → Gives Names (orElse x y)
-  or-gives (gave k) y p q = p
-  or-gives nothing y p q = q
-  or-gives (refused t) y p q = tt
-
   module _ (section offset : ℕ) (how : EndLines) where
     abbrev found : Reply Numbered Told
     found =
@@ -88,7 +89,7 @@ module _ (rule : ℕ → Sort) (s v : List ℕ) where
     found-names : Gives Names found
     found-names =
         let N = numbered 0 (listOf rule s v) in
-        or-gives (firstBy (atSlot section offset) N) (lastBy (beforeSlot section offset) N)
+        or-gives Names (firstBy (atSlot section offset) N) (lastBy (beforeSlot section offset) N)
         (first-holds Names (atSlot section offset) N (list-names (countLines rule s))) (last-holds Names (beforeSlot section offset) N (list-names (countLines rule s)))
 
     -- in an area that is not too long
@@ -133,3 +134,19 @@ symbol-limits how rule s v section offset = by (symbolBody section offset (listO
     by (gave b) = settle-limits how (bodyThen how b ends) (body-limits how b ends tt)
     by nothing = tt
     by (refused t) = tt
+
+-- ---- the position
+
+pub symbol-read : (how : EndLines) (rule : ℕ → Sort) (s v : List ℕ) (section offset : ℕ)
+    → Every (ReadFrom how rule s) (symbolRecords how rule s v section offset)
+unfolding eventsOf
+symbol-read how rule s v section offset =
+    let l = listOf rule s v in
+    by (symbolBody section offset l) (or-gives (IsLineBody rule s) (firstBy (isAt section offset) l) (lastBy (isBefore section offset) l)
+    (first-holds (IsLineBody rule s) (isAt section offset) l (list-line-bodies rule s v))
+    (last-holds (IsLineBody rule s) (isBefore section offset) l (list-line-bodies rule s v)))
+  where
+    by : (x : Reply Body Told) → Gives (IsLineBody rule s) x → Every (ReadFrom how rule s) (bodyRecords how x)
+    by (gave b) h = bodies-read how rule s (more b ends) (h, tt)
+    by nothing h = tt
+    by (refused t) h = tt

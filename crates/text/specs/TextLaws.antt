@@ -1,10 +1,10 @@
--- Laws of numbers as text: one step, no other text has it, and how long it is.
+-- Laws of numbers as text: one step, no other text has it, how long it is, and that it is read back.
 use Prim.Native.Nat.{ℕ, zero, suc, _+_, _*_, _/_, _%_, _^_, _≤_, _<_}
 use mathlib.Core.Path.{_≡_, refl, sym, ap, _∙_}
 use mathlib.Core.List.{List, [], _∷_, _++_}
 use mathlib.Core.Bool.{Bool, true, false, cond}
 use native.Mathlib.Omega.{arith}
-use native.Mathlib.Nat.{div-lt-self, div-lt-iff-lt-mul, pow-zero, pow-suc, one-mul}
+use native.Mathlib.Nat.{div-lt-self, div-lt-iff-lt-mul, div-add-mod', mod-lt, pow-zero, pow-suc, one-mul}
 use lib.ListN.{length, length-append}
 use lib.Dec.{ltb}
 use borrow.Author.Tests.{lt-ltb, le-ltb, ltb-true, ltb-false}
@@ -20,6 +20,16 @@ glyph-low d h = simp tests
 pub glyph-high : (d : ℕ) → 10 ≤ d → 87 + d ≡ glyph d
 unfolding glyph
 glyph-high d h = simp tests
+
+-- ---- a text that is read from the left, each code by f with what was read before it
+
+abbrev pub readLeft : (ℕ → ℕ → ℕ) → ℕ → List ℕ → ℕ
+readLeft f n [] = n
+readLeft f n (x ∷ xs) = readLeft f (f n x) xs
+
+pub read-append : (f : ℕ → ℕ → ℕ) (n : ℕ) (xs ys : List ℕ) → readLeft f n (xs ++ ys) ≡ readLeft f (readLeft f n xs) ys
+read-append f n [] ys = refl
+read-append f n (x ∷ xs) ys = read-append f (f n x) xs ys
 
 -- ---- a numeral
 
@@ -87,6 +97,25 @@ module _ (b : ℕ) (two : 2 ≤ b) where
               let l = ltb-false n b e in
               let s = smaller n l in
               more n l ∙ ap (λ (x : List ℕ). x ++ (glyph (n % b) ∷ [])) (ih (omega arith)) ∙ numeral-more n l
+
+  -- its digits, read, give the number back, whatever f does with other codes
+  pub numeral-read : (f : ℕ → ℕ → ℕ) → ((n d : ℕ) → d < b → f n (glyph d) ≡ n * b + d) → (n : ℕ) → readLeft f 0 (numeral b n) ≡ n
+  numeral-read f digit n = below (suc n) n (omega arith)
+    where
+      below : (k n : ℕ) → n < k → readLeft f 0 (numeral b n) ≡ n
+      below zero n h = absurd (omega arith)
+      below (suc k) n h = by (ltb n b) refl (below k (n / b))
+        where
+          by : (t : Bool) → ltb n b ≡ t → (n / b < k → readLeft f 0 (numeral b (n / b)) ≡ n / b) → readLeft f 0 (numeral b n) ≡ n
+          by true e ih = let l = ltb-true n b e in ap (readLeft f 0) (sym (numeral-one n l)) ∙ digit 0 n l ∙ omega arith
+          by false e ih =
+              let l = ltb-false n b e in
+              let s = smaller n l in
+              ap (readLeft f 0) (sym (numeral-more n l))
+              ∙ read-append f 0 (numeral b (n / b)) (glyph (n % b) ∷ [])
+              ∙ ap (λ (m : ℕ). f m (glyph (n % b))) (ih (omega arith))
+              ∙ digit (n / b) (n % b) (mod-lt n (omega arith))
+              ∙ div-add-mod' n b
 
 pub hex-length : (s : List ℕ) → length (hexBytes s) ≡ 2 * length s
 unfolding hexBytes

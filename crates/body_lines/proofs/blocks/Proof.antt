@@ -25,13 +25,13 @@ loop-holds c = blocks-put-start _ _ _ _ _ _ _ (c .before .before .pre .0) (omega
 slice-aggregate-next-block : tie.Need-slice-aggregate-next-block Inv-loop μ-loop
 slice-aggregate-next-block c =
     let l = c .before .before .before .before .loop in
-    sym (length-take-le (l .x .place .end) _ (l .inv .fit .body))
+    sym (length-take-le (l .x .place .end) _ (l .inv .fit .end))
 
 loop-less : tie.Need-loop-less Inv-loop μ-loop
 loop-less c =
     let m = c .before .before .before in
     let l = m .before .before .before .before .before .loop in
-    let k = next-block-opens _ (l .x .place) (l .inv .fit .body) _ (ap toldNextBlock (sym (c .before .q .given .1)) ∙ m .next-block .ensures) in
+    let k = next-block-opens _ (l .x .place) (l .inv .fit .end) _ (ap toldNextBlock (sym (c .before .q .given .1)) ∙ m .next-block .ensures) in
     omega (arith, k .less)
 
 loop-again : tie.Need-loop-again Inv-loop μ-loop

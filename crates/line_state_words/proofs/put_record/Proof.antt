@@ -9,7 +9,7 @@ use Rattle.line_state_words.proofs.put_record.Tie as tie
 
 returns : tie.Need-returns
 returns c =
-    let k = c .before .before .before .before .before .before .before .before .before .before .before .before .before .before .before .before in
+    let k = c .before .before .before .before .before .before .before .before .before .before .before .before .before .before .before .before .before in
     let a = k .before .before .before .before .before .args in
     c .before .before .put .ensures .words
     ∙ ap (store (a .out .now) (a .at)) (sym (record-words (a .r) (k .before .before .before .length-words .ensures) (k .before .before .column-words .ensures) (k .before .column-words2 .ensures) (k .kind-word .ensures)))
@@ -22,6 +22,7 @@ put-record-spec =
     (λ c κs. search needs)
     (λ c κs. search needs)
     (λ c κs. search needs)
+    (λ c. search needs)
     (λ c. search needs)
     (λ c. search needs)
     (λ c. search needs)

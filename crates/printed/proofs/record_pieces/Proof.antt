@@ -19,8 +19,8 @@ returns c =
     let p1 = p2 .before .before .before .before in
     let a = p1 .put-address .ensures .1 in
     let b = p2 .put-source .ensures .1 in (
-      and-one _ _ _ _ _ (and-one _ _ _ _ _ (and-one _ _ _ _ _ (and-one _ _ _ _ _ (and-one _ _ _ _ _ (and-all _ _ _ _ _ (p1 .put-address .ensures .0) (p2 .put-source .ensures .0)) (p3 .put-bytes .ensures)) (p4 .put-side .ensures .0)) (p5 .put-bytes2 .ensures)) (p6 .put-side2 .ensures .0)) (p7 .put-kind .ensures),
-      record-fits (p1 .before .before .before .args .r) (a .0, a .1, a .2, b .0, b .1, b .2, p4 .put-side .ensures .1, p6 .put-side2 .ensures .1),
+      and-all _ _ _ _ _ (and-one _ _ _ _ _ (and-one _ _ _ _ _ (and-one _ _ _ _ _ (and-one _ _ _ _ _ (and-all _ _ _ _ _ (p1 .put-address .ensures .0) (p2 .put-source .ensures .0)) (p3 .put-bytes .ensures)) (p4 .put-side .ensures .0)) (p5 .put-bytes2 .ensures)) (p6 .put-side2 .ensures .0)) (p7 .put-origin .ensures .0),
+      record-fits (p1 .before .before .before .args .r) (a .0, a .1, a .2, b .0, b .1, b .2, p4 .put-side .ensures .1, p6 .put-side2 .ensures .1, p7 .put-origin .ensures .1),
     )
 
 pub record-pieces-spec : {M : Type 1} → statement M

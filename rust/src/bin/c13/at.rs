@@ -32,7 +32,8 @@ pub fn place(word: &OsStr) -> Result<PdbInternalSectionOffset, String> {
     }
 }
 
-/// Asks each area in turn. Those that cover the place answer a line each, with the end line and its reading where the call names one.
+/// Asks each area in turn. Those that cover the place answer a line each, with the end line and its reading where the call names one, and last the position of
+/// the subsection that the line was read from.
 pub fn print(desk: &mut Desk, areas: &[OsString], names: &Names, place: PdbInternalSectionOffset, reading: Option<Reading>) -> Result<(), Fault> {
     let asked = format!("{}:{:#x}", place.section, place.offset);
     let mut covered = false;
@@ -62,7 +63,7 @@ pub fn print(desk: &mut Desk, areas: &[OsString], names: &Names, place: PdbInter
     Ok(())
 }
 
-/// File, line and checksum of the code at a place, if a line of the area covers it; or what is refused, and why.
+/// File, line, checksum and subsection of the code at a place, if a line of the area covers it; or what is refused, and why.
 fn source<'a>(
     area: &'a Input,
     names: &Names<'a>,
@@ -78,6 +79,6 @@ fn source<'a>(
     let file = program.get_file_info(line.file_index).map_err(of_area)?;
     let name = names.get(file.name).map_err(|why| (names.input, why))?;
     let end = reading.map_or(String::new(), |reading| format!("-{} {}", line.line_end, reading.name));
-    let rest = format!(" line {}{end} {} {}", line.line_start, file.checksum.kind(), file.checksum);
+    let rest = format!(" line {}{end} {} {} @{}", line.line_start, file.checksum.kind(), file.checksum, line.body);
     Ok(Some([shown(name), rest.into()].concat()))
 }

@@ -120,7 +120,7 @@ fn line_text(line: &LineInfo) -> String {
     let place = format!(r#""section":{},"offset":{},"length":{}"#, line.offset.section, line.offset.offset, or_null(line.length));
     let source = format!(r#""file":{},"line_start":{},"line_end":{}"#, line.file_index.0, line.line_start, line.line_end);
     let columns = format!(r#""column_start":{},"column_end":{}"#, or_null(line.column_start), or_null(line.column_end));
-    format!(r#"{{{place},{source},{columns},"kind":"{kind}"}}"#)
+    format!(r#"{{{place},{source},{columns},"kind":"{kind}","body":{}}}"#, line.body)
 }
 
 fn inlinee_text(inlinee: Inlinee) -> String {

@@ -22,12 +22,14 @@ use std::io::Write;
 use std::process::ExitCode;
 
 const USAGE: &str = r"c13 sheet AREA [--names NAMES] [--end-lines READING]
-    The sheet of an area: its subsections, files and lines, up to 'end' or 'refused N'. With names, the name of the file
-    stands at the end of each line that starts with 'file' or 'line'.
+    The sheet of an area: its subsections, files and lines, up to 'end' or 'refused N'. Behind @ stands the subsection that a
+    line is from: where its body starts in the area. With names, the name of the file stands at the end of each line that
+    starts with 'file' or 'line'.
 c13 at AREA.. NAMES SECTION:OFFSET [--end-lines READING]
     Which file and line the code at a place is from, and the checksum of that file. SECTION is decimal and OFFSET hex, with or
     without 0x: 1:0x88. One like 1:88, which might be meant in decimal, is not taken: write 1:0x88. Of several areas, those
-    that cover the place answer, each with its name in front. With --end-lines the end line stands behind the line, too.
+    that cover the place answer, each with its name in front. With --end-lines the end line stands behind the line, too. At
+    the end stands, behind @, the subsection that the line is from, as in a sheet.
 c13 files AREA NAMES [--check [--kind KIND] [--map FROM=TO]..]
     The files of an area with names and checksums. With --check, lines that md5sum --check, sha1sum --check or sha256sum
     --check takes, by the kind of each; with --kind, those of one kind (md5, sha1, sha256) alone. Each --map says that the

@@ -81,7 +81,7 @@ fn print_line(desk: &mut Desk, line: &LineInfo) -> io::Result<()> {
         LineInfoKind::Expression => "ex",
     };
     write!(desk, "line {} len {} file {} ", line.offset, or(line.length, "-"), line.file_index.0)?;
-    write!(desk, "{}-{} {}-{} {kind}", line.line_start, line.line_end, or(line.column_start, ""), or(line.column_end, ""))
+    write!(desk, "{}-{} {}-{} {kind} @{}", line.line_start, line.line_end, or(line.column_start, ""), or(line.column_end, ""), line.body)
 }
 
 /// The names of files as the sheet shows them, each found once.

@@ -1,9 +1,9 @@
--- `end_lines_run::flags_lines` is safe and ends. The measure is the number of words that are left.
+-- `line_cases_run::flags_lines` is safe and ends. The measure is the number of words that are left.
 -- Assumes nothing.
 use borrow.Author.Needs.{needs}
 use Prim.Native.Nat.{_-_}
-use Rattle.end_lines_run.proofs.flags_lines.Statement.{statement}
-use Rattle.end_lines_run.proofs.flags_lines.Tie as tie
+use Rattle.line_cases_run.proofs.flags_lines.Statement.{statement}
+use Rattle.line_cases_run.proofs.flags_lines.Tie as tie
 
 abbrev Inv-loop : tie.InvT-loop
 Inv-loop list count i₀ i = Unit {0}

@@ -1,10 +1,10 @@
--- `end_lines_run::answers` is safe and ends. The invariant: the place lies in the list. The measure is what is left of the list.
+-- `line_cases_run::answers` is safe and ends. The invariant: the place lies in the list. The measure is what is left of the list.
 -- Assumes nothing.
 use borrow.Author.Needs.{needs}
 use Prim.Native.Nat.{_-_, _≤_}
 use lib.ListN.{length}
-use Rattle.end_lines_run.proofs.answers.Statement.{statement}
-use Rattle.end_lines_run.proofs.answers.Tie as tie
+use Rattle.line_cases_run.proofs.answers.Statement.{statement}
+use Rattle.line_cases_run.proofs.answers.Tie as tie
 
 abbrev Inv-loop : tie.InvT-loop
 Inv-loop list at₀ at = at ≤ length list
@@ -27,12 +27,19 @@ answers-spec =
     (λ c κs. search needs)
     (λ c. search needs)
     (λ c. search needs)
-    (λ c. search needs)
+    (λ c κs. search needs)
     (λ c. search needs)
     (λ c. search needs)
     (λ c. search needs)
     (λ c. search needs)
     (λ c κs. search needs)
+    (λ c κs. search needs)
+    (λ c. search needs)
+    (λ c. search needs)
+    (λ c. search needs)
+    (λ c. search needs)
+    (λ c. search needs)
+    (λ c. search needs)
     (λ c κs. search needs)
     (λ c. search needs)
     (λ c. search needs)
