@@ -1,5 +1,7 @@
 // An answer for a program in another language: a status, and words put into lent ones. What each word is, is said once for every type of
 // answer, in specs/. A walk's state is the first of the lent words.
+#![tactic(auto)]
+
 ghost use Rattle.std.specs.Prelude.{◌≡◌, [], ◌∷◌, get_or};
 ghost use Rattle.word.specs.Word.{store};
 ghost use Rattle.refusal.specs.Told.{told};
@@ -120,7 +122,7 @@ pub fn walk_in(out: &[u64]) -> TableWalk
 }
 
 // The words of a walk over a table.
-#[derive(Drop)]
+#[derive(Clone, Copy)]
 pub struct Four(pub u64, pub u64, pub u64, pub u64);
 
 pub fn walk_words(walk: TableWalk) -> Four

@@ -2,6 +2,8 @@
 //
 // An answer's kind, place and length say where a body stands in the lent area; nothing is copied. Every call tests number 11 first, since each
 // goes through `head_at`.
+#![tactic(auto)]
+
 ghost use Rattle.std.specs.Prelude.{◌≡◌, ◌+◌, ◌<◌, ◌^◌};
 ghost use Rattle.kinds.specs.Kind.{crate_rule};
 ghost use Rattle.area.specs.Subs.{step_at, crate_step};
@@ -17,7 +19,7 @@ use refusal::{LONGEST, Refusal};
 use word::u32_at;
 
 // What stands at a place of the area: a known subsection, one that is skipped with its body, or nothing.
-#[derive(Drop)]
+#[derive(Clone, Copy)]
 enum Head {
     Sub {
         kind: u32,
@@ -86,7 +88,7 @@ fn head_at(area: &[u8], at: usize) -> Head
 }
 
 // The subsection at a place, or behind what is skipped there: its kind, its body's start and length, and the place behind it.
-#[derive(Drop)]
+#[derive(Clone, Copy)]
 pub enum SubStep {
     Sub {
         kind: u32,
@@ -131,13 +133,13 @@ pub fn sub_at(area: &[u8], at: usize) -> SubStep
 }
 
 // A walk over the subsections: its place. It stays where it ended or was refused, so that it answers the same again.
-#[derive(Drop)]
+#[derive(Clone, Copy)]
 pub struct SubWalk {
     pub at: usize,
 }
 
 // A step of a walk over the subsections: the answer, and the walk behind it.
-#[derive(Drop)]
+#[derive(Clone, Copy)]
 pub struct Stepped {
     pub step: SubStep,
     pub walk: SubWalk,

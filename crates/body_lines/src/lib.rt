@@ -2,6 +2,8 @@
 // header and file.
 //
 // It does what turn after turn does, and nothing where a turn would be refused: the walk stands before that turn then.
+#![tactic(auto)]
+
 ghost use Rattle.std.specs.Prelude.{◌≡◌, ◌+◌, ◌*◌, ◌/◌, ◌<◌, ◌≤◌, true, false, length};
 ghost use Rattle.word.specs.Word.{u32_at, store};
 ghost use Rattle.kinds.specs.Kind.{crate_rule};
@@ -17,7 +19,7 @@ use refusal::LONGEST;
 use word::u32_at;
 
 // The two words of a line. They are read as a part of their own, of a length that is known.
-#[derive(Drop)]
+#[derive(Clone, Copy)]
 struct Line {
     offset: u32,
     flags: u32,
@@ -52,7 +54,7 @@ fn record_in(p: Place, offset: u32, flags: u32, word: u32) -> LineRecord
 }
 
 // How far the lines of a block have come: the records that are put, the lines that are done, and of the held record its offset and words.
-#[derive(Drop)]
+#[derive(Clone, Copy)]
 pub struct LineHeld {
     pub n: usize,
     pub done: usize,
@@ -138,7 +140,7 @@ fn put_held(out: &mut [u32], n: usize, held: Held, section: u16, end: u32) -> us
 }
 
 // How far the walk has come in a body. `stuck`: there is no room for another record, or it stands before a turn that is left to others.
-#[derive(Drop)]
+#[derive(Clone, Copy)]
 pub struct InBody {
     pub n: usize,
     pub place: Place,

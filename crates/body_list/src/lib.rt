@@ -3,6 +3,8 @@
 // A walk that steps back in the area would search from its start each time. Where the lent list is just the area's, each further body is found in it
 // by halving. It is held against the area once, at the first step back. A caller that starts with `Nothing`, and hands on what it is answered, finds the
 // same bodies with any list.
+#![tactic(auto)]
+
 ghost use Rattle.std.specs.Prelude.{◌≡◌, ◌≤◌, ◌++◌, length, drop};
 ghost use Rattle.kinds.specs.Kind.{crate_rule};
 ghost use Rattle.lines.specs.Told.{told_counted};
@@ -67,7 +69,7 @@ pub fn body_list(area: &[u8], bodies: &mut [u32]) -> Counted
 
 // What a call has found out so far: nothing; that the lent list is the area's, and that the subsections come to the place where a search may begin; or
 // that the list is another.
-#[derive(Drop)]
+#[derive(Clone, Copy)]
 pub enum Known {
     Nothing,
     Bodies,
@@ -75,7 +77,7 @@ pub enum Known {
 }
 
 // The body that a slot names, and what is known behind it.
-#[derive(Drop)]
+#[derive(Clone, Copy)]
 pub struct Located {
     pub named: Named,
     pub known: Known,
@@ -145,7 +147,7 @@ fn is_areas(area: &[u8], bodies: &[u32]) -> bool
 }
 
 // Where a search begins, and what is known behind the body that it finds.
-#[derive(Drop)]
+#[derive(Clone, Copy)]
 struct Begin {
     place: usize,
     known: Known,

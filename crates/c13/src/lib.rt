@@ -5,6 +5,8 @@
 // what is carried, or 0. 3: the words do not fit, and nothing is changed. 4: an answer, and nothing comes behind it. A walk's state is the first words of
 // `out`, all 0 for a new walk, and a refusal is put behind it. A call that changes other lent memory than `out` asks there for room for a refusal, behind
 // the state if it steps a walk, before it does anything. A slice is two C parameters: its pointer and its length.
+#![tactic(auto)]
+
 ghost use Rattle.std.specs.Prelude.{◌≡◌, length};
 ghost use Rattle.reading.specs.Reading.{open_checksums, open_inlinees, open_imports, open_exports, opaque};
 ghost use Rattle.writer_decides.specs.Calls.{call_lines, call_block, call_checksum, call_inlinee, call_module, call_pair};

@@ -3,6 +3,8 @@
 //
 // A Rattle program has no exit status. What would be one is written to descriptor 3, as a digit and a newline, once all else is done, and
 // scripts/run-program ends with it (docs/DECISIONS.md, 40).
+#![tactic(auto)]
+
 ghost use Rattle.io.specs.Counts.{IsPrefixLen};
 
 use check::same;
@@ -23,7 +25,7 @@ const REFUSED: u8 = b'1';
 const FAULT: u8 = b'2';
 
 // What was read of an input, and whether it was read to its end or as far as there is room.
-#[derive(Drop)]
+#[derive(Clone, Copy)]
 struct Input {
     len: usize,
     read: bool,

@@ -3,6 +3,8 @@
 //
 // The lent body is the whole body of one subsection, so that places and padding count from its start. A checksum is its kind, and the place and
 // the length of its bytes.
+#![tactic(auto)]
+
 ghost use Rattle.std.specs.Prelude.{◌≡◌, ◌+◌, ◌≤◌, length};
 ghost use Rattle.checksums.specs.Entry.{checksum_kind, kept_of, closed_as, entry_at};
 ghost use Rattle.checksums.specs.Equal.{equal_bytes, equal_sums};
@@ -11,7 +13,7 @@ ghost use Rattle.checksums.specs.Told.{told_kind, told_parsed, told_entry};
 use refusal::Refusal;
 use word::{u8_at, u32_at};
 
-#[derive(Drop)]
+#[derive(Clone, Copy)]
 pub enum ChecksumKind {
     None,
     Md5,
@@ -19,7 +21,7 @@ pub enum ChecksumKind {
     Sha256,
 }
 
-#[derive(Drop)]
+#[derive(Clone, Copy)]
 pub enum ParsedKind {
     Kind(ChecksumKind),
     Refused(Refusal),
@@ -58,7 +60,7 @@ fn kept(kind: ChecksumKind, size: usize) -> usize
 }
 
 // An entry: its checksum's bytes stand at `start`, `len` of them, and the next entry at `next`.
-#[derive(Drop)]
+#[derive(Clone, Copy)]
 pub enum EntryStep {
     Entry {
         name: u32,

@@ -2,6 +2,8 @@
 //
 // No contract can say what is written. What is answered, how many lines the text has and whether it ends in a refusal, is what the definition of the
 // text says; whether all of it was written is what the operating system said.
+#![tactic(auto)]
+
 ghost use Rattle.std.specs.Prelude.{◌≡◌, ◌+◌, ◌≤◌, length, ltb};
 ghost use Rattle.kinds.specs.Kind.{crate_rule};
 ghost use Rattle.printed.specs.Printed.{longest_line};
@@ -19,7 +21,7 @@ use order::order_list;
 const END: usize = 4;
 
 // What became of a text: how many lines it has, whether the last is a refusal, and whether all were written.
-#[derive(Drop)]
+#[derive(Clone, Copy)]
 pub struct Printed {
     pub lines: usize,
     pub refused: bool,
@@ -35,7 +37,7 @@ fn write_on(written: bool, lines: &[u8]) -> bool {
 }
 
 // How much of a block holds lines that are yet to be written, and whether all before them were written.
-#[derive(Drop)]
+#[derive(Clone, Copy)]
 struct Held {
     used: usize,
     written: bool,

@@ -1,6 +1,8 @@
 // The calls on files, for programs in other languages: the walk one file at a time, many files in one call, the file at an index of the area, and, for
 // whoever asks often, the checksum body and the file at an index of that. A call answers a status, and the words of the answer as the crate
 // `answer_words` puts them. The crate `c13` gives each its C name.
+#![tactic(auto)]
+
 ghost use Rattle.std.specs.Prelude.{◌≡◌, length};
 ghost use Rattle.kinds.specs.Kind.{crate_rule};
 ghost use Rattle.answer_words.specs.Given.{Gives, replyGiven};

@@ -2,6 +2,8 @@
 // The crate `c13` gives each its C name.
 //
 // The area's list of bodies is lent beside the order list, so that each body is found soon. No answer depends on it.
+#![tactic(auto)]
+
 ghost use Rattle.std.specs.Prelude.{◌≡◌, length, [], ◌∷◌, ◌++◌, ◌≤◌};
 ghost use Rattle.kinds.specs.Kind.{crate_rule};
 ghost use Rattle.answer_words.specs.Given.{Gives, given, stepGiven};

@@ -1,5 +1,7 @@
 // Where the parts of areas and streams stand, for programs in other languages: the subsections of an area, the names of a string table, and the parts of a
 // module's stream. A call answers a status, and the words of the answer as the crate `answer_words` puts them. The crate `c13` gives each its C name.
+#![tactic(auto)]
+
 ghost use Rattle.kinds.specs.Kind.{crate_rule};
 ghost use Rattle.answer_words.specs.Given.{Gives};
 ghost use Rattle.export_parts.specs.Calls.{sub_given, names_given, name_given, symbols_given, lines_part_given, tables_part_given};

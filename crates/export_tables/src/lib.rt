@@ -1,5 +1,7 @@
 // The calls on inlinees, imports and exports, for programs in other languages: a status, and the words of the answer as the crate `answer_words` puts them. The
 // crate `c13` gives each its C name.
+#![tactic(auto)]
+
 ghost use Rattle.std.specs.Prelude.{◌≡◌, [], ◌∷◌, length};
 ghost use Rattle.imports.specs.Told.{told_resolved};
 ghost use Rattle.exports.specs.Told.{told_export, told_lookup};
@@ -136,7 +138,7 @@ pub fn resolve_listed(area: &[u8], places: &[u32], index: u32, out: &mut [u64]) 
 }
 
 // Three words of a record.
-#[derive(Drop)]
+#[derive(Clone, Copy)]
 struct Three(u64, u64, u64);
 
 // An export in words: 0 for a type or 1 for an id, the local and the global index.

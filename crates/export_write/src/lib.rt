@@ -1,6 +1,8 @@
 // The writer calls, for programs in other languages, and the test whether an area is plain. Each writer call takes the buffer and the place behind what is
 // written; its word is the place behind what is written then. It asks for room for a refusal before it does anything. The crate `c13` gives each
 // its C name.
+#![tactic(auto)]
+
 ghost use Rattle.std.specs.Prelude.{◌≡◌};
 ghost use Rattle.reading.specs.Reading.{open_checksums, open_inlinees, open_imports, open_exports, opaque};
 ghost use Rattle.writer_decides.specs.Calls.{call_lines, call_block, call_checksum, call_inlinee, call_module, call_pair};

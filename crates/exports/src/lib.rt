@@ -2,6 +2,8 @@
 // `CrossModuleExport`, `RawCrossScopeExport`).
 //
 // Listing takes any order; a lookup first tests that the local indices ascend.
+#![tactic(auto)]
+
 ghost use Rattle.std.specs.Prelude.{◌≡◌, ◌+◌, ◌/◌, ◌≤◌, length};
 ghost use Rattle.word.specs.Word.{u32_at};
 ghost use Rattle.walk.specs.Pick.{on_gave};
@@ -21,7 +23,7 @@ use table::{Spot, TableWalk, spot_first};
 use word::u32_at;
 
 // A pair as an export: bit 31 of its local index, which stays in it, tells an id from a type.
-#[derive(Drop)]
+#[derive(Clone, Copy)]
 pub enum CrossModuleExport {
     Type { local: u32, global: u32 },
     Id { local: u32, global: u32 },
@@ -38,7 +40,7 @@ fn export_of(local: u32, global: u32) -> CrossModuleExport
 }
 
 // What stands at a place of an export body.
-#[derive(Drop)]
+#[derive(Clone, Copy)]
 pub enum PairStep {
     Pair {
         local: u32,
@@ -73,7 +75,7 @@ pub fn pair_at(body: &[u8], at: usize) -> PairStep
 }
 
 // One export of a walk over the exports, and the walk behind it.
-#[derive(Drop)]
+#[derive(Clone, Copy)]
 pub enum ExportStep {
     Export {
         export: CrossModuleExport,
@@ -119,7 +121,7 @@ pub fn next_export(area: &[u8], walk: TableWalk) -> ExportStep
 }
 
 // How many exports there are.
-#[derive(Drop)]
+#[derive(Clone, Copy)]
 pub enum Count {
     Exports(usize),
     Refused(Refusal),
@@ -147,7 +149,7 @@ pub fn export_count(area: &[u8]) -> Count
 }
 
 // The global index of a local one.
-#[derive(Drop)]
+#[derive(Clone, Copy)]
 pub enum Lookup {
     Global(u32),
     None,
@@ -212,7 +214,7 @@ pub fn resolve_export(area: &[u8], local: u32) -> Lookup
 }
 
 // Where the body for lookups stands; the empty body where there are no exports.
-#[derive(Drop)]
+#[derive(Clone, Copy)]
 pub enum ExportBody {
     At { start: usize, len: usize },
     Refused(Refusal),
@@ -252,7 +254,7 @@ fn word_at(s: &[u8], at: usize) -> u32
 }
 
 // The export at an index.
-#[derive(Drop)]
+#[derive(Clone, Copy)]
 pub enum ExportAt {
     Export(CrossModuleExport),
     None,

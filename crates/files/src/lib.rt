@@ -3,6 +3,8 @@
 //
 // A file's index is the byte offset of its entry in the body. Its checksum is a kind, and the place and the length of its bytes in the area, which
 // `checksum_bytes` hands back.
+#![tactic(auto)]
+
 ghost use Rattle.std.specs.Prelude.{◌≡◌, ◌+◌, ◌≤◌, length};
 ghost use Rattle.walk.specs.Listing.{gave};
 ghost use Rattle.kinds.specs.Kind.{crate_rule};
@@ -40,7 +42,7 @@ fn spot_files(area: &[u8], walk: TableWalk) -> Spot
 }
 
 // A file of an area, and the walk behind it.
-#[derive(Drop)]
+#[derive(Clone, Copy)]
 pub enum FileStep {
     File {
         index: u32,
@@ -86,7 +88,7 @@ pub fn next_file(area: &[u8], walk: TableWalk) -> FileStep
 }
 
 // What is known of a file: its name, and its checksum.
-#[derive(Drop)]
+#[derive(Clone, Copy)]
 pub enum FileAnswer {
     File {
         name: u32,

@@ -1,4 +1,6 @@
 // The first and the last subsection of a kind, by their place in the lent area.
+#![tactic(auto)]
+
 ghost use Rattle.std.specs.Prelude.{◌≡◌};
 ghost use Rattle.kinds.specs.Kind.{crate_rule};
 ghost use Rattle.find.specs.Find.{first_sub, last_sub};
@@ -7,7 +9,7 @@ ghost use Rattle.find.specs.Told.{told_found};
 use area::{SubStep, sub_at};
 use refusal::Refusal;
 
-#[derive(Drop)]
+#[derive(Clone, Copy)]
 pub enum Found {
     At { start: usize, len: usize },
     None,

@@ -2,6 +2,8 @@
 // `CrossModuleImports`, `CrossScopeImportModule`).
 //
 // A module's words are answered by their place in the lent area and their number, from which `table::word_in` reads each; nothing is copied.
+#![tactic(auto)]
+
 ghost use Rattle.std.specs.Prelude.{◌≡◌, ◌++◌, ◌+◌, ◌*◌, ◌≤◌, length, drop};
 ghost use Rattle.refusal.specs.Told.{longest};
 ghost use Rattle.word.specs.Word.{u32_at};
@@ -21,7 +23,7 @@ use table::{Spot, TableWalk, spot_first};
 use word::u32_at;
 
 // What stands at a place of an import body; places count from the body's start.
-#[derive(Drop)]
+#[derive(Clone, Copy)]
 pub enum ModuleStep {
     Module {
         name: u32,
@@ -60,7 +62,7 @@ pub fn module_at(body: &[u8], at: usize) -> ModuleStep
 }
 
 // One module of a walk over the imports: its name, the place of its words in the area, their number, and the walk behind it.
-#[derive(Drop)]
+#[derive(Clone, Copy)]
 pub enum ImportStep {
     Module {
         name: u32,
@@ -101,7 +103,7 @@ pub fn next_import(area: &[u8], walk: TableWalk) -> ImportStep
 }
 
 // A reference resolved: the name of its module, and its word there (crate: `CrossModuleRef`).
-#[derive(Drop)]
+#[derive(Clone, Copy)]
 pub enum Resolved {
     Ref { name: u32, word: u32 },
     Refused(Refusal),
@@ -180,7 +182,7 @@ pub fn resolve_import(area: &[u8], index: u32) -> Resolved
 }
 
 // How many slots a list of the modules takes: one for each.
-#[derive(Drop)]
+#[derive(Clone, Copy)]
 pub enum ImportList {
     Modules(usize),
     Refused(Refusal),

@@ -2,6 +2,8 @@
 // `DebugInlineeLinesIterator`, `InlineeSourceLine`).
 //
 // An entry with extra files says where their words stand and how many there are; `table::word_in` hands out one of them.
+#![tactic(auto)]
+
 ghost use Rattle.std.specs.Prelude.{◌≡◌, ◌+◌, ◌*◌, ◌≤◌, length};
 ghost use Rattle.walk.specs.Listing.{gives};
 ghost use Rattle.kinds.specs.Kind.{crate_rule};
@@ -15,7 +17,7 @@ use table::{Spot, TableWalk, spot_first};
 use word::u32_at;
 
 // An entry of a body: its extra files are `count` words from the place `extra` of the body on, and the next entry stands at `next`.
-#[derive(Drop)]
+#[derive(Clone, Copy)]
 pub enum SourceLineStep {
     SourceLine {
         inlinee: u32,
@@ -92,7 +94,7 @@ pub fn source_line_at(body: &[u8], at: usize) -> SourceLineStep
 }
 
 // An inlinee of an area: the places count from the area's start, and the walk goes on at `next`.
-#[derive(Drop)]
+#[derive(Clone, Copy)]
 pub enum InlineeStep {
     Inlinee {
         inlinee: u32,

@@ -1,5 +1,7 @@
 // The kinds of subsection (crate: `DebugSubsectionKind`, whose names these are, in capitals), each number once. Whoever reads, decides over or writes a
 // kind uses these names; an answer carries the number itself.
+#![tactic(auto)]
+
 ghost use Rattle.std.specs.Prelude.{◌≡◌};
 ghost use Rattle.kinds.specs.Kind.{known_kinds};
 

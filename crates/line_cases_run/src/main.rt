@@ -13,6 +13,8 @@
 //
 // The text: a line for each flags word, in their order. Then for each call a line that names it and its case, the records, and `end` or the refusal; or
 // the sheet.
+#![tactic(auto)]
+
 use libc::{STDIN_FILENO, STDOUT_FILENO};
 use line_record::{
     Column, EndLines, Length, LineKind, LineRecord, end_line, is_marker, kind, start_line,
@@ -43,13 +45,13 @@ const CASE_HEAD: usize = 6;
 
 const CALL: usize = 11;
 
-#[derive(Drop)]
+#[derive(Clone, Copy)]
 struct Case {
     letter: u8,
     number: u16,
 }
 
-#[derive(Drop)]
+#[derive(Clone, Copy)]
 struct Call {
     what: u8,
     how: EndLines,

@@ -1,6 +1,8 @@
 // A line record, what an entry's words say of it, and how an end sets its length (crate: `LineInfo`, `LineNumberHeader::parse`, `set_end`).
 //
 // Everything is decided by the words alone: no call here reads an area.
+#![tactic(auto)]
+
 ghost use Rattle.std.specs.Prelude.{◌≡◌, ◌<◌, ◌≤◌, ◌^◌};
 ghost use Rattle.line_record.specs.Flags.{start_line, line_kind, is_marker};
 ghost use Rattle.line_record.specs.EndLine.{end_field, end_from, end_line};
@@ -10,26 +12,26 @@ ghost use Rattle.line_record.specs.Told.{told_line_entry};
 use refusal::Refusal;
 
 // A length, or none yet.
-#[derive(Drop)]
+#[derive(Clone, Copy)]
 pub enum Length {
     Unset,
     Is(u32),
 }
 
 // A column, or none.
-#[derive(Drop)]
+#[derive(Clone, Copy)]
 pub enum Column {
     None,
     At(u32),
 }
 
-#[derive(Drop)]
+#[derive(Clone, Copy)]
 pub enum LineKind {
     Expression,
     Statement,
 }
 
-#[derive(Drop)]
+#[derive(Clone, Copy)]
 pub struct LineRecord {
     pub section: u16,
     pub offset: u32,
@@ -81,7 +83,7 @@ pub fn start_line(flags: u32) -> u32
 
 // How an end line is read: as the crate does; with the field, which is the seven bits above the start line, as its low bits; or as the start line plus the
 // field.
-#[derive(Drop)]
+#[derive(Clone, Copy)]
 pub enum EndLines {
     Crate,
     LowBits,
@@ -144,7 +146,7 @@ pub fn is_marker(flags: u32) -> bool
 
 // What the lines of a block have in common: the section and the start of their subsection, where in the area its body stands, their file, whether they have
 // columns, and how their end lines are read.
-#[derive(Drop)]
+#[derive(Clone, Copy)]
 pub struct LineSource {
     pub section: u16,
     pub base: u32,
@@ -199,7 +201,7 @@ pub fn record_of(source: LineSource, offset: u32, flags: u32, word: u32) -> Line
 }
 
 // What a line entry says: a record whose length is unset, or a marker, which gives none.
-#[derive(Drop)]
+#[derive(Clone, Copy)]
 pub enum Entry {
     Line(LineRecord),
     Marker,

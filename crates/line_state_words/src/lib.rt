@@ -1,4 +1,6 @@
 // A line record and a state of the line walk in words, for programs in other languages, and back.
+#![tactic(auto)]
+
 ghost use Rattle.std.specs.Prelude.{◌≡◌, [], ◌∷◌, ◌++◌, ◌≤◌, length, get_or};
 ghost use Rattle.word.specs.Word.{put, store};
 ghost use Rattle.answer_words.specs.Given.{given, Gives};
@@ -46,7 +48,7 @@ fn how_word(how: EndLines) -> u64
 }
 
 // The reading that a number names. Any other number is no choice, and never taken for one.
-#[derive(Drop)]
+#[derive(Clone, Copy)]
 pub enum NamedHow {
     Is(EndLines),
     NoSuchChoice,
@@ -196,7 +198,7 @@ fn walk_by(how: EndLines, out: &[u64]) -> LineWalk
 }
 
 // The state of a line walk that the first `STATE_WORDS` words say, if its word for it names a reading of end lines.
-#[derive(Drop)]
+#[derive(Clone, Copy)]
 pub enum WalkIn {
     Walk(LineWalk),
     NoSuchChoice,
@@ -213,7 +215,7 @@ pub fn line_walk_in(out: &[u64]) -> WalkIn
 
 // ---- put
 
-#[derive(Drop)]
+#[derive(Clone, Copy)]
 struct Pair(u32, u32);
 
 fn length_words(l: Length) -> Pair

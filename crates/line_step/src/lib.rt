@@ -3,6 +3,8 @@
 //
 // A state goes in and comes back by value, and may be forged: each turn holds its places against the area again. The moves that a turn is made of are
 // public too, and answer for every state, so that whoever makes many turns at once makes them by the same moves.
+#![tactic(auto)]
+
 ghost use Rattle.std.specs.Prelude.{◌≡◌, ◌+◌, ◌-◌, ◌*◌, ◌^◌, ◌<◌, ◌≤◌};
 ghost use Rattle.kinds.specs.Kind.{crate_rule};
 ghost use Rattle.line_record.specs.Told.{told_line_entry};
@@ -21,7 +23,7 @@ use std::num::wrapping_add_usize;
 use word::u32_at;
 
 // The record that is held back until its end is known.
-#[derive(Drop)]
+#[derive(Clone, Copy)]
 pub enum Held {
     Nothing,
     One(LineRecord),
@@ -29,7 +31,7 @@ pub enum Held {
 
 // What comes behind the present subsection: the next slot, how many line subsections are left, how far the area has been searched for the
 // bodies that slots name; and the record held back.
-#[derive(Drop)]
+#[derive(Clone, Copy)]
 pub struct Rest {
     pub slot: usize,
     pub left: usize,
@@ -39,7 +41,7 @@ pub struct Rest {
 
 // A place in a subsection: its header and the start of its body; the file of the present block, and how end lines are read; the end of the body and the next
 // block; of the present block the lines left, the next line and column. The fields stand in the order in which a walk was the fastest (docs/SPEED.md, 62).
-#[derive(Drop)]
+#[derive(Clone, Copy)]
 pub struct Place {
     pub head: LineHeader,
     pub body: usize,
@@ -54,7 +56,7 @@ pub struct Place {
 
 // A state of the walk: new, between two subsections, or inside one. Each says once how end lines are read, inside a subsection by its place, and each turn
 // hands it on: no state names two readings, and no turn changes it.
-#[derive(Drop)]
+#[derive(Clone, Copy)]
 pub enum LineWalk {
     New(EndLines),
     Between(EndLines, Rest),
@@ -62,7 +64,7 @@ pub enum LineWalk {
 }
 
 // A turn: a record is ready, none yet, none any more.
-#[derive(Drop)]
+#[derive(Clone, Copy)]
 pub enum Turn {
     Line(LineRecord, LineWalk),
     Pass(LineWalk),
@@ -216,7 +218,7 @@ fn column_place(columns: bool, start: usize, count: usize) -> usize
 }
 
 // The place in the next block of a subsection, or that its blocks are done.
-#[derive(Drop)]
+#[derive(Clone, Copy)]
 pub enum NextBlock {
     In(Place),
     Done,
@@ -249,7 +251,7 @@ pub fn next_block(body: &[u8], p: Place) -> NextBlock
 }
 
 // The record that is held behind a subsection whose blocks are done.
-#[derive(Drop)]
+#[derive(Clone, Copy)]
 pub enum EndBody {
     On(Held),
     Refused(Refusal),
@@ -328,7 +330,7 @@ pub fn place_at(how: EndLines, head: LineHeader, body: usize, first: usize, end:
 }
 
 // The place before the first block of a subsection.
-#[derive(Drop)]
+#[derive(Clone, Copy)]
 pub enum Entered {
     In(Place),
     Refused(Refusal),

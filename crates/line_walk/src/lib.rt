@@ -2,6 +2,8 @@
 //
 // `LineWalk::New` starts it, and names the reading of end lines. Where there is no record, and where it is refused, the caller keeps its walk, so that the
 // answer repeats.
+#![tactic(auto)]
+
 ghost use Rattle.std.specs.Prelude.{◌≡◌};
 ghost use Rattle.kinds.specs.Kind.{crate_rule};
 ghost use Rattle.line_walk.specs.Next.{next_of};
@@ -11,7 +13,7 @@ use line_record::LineRecord;
 use line_step::{LineWalk, Turn, take_turn};
 use refusal::Refusal;
 
-#[derive(Drop)]
+#[derive(Clone, Copy)]
 pub enum LineStep {
     Line(LineRecord, LineWalk),
     None,

@@ -3,6 +3,8 @@
 //
 // `header_of` and `block_at` read a line body that is lent alone. `count_lines`, `seek` and `slot_body` read an area, and test number 11 first,
 // since each goes through `sub_at`.
+#![tactic(auto)]
+
 ghost use Rattle.std.specs.Prelude.{◌≡◌};
 ghost use Rattle.kinds.specs.Kind.{crate_rule};
 ghost use Rattle.body.specs.Lines.{line_head, columned, line_bytes};
@@ -19,7 +21,7 @@ use refusal::Refusal;
 use word::{u16_at, u32_at};
 
 // The header of a line body. Bit 0 of its flags says whether its lines have columns.
-#[derive(Drop)]
+#[derive(Clone, Copy)]
 pub struct LineHeader {
     pub offset: u32,
     pub section: u16,
@@ -55,7 +57,7 @@ pub fn has_columns(flags: u16) -> bool
 }
 
 // The block at a place of a line body: its file, how many lines it has and where they begin, and the place behind it.
-#[derive(Drop)]
+#[derive(Clone, Copy)]
 pub enum BlockStep {
     Block {
         file: u32,
@@ -112,7 +114,7 @@ pub fn block_at(body: &[u8], at: usize, columns: bool) -> BlockStep
 }
 
 // How many line subsections an area has.
-#[derive(Drop)]
+#[derive(Clone, Copy)]
 pub enum Counted {
     Lines(usize),
     Refused(Refusal),
@@ -191,7 +193,7 @@ fn scan_from(scan: usize, body: usize) -> usize
 }
 
 // The line body that a slot names.
-#[derive(Drop)]
+#[derive(Clone, Copy)]
 pub enum Named {
     Body { start: usize, len: usize },
     Refused(Refusal),

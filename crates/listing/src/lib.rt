@@ -2,6 +2,8 @@
 //
 // Its stages are those of the text: the head line, the subsections, the files, the line records, and the end or a refusal. The slots are the order
 // list of the area. A line has at most `LINE` bytes, so a caller that lends as many can write each line whole.
+#![tactic(auto)]
+
 ghost use Rattle.std.specs.Prelude.{◌≡◌, ◌≤◌, length};
 ghost use Rattle.kinds.specs.Kind.{crate_rule};
 ghost use Rattle.text.specs.Told.{told_place};
@@ -26,7 +28,7 @@ pub const LINE: usize = 1024;
 pub const MOST: usize = 65536;
 
 // Where the text stands: before its head, at a subsection, at a file, at a line record, or behind its last line.
-#[derive(Drop)]
+#[derive(Clone, Copy)]
 pub enum TextWalk {
     Head,
     Subs(usize),
@@ -36,7 +38,7 @@ pub enum TextWalk {
 }
 
 // A step of the text: a line of `len` bytes, which stands at the start of the buffer, and where the text stands behind it; or no line.
-#[derive(Drop)]
+#[derive(Clone, Copy)]
 pub enum TextStep {
     Line { len: usize, next: TextWalk },
     None,

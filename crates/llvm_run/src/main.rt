@@ -2,6 +2,8 @@
 // word. An area that is cut is not printed, nor what is behind it.
 //
 // The input is made of real areas and the file stdout of LLVM's reading of them, both by `compare/llvm --fix`: no line of stdout is this program's own.
+#![tactic(auto)]
+
 use io::{buffer, read_full};
 use libc::STDIN_FILENO;
 use word::u32_at;

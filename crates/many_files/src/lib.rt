@@ -3,6 +3,8 @@
 //
 // The files before an end or a refusal are given first. A refusal is told by the next call, from the walk answered; an end shows in that walk, and is told
 // again by the next call.
+#![tactic(auto)]
+
 ghost use Rattle.std.specs.Prelude.{◌≡◌, ◌≤◌, length};
 ghost use Rattle.kinds.specs.Kind.{crate_rule};
 ghost use Rattle.files.specs.Told.{told_file};
@@ -20,7 +22,7 @@ use table::TableWalk;
 // The words of a file.
 pub const FILE_WORDS: usize = 5;
 
-#[derive(Drop)]
+#[derive(Clone, Copy)]
 pub enum FilesStep {
     Files { count: usize, next: TableWalk },
     None,

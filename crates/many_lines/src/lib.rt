@@ -5,6 +5,8 @@
 //
 // A turn tells where there is no record, and why. Between two turns the walk goes on body after body, as far as nothing else is to be told
 // (`bodies_from`). The area's list of line bodies may be lent beside the slots, so that each body is found soon; no answer depends on it.
+#![tactic(auto)]
+
 ghost use Rattle.std.specs.Prelude.{◌≡◌, ◌+◌, ◌*◌, ◌/◌, ◌<◌, ◌≤◌, false, length};
 ghost use Rattle.word.specs.Word.{store};
 ghost use Rattle.refusal.specs.Told.{longest};
@@ -30,7 +32,7 @@ use lines::{Counted, Named, count_lines, header_of};
 use refusal::{LONGEST, Refusal};
 use word::u32_at;
 
-#[derive(Drop)]
+#[derive(Clone, Copy)]
 pub enum LinesStep {
     Lines { count: usize, next: LineWalk },
     None,
@@ -38,7 +40,7 @@ pub enum LinesStep {
 }
 
 // What the first look of a search finds: the length of a line body, or nothing yet.
-#[derive(Drop)]
+#[derive(Clone, Copy)]
 enum Looked {
     At(usize),
     No,
@@ -101,7 +103,7 @@ fn named_body(
 }
 
 // Inside the next body, and what is known there; or the walk stays, and the turn is left to others.
-#[derive(Drop)]
+#[derive(Clone, Copy)]
 enum Onward {
     In(Place, Rest, Known),
     Stays,
@@ -136,7 +138,7 @@ fn next_body(
 }
 
 // How far the walk has come: the records that are put, and where it stands. `over`: that is right behind the last of them, and no other comes.
-#[derive(Drop)]
+#[derive(Clone, Copy)]
 struct Reached {
     n: usize,
     walk: LineWalk,
@@ -213,7 +215,7 @@ fn body_on(area: &[u8], place: Place, held: Held, n: usize, out: &mut [u32]) -> 
 }
 
 // Where a call stands: how many records are put; inside a body at `place`, or between two; what comes behind.
-#[derive(Drop)]
+#[derive(Clone, Copy)]
 struct Stand {
     n: usize,
     inside: bool,
@@ -271,7 +273,7 @@ fn nowhere(how: EndLines) -> Place
 }
 
 // Where a walk stands, if the turn from there passes on.
-#[derive(Drop)]
+#[derive(Clone, Copy)]
 enum Standing {
     At(Stand),
     No,
@@ -341,14 +343,14 @@ fn bodies_from(
 }
 
 // Why no record comes behind those that are put.
-#[derive(Drop)]
+#[derive(Clone, Copy)]
 enum End {
     None,
     Refused(Refusal),
 }
 
 // Where turns stopped: at an end, or where there is no more room. `exact`: that is right behind the last record.
-#[derive(Drop)]
+#[derive(Clone, Copy)]
 struct Stopped {
     n: usize,
     walk: LineWalk,

@@ -3,6 +3,8 @@
 // The C13 area is the part of the stream behind the symbols; places in the answers of calls on it count from the area's start. A module with C11
 // lines has no area: its tables are empty and its lines are refused. So a call on a module is the area's own call on the part that `tables_part` or
 // `lines_part` names. Every call tests number 11 first, of the stream.
+#![tactic(auto)]
+
 ghost use Rattle.std.specs.Prelude.{◌≡◌};
 ghost use Rattle.walk.specs.Pick.{or_else};
 ghost use Rattle.find.specs.Find.{held_span, HandsSpan};
@@ -18,7 +20,7 @@ use word::u32_at;
 const CV_SIGNATURE_C13: u32 = 4;
 
 // The sizes of a module's parts in its stream, in bytes.
-#[derive(Drop)]
+#[derive(Clone, Copy)]
 pub struct ModuleSizes {
     pub symbols: u32,
     pub c11: u32,
@@ -26,7 +28,7 @@ pub struct ModuleSizes {
 }
 
 // Whether a module's symbols can be read.
-#[derive(Drop)]
+#[derive(Clone, Copy)]
 pub enum SymbolsAnswer {
     Yes,
     Refused(Refusal),
@@ -89,7 +91,7 @@ pub fn area_of(stream: &[u8], sizes: ModuleSizes) -> &[u8]
 }
 
 // The part of the stream that a call on a table or on lines reads.
-#[derive(Drop)]
+#[derive(Clone, Copy)]
 pub enum Part {
     At { start: usize, len: usize },
     Refused(Refusal),

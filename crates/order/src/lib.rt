@@ -1,5 +1,7 @@
 // The order list: the positions of an area's line bodies in ascending (section, offset), in lent slots (crate: `LineProgram::parse`, whose
 // `Vec` is the slots here).
+#![tactic(auto)]
+
 ghost use Rattle.std.specs.Prelude.{◌≡◌, length};
 ghost use Rattle.kinds.specs.Kind.{crate_rule};
 ghost use Rattle.order.specs.Order.{ordered, slots_after};
@@ -11,7 +13,7 @@ use refusal::Refusal;
 use sort::sort_first;
 
 // How many slots the list takes: one for each line subsection.
-#[derive(Drop)]
+#[derive(Clone, Copy)]
 pub enum Ordered {
     Lines(usize),
     Refused(Refusal),

@@ -2,6 +2,8 @@
 //
 // One pass over the area decides, and tells what a writer has to know of the last subsection. A body is looked at where it stands; nothing is
 // copied.
+#![tactic(auto)]
+
 ghost use Rattle.std.specs.Prelude.{◌≡◌, ◌+◌, ◌<◌, length, drop};
 ghost use Rattle.std.proofs.Math.Option.{none};
 ghost use Rattle.body.specs.Inlinees.{inlinee_bite};
@@ -22,14 +24,14 @@ use refusal::LONGEST;
 use word::{u8_at, u16_at, u32_at};
 
 // What a plain body says to who appends to it: the column flag, the signature, the least local index that may follow, or 0.
-#[derive(Drop)]
+#[derive(Clone, Copy)]
 enum Mark {
     Bad,
     Fine(u64),
 }
 
 // The last subsection of a plain area: its header's place, its kind and its mark, all 0 where there is none.
-#[derive(Drop)]
+#[derive(Clone, Copy)]
 pub enum PlainAnswer {
     Yes { header: usize, kind: u32, mark: u64 },
     No,
@@ -133,7 +135,7 @@ fn module_at(body: &[u8], i: usize) -> usize
 }
 
 // What records a body is made of: blocks, with or without columns; checksums; inlinees, with or without extra files; modules.
-#[derive(Drop)]
+#[derive(Clone, Copy)]
 enum Records {
     Blocks(bool),
     Checksums,

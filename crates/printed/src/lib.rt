@@ -3,6 +3,8 @@
 //
 // So a line is made piece by piece at the start of a line of its own, and then put as one piece. A file's checksum may be of any size and is put from
 // where it stands, when the room for it and for what is around it was tested.
+#![tactic(auto)]
+
 ghost use Rattle.std.specs.Prelude.{◌≡◌, ◌∷◌, [], ℕ, ◌+◌, ◌≤◌, ◌<◌, length, take};
 ghost use Rattle.text.specs.Text.{ascii, decimal, at as place_at, page, room_at, piece_written, joined};
 ghost use Rattle.text.specs.PageLaws.{written_all};

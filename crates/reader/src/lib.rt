@@ -3,6 +3,8 @@
 // Rattle's borrow checker covers no function over a struct that holds a reference, so each of these few is proved by hand: it takes the struct
 // apart and leaves the work to a function on the walk and the slice. `second_sub` stands above them with plain parameters; who calls it, or the
 // functions of `area`, needs no proof by hand.
+#![tactic(auto)]
+
 ghost use Rattle.std.specs.Prelude.{◌≡◌, ◌-◌, length};
 ghost use Rattle.area.specs.Told.{told_step, told_stepped};
 ghost use Rattle.area.specs.Subs.{crate_step};
@@ -11,14 +13,14 @@ ghost use Rattle.reader.specs.Second.{second};
 use area::{SubStep, SubWalk};
 
 // The walk over the subsections, and the area that it goes over.
-#[derive(Drop)]
+#[derive(Clone, Copy)]
 pub struct Reader<'a> {
     pub walk: SubWalk,
     pub area: &'a [u8],
 }
 
 // What a step leaves: the step that the walk took, and the area beside it.
-#[derive(Drop)]
+#[derive(Clone, Copy)]
 pub struct Stepped<'a> {
     pub taken: area::Stepped,
     pub area: &'a [u8],

@@ -2,6 +2,8 @@
 // area; nothing is copied. Crate `reading_walk` walks over a whole area.
 //
 // One function for each kind of body hands on what the body's own crate reads there; where the body lies, and what a place is, is said once.
+#![tactic(auto)]
+
 ghost use Rattle.std.specs.Prelude.{◌≡◌, ◌+◌, ◌≤◌, length};
 ghost use Rattle.refusal.specs.Told.{longest};
 ghost use Rattle.table.specs.Table.{spot_in};
@@ -21,7 +23,7 @@ use table::{Spot, spot_in};
 use word::{u8_at, u16_at};
 
 // A body that has records.
-#[derive(Drop)]
+#[derive(Clone, Copy)]
 pub enum TypedBody {
     Lines,
     Checksums,
@@ -31,7 +33,7 @@ pub enum TypedBody {
 }
 
 // Where a walk stands: before the subsection at a place of the area, or at a place in the body of `len` bytes that starts at `start`.
-#[derive(Drop)]
+#[derive(Clone, Copy)]
 pub enum ItemWalk {
     Between {
         at: usize,
@@ -53,14 +55,14 @@ impl ItemWalk {
 }
 
 // Where the column words of a block start, if it has any.
-#[derive(Drop)]
+#[derive(Clone, Copy)]
 pub enum Columns {
     At(usize),
     None,
 }
 
 // The item that comes next, and the walk behind it. At `None` and at `Refused` the walk stays as it is, so that it answers the same again.
-#[derive(Drop)]
+#[derive(Clone, Copy)]
 pub enum ItemStep {
     OpenLines {
         header: LineHeader,

@@ -1,6 +1,8 @@
 // The full reading of an area, one item at a time: every subsection in order, each typed body raw, markers kept.
 //
 // A body is read before the next header is: its records, as crate `reading_record` has them, and behind the last one what opens the next subsection.
+#![tactic(auto)]
+
 ghost use Rattle.std.specs.Prelude.{◌≡◌};
 ghost use Rattle.kinds.specs.Kind.{crate_rule};
 ghost use Rattle.reading_record.specs.Told.{told_item};

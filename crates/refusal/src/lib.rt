@@ -1,13 +1,15 @@
 // Why a call refuses: document 01's table of refusal numbers, a case each, with what it carries.
 //
 // `told` of specs/Told.antt gives each case its number and its values; every promise about a refusal goes through it.
+#![tactic(auto)]
+
 ghost use Rattle.std.specs.Prelude.{◌≡◌};
 ghost use Rattle.refusal.specs.Told.{told, number_of, carried_of};
 
 // The longest area or stream that a call reads, in bytes: number 11.
 pub const LONGEST: usize = 16_777_216;
 
-#[derive(Drop)]
+#[derive(Clone, Copy)]
 pub enum Refusal {
     // 1: a field, a counted body, padding or a name ends past its data.
     Cut,
@@ -50,7 +52,7 @@ pub enum Refusal {
 }
 
 // A refusal in numbers: document 01's, and what it carries or 0.
-#[derive(Drop)]
+#[derive(Clone, Copy)]
 pub struct Pair(pub u64, pub u64);
 
 pub fn numbers(why: Refusal) -> Pair

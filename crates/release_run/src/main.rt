@@ -4,6 +4,8 @@
 // The calls stand once, in `call_at`, and are gone through twice. The first time each call is made, and printed with its answer. The second time the
 // next item of the reading is taken for each call that was accepted, printed, and compared with the call. What is printed is compared with the file
 // stdout.
+#![tactic(auto)]
+
 use files::checksum_bytes;
 use kinds::{COFF_SYMBOL_RVA, LINES, STRING_TABLE, SYMBOLS};
 use libc::STDOUT_FILENO;
@@ -20,7 +22,7 @@ const CALLS: usize = 38;
 
 // A call, or the item that it leaves, with its numbers in the order of the call's parameters; or no item, or a refusal in its stead. A list is a place
 // and a count: in the words or bytes that `main` lends for a call, in the area for an item.
-#[derive(Drop)]
+#[derive(Clone, Copy)]
 enum Call {
     OpenLines(u32, u16, u16, u32),
     Block(u32, usize, usize, usize, usize),
@@ -38,15 +40,15 @@ enum Call {
 }
 
 // A call's numbers: which call it is, how many numbers it has, and these.
-#[derive(Drop)]
+#[derive(Clone, Copy)]
 struct Numbers(usize, u32, u32, u32, u32, u32);
 
 // A call's lists: its words, its columns and its bytes.
-#[derive(Drop)]
+#[derive(Clone, Copy)]
 struct Lists(usize, usize, usize, usize, usize, usize);
 
 // An item, and the walk behind it.
-#[derive(Drop)]
+#[derive(Clone, Copy)]
 struct Item(Call, ItemWalk);
 
 // ---- the calls

@@ -4,6 +4,8 @@
 // The list: the number of cases, u32. Each case: the number of calls u8, the length of a stream u16, a module's sizes in it u32 (symbols, C11, C13),
 // the stream, the calls. An area is the module of the sizes 0, 0 and its length, as it is to the crate; a string table has no sizes. A call is
 // its number u8, as below, and from INFO on a word u32 and a section u16, which only SYM reads.
+#![tactic(auto)]
+
 use answer_words::{put_refusal, state_word};
 use area::{SubStep, sub_at};
 use checksums::{ChecksumKind, number as kind_number};
@@ -82,7 +84,7 @@ const CASE: u8 = 28;
 
 const READ: u8 = 29;
 
-#[derive(Drop)]
+#[derive(Clone, Copy)]
 struct Call {
     number: u8,
     word: u32,
@@ -244,7 +246,7 @@ fn refused_line(call: Call, why: Refusal) {
 // ---- walks, a line for each step. A proved loop has to end, so it counts its turns down, from a number that no run uses up.
 
 // What a step over a table leaves to do.
-#[derive(Drop)]
+#[derive(Clone, Copy)]
 enum Next {
     On(TableWalk),
     Over,

@@ -1,5 +1,7 @@
 // The sheet of document 01, run: each of its lines with the answer of the library, written as text. A refusal is `refused`, its number and what it
 // carries; each of the numbers 1 to 19 comes at least once. What is written is compared with the file stdout.
+#![tactic(auto)]
+
 use area::{Stepped, SubStep, SubWalk};
 use checksums::{ChecksumKind, EntryStep};
 use exports::{Count, ExportStep, Lookup};

@@ -1,6 +1,8 @@
 // The string table of a PDB: the header of its stream, and the name at an offset (crate: `StringTable::parse`, `StringTable::get`).
 //
 // A name is told by its place in the lent stream, or handed back as that part of it; nothing is copied.
+#![tactic(auto)]
+
 ghost use Rattle.std.specs.Prelude.{◌≡◌, ◌+◌, length, drop};
 ghost use Rattle.find.specs.Find.{held_span, HandsSpan};
 ghost use Rattle.strings.specs.Strings.{names_of, until_zero, name_at};
@@ -12,7 +14,7 @@ use word::u32_at;
 const SIGNATURE: u32 = 0xEFFE_EFFE;
 
 // Where the names stand in the stream.
-#[derive(Drop)]
+#[derive(Clone, Copy)]
 pub enum TableAnswer {
     Names { start: usize, len: usize },
     Refused(Refusal),
@@ -59,7 +61,7 @@ fn zero_from(names: &[u8], at: usize) -> usize
 }
 
 // Where a name stands in the stream, its zero not counted.
-#[derive(Drop)]
+#[derive(Clone, Copy)]
 pub enum NameAnswer {
     At { start: usize, len: usize },
     Refused(Refusal),

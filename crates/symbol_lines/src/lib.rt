@@ -3,6 +3,8 @@
 //
 // The crate searches its sorted list by halves. Here the list is lent and may be wrong, so that each slot on the way is looked at; the area is
 // passed over once if the bodies ascend in it as in the list, and a few times at most where the area's list of bodies is lent beside it.
+#![tactic(auto)]
+
 ghost use Rattle.std.specs.Prelude.{◌≡◌};
 ghost use Rattle.kinds.specs.Kind.{crate_rule};
 ghost use Rattle.lines.specs.Slots.{body_at, named};
@@ -17,14 +19,14 @@ use lines::{Counted, LineHeader, Named, count_lines, header_of};
 use refusal::Refusal;
 
 // The walk over the symbol's subsection; where there is none it is at its end.
-#[derive(Drop)]
+#[derive(Clone, Copy)]
 pub enum SymbolLines {
     Lines(LineWalk),
     Refused(Refusal),
 }
 
 // The last slot so far whose subsection begins before the symbol.
-#[derive(Drop)]
+#[derive(Clone, Copy)]
 enum Best {
     None,
     Slot(usize),
@@ -62,7 +64,7 @@ fn walk_of(best: Best, how: EndLines) -> LineWalk
 }
 
 // The slot whose subsection the lines of a symbol stand in, if there is one.
-#[derive(Drop)]
+#[derive(Clone, Copy)]
 enum SymbolSlot {
     Best(Best),
     Refused(Refusal),

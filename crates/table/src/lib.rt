@@ -2,6 +2,8 @@
 //
 // A new walk looks for the body first; behind its first record it knows the body's place, so that the area is searched once. What records with their
 // places are, and all records of a listing in a list, is said in specs/ for every table.
+#![tactic(auto)]
+
 ghost use Rattle.std.specs.Prelude.{◌≡◌};
 ghost use Rattle.kinds.specs.Kind.{crate_rule};
 ghost use Rattle.find.specs.Find.{first_sub};
@@ -14,14 +16,14 @@ use refusal::{LONGEST, Refusal};
 use word::u32_at;
 
 // A state of a walk over a table: new, or at a place of the body of `len` bytes that starts at `start`.
-#[derive(Drop)]
+#[derive(Clone, Copy)]
 pub enum TableWalk {
     New,
     In { start: usize, len: usize, at: usize },
 }
 
 // Where the next record is looked for, inside the area; or no table.
-#[derive(Drop)]
+#[derive(Clone, Copy)]
 pub enum Spot {
     At { start: usize, len: usize, at: usize },
     None,
@@ -67,7 +69,7 @@ pub fn spot_new(found: Found) -> Spot
 
 // A word of a record that answers its words by place and number, as the modules of imports (crate: `CrossScopeImportModule::get`) and the inlinees
 // with their extra files do.
-#[derive(Drop)]
+#[derive(Clone, Copy)]
 pub enum WordAnswer {
     Word(u32),
     None,

@@ -1,6 +1,8 @@
 // Text put into a lent buffer: bytes as they are, numbers in decimal and hexadecimal, bytes in hexadecimal.
 //
 // A put either fits and is written whole, or writes nothing and is refused with 10; behind a refusal nothing more is written, and it is answered again.
+#![tactic(auto)]
+
 ghost use Rattle.std.specs.Prelude.{◌≡◌, ◌+◌, ◌*◌, ◌≤◌, ◌<◌, length};
 ghost use Rattle.word.specs.Word.{put};
 ghost use Rattle.text.specs.Text.{glyph as glyphOf, numeral, decimal, hex, hex_bytes, page, piece_written, room_at};
@@ -9,7 +11,7 @@ ghost use Rattle.text.specs.Told.{told_place};
 use refusal::Refusal;
 
 // Where the next piece goes: a place of the buffer; or nowhere, since a piece before it did not fit.
-#[derive(Drop)]
+#[derive(Clone, Copy)]
 pub enum Place {
     At(usize),
     Refused(Refusal),

@@ -2,6 +2,8 @@
 //
 // A call takes the buffer and the place behind what is written, which is 0 at first and then what the call before answered. A step of crate `writer_decides`
 // decides, on the buffer as it is; the call then writes into the part behind the place, or refuses and changes nothing.
+#![tactic(auto)]
+
 ghost use Rattle.std.specs.Prelude.{◌≡◌, ◌++◌, ◌+◌, ◌-◌, ◌*◌, ◌≤◌, ◌<◌, length};
 ghost use Rattle.word.specs.Word.{le32, put, store, header};
 ghost use Rattle.reading.specs.Reading.{open_checksums, open_inlinees, open_imports, open_exports, opaque};
@@ -22,7 +24,7 @@ use writer_decides::{
 };
 
 // The place behind what is written now, or why nothing was.
-#[derive(Drop)]
+#[derive(Clone, Copy)]
 pub enum Wrote {
     To(usize),
     Refused(Refusal),

@@ -2,6 +2,8 @@
 //
 // A call takes the buffer and the place behind what is written. It trusts no caller: the bytes before the place are read each time. All calls have
 // two shapes: a new subsection, or more bytes for the last one.
+#![tactic(auto)]
+
 ghost use Rattle.std.specs.Prelude.{◌≡◌, true, ◌+◌, ◌*◌, length, leb};
 ghost use Rattle.kinds.specs.Kind.{LINES, FILE_CHECKSUMS, INLINEE_LINES, CROSS_SCOPE_IMPORTS, CROSS_SCOPE_EXPORTS};
 ghost use Rattle.body.specs.Lines.{block_head_size};
@@ -17,7 +19,7 @@ use plain::{PlainAnswer, is_opaque, is_plain, size_of};
 use refusal::{LONGEST, Refusal};
 
 // What a call will do: write up to next, the last subsection's header and mark being these; or refuse.
-#[derive(Drop)]
+#[derive(Clone, Copy)]
 pub enum Step {
     Go {
         header: usize,
