@@ -37,7 +37,7 @@ ascending_spec =
     decreases-loop
     (λ c. rises_none _ (omega arith))
     (λ c κs. search rules)
-    (λ c. (rises_first _ (omega arith) _ c.u32_at_lem.ensures, omega arith))
+    (λ c. (rises_first _ (omega arith) _ c.u32_at-last.ensures, omega arith))
     (λ c. search rules)
     (λ c κs. search rules)
     returns-2

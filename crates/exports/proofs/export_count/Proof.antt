@@ -7,13 +7,17 @@ use mathlib.Core.Path.{sym, ap, ◌∙◌}
 use Rattle.find.specs.Told.{told_found}
 use Rattle.find.specs.FindLaws.{first_in_lem}
 use Rattle.table.specs.CollectLaws.{of_found, of_none, of_refused}
+use mathlib.Core.List.{List}
+use lib.ListN.{length}
+use Rattle.walk.specs.Listing.{gave}
+use Rattle.body.specs.Exports.{Pair, pairs}
 use Rattle.exports.proofs.export_count.Statement.{statement}
 use Rattle.exports.proofs.export_count.Tie as tie
 
 returns : tie.Need-returns-in-At
 returns c =
     c.count_in.ensures
-    ∙ of_found _ _ _ _ _ _ (ap told_found (sym c.in-At.is) ∙ c.first_of.ensures) (add-sub_cancel_left _ _)
+    ∙ of_found pairs (λ (bs : List Pair). gave (length bs)) c.args.area.now _ _ _ (ap told_found (sym c.in-At.is) ∙ c.first_of.ensures) (add-sub_cancel_left _ _)
 
 pub export_count_spec : {M : Type 1} → statement M
 export_count_spec =
@@ -29,5 +33,5 @@ export_count_spec =
     (λ c. search rules)
     (λ c. search rules)
     returns
-    (λ c. of_none _ _ _ _ (ap told_found (sym c.in-None.is) ∙ c.first_of.ensures))
-    (λ c. of_refused _ _ _ _ _ (ap told_found (sym c.in-Refused.is) ∙ c.first_of.ensures)))
+    (λ c. of_none pairs (λ (bs : List Pair). gave (length bs)) c.args.area.now _ (ap told_found (sym c.in-None.is) ∙ c.first_of.ensures))
+    (λ c. of_refused pairs (λ (bs : List Pair). gave (length bs)) c.args.area.now _ _ (ap told_found (sym c.in-Refused.is) ∙ c.first_of.ensures)))

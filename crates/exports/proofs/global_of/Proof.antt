@@ -19,11 +19,11 @@ decreases-loop body local at₀ at = length body - at
 
 returns : tie.Need-returns-then-u32_at-local invariant-loop decreases-loop
 returns c =
-    global_hit _ _ _ (omega arith) _ c.u32_at_lem.ensures c.if-u32_at-local.true _ c.u32_at-then-u32_at-local.ensures ∙ c.loop-at.invariant.0
+    global_hit _ _ _ (omega arith) _ c.u32_at.ensures c.if-u32_at-local.true _ c.u32_at-then-u32_at-local.ensures ∙ c.loop-at.invariant.0
 
 loop-again : tie.Need-loop-at-preserved invariant-loop decreases-loop
 loop-again c =
-    (global_miss _ _ _ (omega arith) _ c.u32_at_lem.ensures c.if-u32_at-local.false ∙ c.loop-at.invariant.0, omega arith)
+    (global_miss _ _ _ (omega arith) _ c.u32_at.ensures c.if-u32_at-local.false ∙ c.loop-at.invariant.0, omega arith)
 
 returns-2 : tie.Need-returns invariant-loop decreases-loop
 returns-2 c =

@@ -17,7 +17,7 @@ returns : tie.Need-returns-in-At
 returns c =
     let a = c.args in
     let e = ap told_found (sym c.in-At.is) ∙ c.first_of.ensures in
-    list_found _ a.places-1.now _ _ _ e (add-sub_cancel_left _ _) _ _ c.list_in.ensures
+    list_found _ a.places.now _ _ _ e (add-sub_cancel_left _ _) _ _ c.list_in.ensures
 
 returns-2 : tie.Need-returns-in-None
 returns-2 c =

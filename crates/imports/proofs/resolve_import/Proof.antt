@@ -7,6 +7,8 @@ use mathlib.Core.Path.{sym, ap, ◌∙◌}
 use Rattle.find.specs.Told.{told_found}
 use Rattle.find.specs.FindLaws.{first_in_lem}
 use Rattle.table.specs.CollectLaws.{of_found, of_none, of_refused}
+use Rattle.body.specs.Imports.{modules}
+use Rattle.imports.specs.Imports.{ref_of}
 use Rattle.imports.specs.ImportsLaws.{ref_empty}
 use Rattle.imports.proofs.resolve_import.Statement.{statement}
 use Rattle.imports.proofs.resolve_import.Tie as tie
@@ -14,12 +16,12 @@ use Rattle.imports.proofs.resolve_import.Tie as tie
 returns : tie.Need-returns-in-At
 returns c =
     c.resolve_in.ensures
-    ∙ of_found _ _ _ _ _ _ (ap told_found (sym c.in-At.is) ∙ c.first_of.ensures) (add-sub_cancel_left _ _)
+    ∙ of_found modules (ref_of c.args.index) c.args.area.now _ _ _ (ap told_found (sym c.in-At.is) ∙ c.first_of.ensures) (add-sub_cancel_left _ _)
 
 returns-2 : tie.Need-returns-in-None
 returns-2 c =
     c.checked.ensures ∙ ref_empty _
-    ∙ of_none _ _ _ _ (ap told_found (sym c.in-None.is) ∙ c.first_of.ensures)
+    ∙ of_none modules (ref_of c.args.index) c.args.area.now _ (ap told_found (sym c.in-None.is) ∙ c.first_of.ensures)
 
 pub resolve_import_spec : {M : Type 1} → statement M
 resolve_import_spec =
@@ -37,4 +39,4 @@ resolve_import_spec =
     (λ c. search rules)
     returns
     returns-2
-    (λ c. of_refused _ _ _ _ _ (ap told_found (sym c.in-Refused.is) ∙ c.first_of.ensures)))
+    (λ c. of_refused modules (ref_of c.args.index) c.args.area.now _ _ (ap told_found (sym c.in-Refused.is) ∙ c.first_of.ensures)))

@@ -4,7 +4,6 @@
 use borrow.Author.Rules.{rules}
 use Prim.Native.Nat.{◌-◌, ◌≤◌}
 use mathlib.Core.Path.{◌≡◌, refl, sym, ap, ◌∙◌}
-use mathlib.Core.Logic.{⊎_elim}
 use native.Mathlib.Omega.{arith}
 use lib.ListN.{length}
 use Rattle.walk.specs.Pick.{on_gave}
@@ -15,6 +14,7 @@ use Rattle.imports.specs.Told.{told_module, told_resolved}
 use Rattle.imports.specs.ImportsLaws.{module_next, Sought, sought_first, sought_hit, sought_miss, sought_end, sought_refused}
 use Rattle.imports.proofs.resolve_in.Statement.{statement}
 use Rattle.imports.proofs.resolve_in.Tie as tie
+use Rattle.imports.proofs.resolve_in.Lts.{then-n-scope, else-n-scope}
 
 abbrev invariant-loop : tie.invariant-loop-name
 invariant-loop body index scope best₀ n₀ at₀ best n at =
@@ -40,10 +40,10 @@ loop-again c =
     let q = ap told_module (sym c.in-Module.is) ∙ c.module_at.ensures in
     let i = c.loop-name.invariant.0 in
     let x = module_next _ _ _ _ q in
-    ⊎_elim
-    (λ w. (sought_hit _ _ _ _ _ _ _ q _ refl w.0.taken _ (ap told_resolved w.2 ∙ w.1.ensures) ∙ i, omega (arith, x), omega (arith, x)))
-    (λ w. (sought_miss _ _ _ _ _ _ _ q _ refl w.0.left _ (ap told_resolved w.1) ∙ i, omega (arith, x), omega (arith, x)))
-    c.if-n-scope.branch
+    elim c.if-n-scope.branch [
+      then-n-scope w ↦ (sought_hit _ _ _ _ _ _ _ q _ refl w.if-n-scope.true _ (ap told_resolved w.best-is ∙ w.word_of-best.ensures) ∙ i, omega (arith, x), omega (arith, x))
+      | else-n-scope w ↦ (sought_miss _ _ _ _ _ _ _ q _ refl w.if-n-scope.false _ (ap told_resolved w.best-is) ∙ i, omega (arith, x), omega (arith, x))
+    ]
 
 returns : tie.Need-returns-in-None invariant-loop decreases-loop
 returns c =

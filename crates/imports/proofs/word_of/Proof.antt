@@ -19,5 +19,5 @@ word_of_spec =
     (λ c. search rules)
     (λ c. search rules)
     (λ c κs. search rules)
-    (λ c. ref_word _ _ _ _ _ _ _ refl c.if-id-count.true c.u32_at_lem.ensures)
+    (λ c. ref_word _ _ _ _ _ _ _ refl c.if-id-count.true c.u32_at.ensures)
     returns-2)

@@ -8,11 +8,11 @@ use Rattle.lines.proofs.block_at.Tie as tie
 
 returns-6 : tie.Need-returns-then-size-line_bytes
 returns-6 c =
-    block_many _ _ _ (omega arith) (omega arith) (omega arith) (omega arith) (omega arith) _ _ c.u32_at-count.ensures c.line_bytes_lem.ensures (omega arith)
+    block_many _ _ _ (omega arith) (omega arith) (omega arith) (omega arith) (omega arith) _ _ c.u32_at-count.ensures c.line_bytes.ensures (omega arith)
 
 returns-7 : tie.Need-returns
 returns-7 c =
-    block_whole _ _ _ (omega arith) (omega arith) (omega arith) (omega arith) (omega arith) _ _ c.u32_at-count.ensures c.line_bytes_lem.ensures (omega arith) _ _ c.u32_at_lem.ensures c.u32_at-size.ensures
+    block_whole _ _ _ (omega arith) (omega arith) (omega arith) (omega arith) (omega arith) _ _ c.u32_at-count.ensures c.line_bytes.ensures (omega arith) _ _ c.u32_at-file.ensures c.u32_at-size.ensures
 
 pub block_at_spec : {M : Type 1} → statement M
 block_at_spec =
