@@ -12,7 +12,7 @@ returns c =
 
 returns-2 : tie.Need-returns-in-Done
 returns-2 c =
-    c.end_turn.ensures ∙ block_is _ _ _ _ (ap told_next_block (sym c.in-Done.is) ∙ c.next_block.ensures)
+    c.end_turn.ensures ∙ block_is _ c.args.p _ _ (ap told_next_block (sym c.in-Done.is) ∙ c.next_block.ensures)
 
 returns-3 : tie.Need-returns-in-Refused
 returns-3 c =

@@ -13,7 +13,7 @@ column-place-requires c κs =
 
 returns : tie.Need-returns-in-Block
 returns c =
-    next_block_in _ _ _ c.has_columns-columns.ensures _ _ _ (ap told_block (sym c.in-Block.is) ∙ c.block_at.ensures) c.column_place.ensures
+    next_block_in _ c.args.p _ c.has_columns-columns.ensures _ _ _ (ap told_block (sym c.in-Block.is) ∙ c.block_at.ensures) c.column_place.ensures
 
 returns-2 : tie.Need-returns-in-None
 returns-2 c = next_block_is _ c.args.p _ c.has_columns-columns.ensures _ (ap told_block (sym c.in-None.is) ∙ c.block_at.ensures)

@@ -9,11 +9,11 @@ use Rattle.line_step.proofs.sub_turn.Tie as tie
 
 returns : tie.Need-returns-in-In
 returns c =
-    sub_entered _ _ _ _ _ _ _ (omega (arith, c.well-formed)) (ap told_named (sym c.in-Body.is) ∙ c.slot_body.ensures) _ _ (ap told_entered (sym c.in-In.is) ∙ c.enter.ensures) c.behind_body-u.ensures
+    sub_entered _ _ _ _ _ _ _ (omega (arith, c.well_formed)) (ap told_named (sym c.in-Body.is) ∙ c.slot_body.ensures) _ _ (ap told_entered (sym c.in-In.is) ∙ c.enter.ensures) c.behind_body-u.ensures
 
 returns-2 : tie.Need-returns-in-Refused-enter
 returns-2 c =
-    sub_cut _ _ _ _ _ _ _ (omega (arith, c.well-formed)) (ap told_named (sym c.in-Body.is) ∙ c.slot_body.ensures) _ (ap told_entered (sym c.in-Refused-enter.is) ∙ c.enter.ensures)
+    sub_cut _ _ _ _ _ _ _ (omega (arith, c.well_formed)) (ap told_named (sym c.in-Body.is) ∙ c.slot_body.ensures) _ (ap told_entered (sym c.in-Refused-enter.is) ∙ c.enter.ensures)
 
 pub sub_turn_spec : {M : Type 1} → statement M
 sub_turn_spec =

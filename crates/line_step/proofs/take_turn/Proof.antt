@@ -16,6 +16,6 @@ take_turn_spec =
     (λ c κs. search rules)
     (λ c. search rules)
     (λ c κs. search rules)
-    (λ c. c.open_Turn.ensures ∙ turn_is _ _ _ _ (omega arith) _ c.in-New.is)
+    (λ c. c.open_turn.ensures ∙ turn_is _ _ _ _ (omega arith) _ c.in-New.is)
     (λ c. c.between_turn.ensures ∙ turn_is _ _ _ _ (omega arith) _ c.in-Between.is)
     (λ c. c.inside_turn.ensures ∙ turn_is _ _ _ _ (omega arith) _ c.in-Inside.is))
