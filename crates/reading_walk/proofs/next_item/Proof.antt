@@ -3,26 +3,19 @@
 -- Assumes nothing.
 use borrow.Author.Rules.{rules}
 use native.Mathlib.Omega.{arith}
-use mathlib.Core.Path.{◌≡◌, sym, ap, ◌∙◌, subst}
-use Prim.Native.Nat.{ℕ}
-use mathlib.Core.List.{List, [], ◌∷◌}
-use types.Run.{OneOf, miss}
-use denote.Enum.Declared.{tag_of}
+use mathlib.Core.Path.{◌≡◌, sym, ap, ◌∙◌}
 use Rattle.walk.specs.Listing.{none}
 use Rattle.reading_record.specs.Told.{told_item}
 use Rattle.reading_record.specs.Untold.{untold_item, untold_item_lem}
 use Rattle.reading_record.specs.declared.ItemStep.{ItemStep}
-use Rattle.reading_record.specs.contracts.ItemStep as item-step
+use Rattle.reading_record.specs.declared.ItemStep.TheVariants as step
 use Rattle.reading_walk.specs.StepLaws.{between_is, record_passes, record_ends, end_lies}
 use Rattle.reading_walk.proofs.next_item.Statement.{statement}
 use Rattle.reading_walk.proofs.next_item.Tie as tie
 
--- the variants of an answer but None, which is 11
-abbrev others : List ℕ
-others = 0 ∷ 1 ∷ 2 ∷ 3 ∷ 4 ∷ 5 ∷ 6 ∷ 7 ∷ 8 ∷ 9 ∷ 10 ∷ 12 ∷ []
-
-not_none : (x : ItemStep) → OneOf others (tag_of item-step.the_type x) → told_item x ≡ none → ⊥
-not_none x o e = miss others 11 tt (subst (OneOf others) (ap (tag_of item-step.the_type) (sym (untold_item_lem x) ∙ ap untold_item e)) o)
+-- an answer that is not the variant None does not mean that there is none
+not_none : (x : ItemStep) → (x ≡ step.None → ⊥) → told_item x ≡ none → ⊥
+not_none x o e = o (sym (untold_item_lem x) ∙ ap untold_item e)
 
 returns : tie.Need-returns-in-None
 returns c =
@@ -31,7 +24,7 @@ returns c =
 returns-3 : tie.Need-returns-in_default
 returns-3 c =
     record_passes _ _ _ _ _ _ _ _ c.in-In.is
-    (not_none c.record_at-step.result c.match2.keys2) c.record_at-step.ensures
+    (not_none c.record_at-step.result c.in_default.not-None) c.record_at-step.ensures
 
 pub next_item_spec : {M : Type 1} → statement M
 next_item_spec =
