@@ -34,20 +34,18 @@ returns-2 c =
     let a = c.args in
     let n = length a.lines.now in
     let k = length a.columns.now in
-    let l = c.in-Yes.is in
     grow_some LINES (λ m. block_rule m n k) (λ m. 12 + 4 * n + 4 * k) a.buf.now a.written _ _
     (ap told_plain (sym c.in-Yes.is) ∙ c.last_of.ensures)
-    (c.room_for.ensures ∙ ap (λ (t : Bool). else_not_plain t (room (length a.buf.now) a.written l.0 l.1.1.0 (12 + 4 * n + 4 * k))) (sym c.if-block_rule.true ∙ c.block_rule.ensures))
+    (c.room_for.ensures ∙ ap (λ (t : Bool). else_not_plain t (room (length a.buf.now) a.written c.in-Yes.header c.in-Yes.mark (12 + 4 * n + 4 * k))) (sym c.if-block_rule.true ∙ c.block_rule.ensures))
 
 returns-3 : tie.Need-returns
 returns-3 c =
     let a = c.args in
     let n = length a.lines.now in
     let k = length a.columns.now in
-    let l = c.in-Yes.is in
     grow_some LINES (λ m. block_rule m n k) (λ m. 12 + 4 * n + 4 * k) a.buf.now a.written _ _
     (ap told_plain (sym c.in-Yes.is) ∙ c.last_of.ensures)
-    (ap (λ (t : Bool). else_not_plain t (room (length a.buf.now) a.written l.0 l.1.1.0 (12 + 4 * n + 4 * k))) (sym c.if-block_rule.false ∙ c.block_rule.ensures))
+    (ap (λ (t : Bool). else_not_plain t (room (length a.buf.now) a.written c.in-Yes.header c.in-Yes.mark (12 + 4 * n + 4 * k))) (sym c.if-block_rule.false ∙ c.block_rule.ensures))
 
 pub block_step_spec : {M : Type 1} → statement M
 block_step_spec =

@@ -23,10 +23,9 @@ returns-2 : tie.Need-returns
 returns-2 c =
     let a = c.args in
     let n = length a.bytes.now in
-    let l = c.in-Yes.is in
     grow_some FILE_CHECKSUMS (λ m. checksum_rule a.kind n) (λ m. up4 (6 + n)) a.buf.now a.written _ _
     (ap told_plain (sym c.in-Yes.is) ∙ c.last_of.ensures)
-    (c.plain_room.ensures ∙ checksum_need a.kind n _ (room (length a.buf.now) a.written l.0 l.1.1.0) c.checksum_rule.ensures)
+    (c.plain_room.ensures ∙ checksum_need a.kind n _ (room (length a.buf.now) a.written c.in-Yes.header c.in-Yes.mark) c.checksum_rule.ensures)
 
 pub checksum_step_spec : {M : Type 1} → statement M
 checksum_step_spec =
