@@ -5,7 +5,7 @@ use mathlib.Core.Path.{refl, sym, ap, ◌∙◌}
 use lib.ListN.{replicate}
 use Rattle.kinds.specs.Kind.{crate_rule}
 use Rattle.line_state_words.specs.LineWords.{record_size, state_size, line_words}
-use Rattle.answer_words.specs.Given.{stepGiven}
+use Rattle.answer_words.specs.Given.{step_given}
 use Rattle.answer_words.specs.GivenLaws.{gives_as, gives_none}
 use Rattle.many_lines.specs.Told.{told_lines}
 use Rattle.export_lines.specs.OneLaws.{one_none, one_refused, one_line}
@@ -22,13 +22,13 @@ returns-2 : tie.Need-returns-2
 returns-2 c =
     let h = c.before.before.before in
     let l = h.next-lines.ensures in
-    gives_as (stepGiven state_size line_words) (one_none crate_rule _ _ (replicate record_size 0) refl _ (ap told_lines (sym c.enum_told.given.1) ∙ l.0)) (gives_none _)
+    gives_as (step_given state_size line_words) (one_none crate_rule _ _ (replicate record_size 0) refl _ (ap told_lines (sym c.enum_told.given.1) ∙ l.0)) (gives_none _)
 
 returns-3 : tie.Need-returns-3
 returns-3 c =
     let h = c.before.before.before.before.before.before.before.before in
     let l = h.next-lines.ensures in
-    gives_as (stepGiven state_size line_words) (one_refused crate_rule _ _ (replicate record_size 0) refl _ _ (ap told_lines (sym c.before.before.before.before.before.why.given.1) ∙ l.0)) c.before.before.put-refusal.ensures
+    gives_as (step_given state_size line_words) (one_refused crate_rule _ _ (replicate record_size 0) refl _ _ (ap told_lines (sym c.before.before.before.before.before.why.given.1) ∙ l.0)) c.before.before.put-refusal.ensures
 
 pub line_from_spec : {M : Type 1} → statement M
 line_from_spec =
