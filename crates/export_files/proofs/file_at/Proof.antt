@@ -14,4 +14,4 @@ file_at_spec =
     (λ c κs. search rules)
     (λ c κs. search rules)
     (λ c. search rules)
-    (λ c. gives_as (reply_given info_words) c.before.before.before.file-at.ensures c.before.before.put-info.ensures))
+    (λ c. gives_as (reply_given info_words) c.file_at.ensures c.put_info.ensures))

@@ -14,4 +14,4 @@ file_in_spec =
     (λ c κs. search rules)
     (λ c κs. search rules)
     (λ c. search rules)
-    (λ c. gives_as (reply_given info_words) c.before.before.before.file_in_lem.ensures c.before.before.put-info.ensures))
+    (λ c. gives_as (reply_given info_words) c.file_in.ensures c.put_info.ensures))

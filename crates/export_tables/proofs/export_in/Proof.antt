@@ -8,8 +8,7 @@ use Rattle.export_tables.proofs.export_in.Tie as tie
 
 returns : tie.Need-returns
 returns c =
-    let p = c.before.before in
-    gives_as (reply_given one) p.before.export-in.ensures p.put-lookup.ensures
+    gives_as (reply_given one) c.export_in.ensures c.put_lookup.ensures
 
 pub export_in_spec : {M : Type 1} → statement M
 export_in_spec = tie.close (tie.spec (λ c κs. search rules) (λ c κs. search rules) (λ c. search rules) returns)

@@ -8,8 +8,7 @@ use Rattle.export_tables.proofs.resolve_export.Tie as tie
 
 returns : tie.Need-returns
 returns c =
-    let p = c.before.before in
-    gives_as (reply_given one) p.before.resolve-export.ensures p.put-lookup.ensures
+    gives_as (reply_given one) c.resolve_export.ensures c.put_lookup.ensures
 
 pub resolve_export_spec : {M : Type 1} → statement M
 resolve_export_spec = tie.close (tie.spec (λ c κs. search rules) (λ c κs. search rules) (λ c. search rules) returns)

@@ -9,8 +9,7 @@ use Rattle.export_tables.proofs.resolve_import.Tie as tie
 
 returns : tie.Need-returns
 returns c =
-    let p = c.before.before in
-    gives_as (reply_given ref_words) p.before.resolve-import.ensures p.put-ref.ensures
+    gives_as (reply_given ref_words) c.resolve_import.ensures c.put_ref.ensures
 
 pub resolve_import_spec : {M : Type 1} → statement M
 resolve_import_spec = tie.close (tie.spec (λ c κs. search rules) (λ c κs. search rules) (λ c. search rules) returns)

@@ -9,10 +9,9 @@ use Rattle.export_tables.specs.CallsLaws.{listed_short}
 use Rattle.export_tables.proofs.resolve_listed.Statement.{statement}
 use Rattle.export_tables.proofs.resolve_listed.Tie as tie
 
-returns-2 : tie.Need-returns-2
+returns-2 : tie.Need-returns
 returns-2 c =
-    let p = c.before.before in
-    gives_as (reply_given ref_words) p.before.resolve-listed.ensures p.put-ref.ensures
+    gives_as (reply_given ref_words) c.resolve_listed.ensures c.put_ref.ensures
 
 pub resolve_listed_spec : {M : Type 1} → statement M
 resolve_listed_spec =
