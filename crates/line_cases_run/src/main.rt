@@ -15,7 +15,6 @@
 // the sheet.
 #![tactic(auto)]
 
-use libc::{STDIN_FILENO, STDOUT_FILENO};
 use line_record::{
     Column, EndLines, Length, LineKind, LineRecord, end_line, is_marker, kind, start_line,
 };
@@ -23,6 +22,8 @@ use line_step::LineWalk;
 use line_walk::{LineStep, next_line};
 use order::order_list;
 use refusal::Refusal;
+use std::io;
+use std::io::Read;
 use symbol_lines::{SymbolLines, lines_for_symbol};
 use word::{u8_at, u16_at, u32_at};
 
@@ -38,7 +39,7 @@ const TWO_SLOTS: u8 = 3;
 const SYMBOL: u8 = 4;
 
 // No list is longer: what is behind so many bytes is not read.
-const LIST: usize = 131072;
+const LIST: u64 = 131072;
 
 // The bytes of a case before its area, and of a call.
 const CASE_HEAD: usize = 6;
@@ -63,233 +64,238 @@ struct Call {
 
 // ---- pieces of the text
 
-fn say(text: &[u8]) {
-    io::write_all(STDOUT_FILENO, text);
+fn say(rt: &impl Print, text: &[u8]) -> io::Result<()> {
+    rt.write_all(text)
 }
 
-fn decimal(n: u64) {
-    io::print_decimal(STDOUT_FILENO, n);
+fn decimal(rt: &impl Print, n: u64) -> io::Result<()> {
+    print!(rt; "{n}")
 }
 
-fn spaced(n: u64) {
-    say(b" ");
-    decimal(n);
+fn spaced(rt: &impl Print, n: u64) -> io::Result<()> {
+    say(rt, b" ")?;
+    decimal(rt, n)
 }
 
-fn hex(n: u64, width: usize) {
-    say(b"0x");
-    io::print_hex(STDOUT_FILENO, n, width);
+fn hex(rt: &impl Print, n: u64, width: usize) -> io::Result<()> {
+    print!(rt; "0x{n:0width$x}")
 }
 
-fn place(section: u16, offset: u32) {
-    decimal(section as u64);
-    say(b":");
-    hex(offset as u64, 1);
+fn place(rt: &impl Print, section: u16, offset: u32) -> io::Result<()> {
+    decimal(rt, section as u64)?;
+    say(rt, b":")?;
+    hex(rt, offset as u64, 1)
 }
 
-fn length(l: Length) {
+fn length(rt: &impl Print, l: Length) -> io::Result<()> {
     match l {
-        Length::Is(n) => spaced(n as u64),
-        Length::Unset => say(b" -"),
+        Length::Is(n) => spaced(rt, n as u64),
+        Length::Unset => say(rt, b" -"),
     }
 }
 
-fn column(c: Column) {
+fn column(rt: &impl Print, c: Column) -> io::Result<()> {
     match c {
-        Column::At(n) => spaced(n as u64),
-        Column::None => say(b" -"),
+        Column::At(n) => spaced(rt, n as u64),
+        Column::None => say(rt, b" -"),
     }
 }
 
-fn kind_text(k: LineKind) {
+fn kind_text(rt: &impl Print, k: LineKind) -> io::Result<()> {
     match k {
-        LineKind::Statement => say(b" st"),
-        LineKind::Expression => say(b" ex"),
+        LineKind::Statement => say(rt, b" st"),
+        LineKind::Expression => say(rt, b" ex"),
     }
 }
 
 // Where it is asked for, the position of the body stands behind the kind.
-fn record(r: LineRecord, positions: bool) {
+fn record(rt: &impl Print, r: LineRecord, positions: bool) -> io::Result<()> {
     let l = r.length;
     let s = r.column_start;
     let e = r.column_end;
     let k = r.kind;
-    say(b"line ");
-    place(r.section, r.offset);
-    length(l);
-    spaced(r.file as u64);
-    spaced(r.start_line as u64);
-    spaced(r.end_line as u64);
-    column(s);
-    column(e);
-    kind_text(k);
+    say(rt, b"line ")?;
+    place(rt, r.section, r.offset)?;
+    length(rt, l)?;
+    spaced(rt, r.file as u64)?;
+    spaced(rt, r.start_line as u64)?;
+    spaced(rt, r.end_line as u64)?;
+    column(rt, s)?;
+    column(rt, e)?;
+    kind_text(rt, k)?;
     if positions {
-        say(b" @");
-        decimal(r.body as u64);
+        say(rt, b" @")?;
+        decimal(rt, r.body as u64)?;
     }
-    say(b"\n");
+    say(rt, b"\n")
 }
 
 // A refusal: its number and, if it is that of an unknown kind, the kind. No other refusal of these calls carries anything.
-fn refused(why: Refusal) {
-    say(b"refused");
-    spaced(refusal::number(why));
+fn refused(rt: &impl Print, why: Refusal) -> io::Result<()> {
+    say(rt, b"refused")?;
+    spaced(rt, refusal::number(why))?;
     if let Refusal::UnknownKind(n) = why {
-        say(b" carries ");
-        hex(n as u64, 1);
+        say(rt, b" carries ")?;
+        hex(rt, n as u64, 1)?;
     }
-    say(b"\n");
+    say(rt, b"\n")
 }
 
 // ---- flags words
 
-fn flags_line(flags: u32) {
-    say(b"flags ");
-    hex(flags as u64, 8);
+fn flags_line(rt: &impl Print, flags: u32) -> io::Result<()> {
+    say(rt, b"flags ")?;
+    hex(rt, flags as u64, 8)?;
     if is_marker(flags) {
-        say(b" = marker start");
+        say(rt, b" = marker start")?;
     } else {
-        say(b" = line start");
+        say(rt, b" = line start")?;
     }
-    spaced(start_line(flags) as u64);
-    kind_text(kind(flags));
-    say(b" crate");
-    spaced(end_line(EndLines::Crate, flags) as u64);
-    say(b" low");
-    spaced(end_line(EndLines::LowBits, flags) as u64);
-    say(b" delta");
-    spaced(end_line(EndLines::Delta, flags) as u64);
-    say(b"\n");
+    spaced(rt, start_line(flags) as u64)?;
+    kind_text(rt, kind(flags))?;
+    say(rt, b" crate")?;
+    spaced(rt, end_line(EndLines::Crate, flags) as u64)?;
+    say(rt, b" low")?;
+    spaced(rt, end_line(EndLines::LowBits, flags) as u64)?;
+    say(rt, b" delta")?;
+    spaced(rt, end_line(EndLines::Delta, flags) as u64)?;
+    say(rt, b"\n")
 }
 
-fn flags_lines(list: &[u8], count: u32) {
+fn flags_lines(rt: &impl Print, list: &[u8], count: u32) -> io::Result<()> {
     let mut i: u32 = 0;
     while i < count {
-        flags_line(u32_at(list, 4 + 4 * (i as usize)));
+        flags_line(rt, u32_at(list, 4 + 4 * (i as usize)))?;
         i += 1;
     }
+    Ok(())
 }
 
 // ---- cases
 
-fn slots_text(call: Call) {
+fn slots_text(rt: &impl Print, call: Call) -> io::Result<()> {
     let what = call.what;
     match what {
-        NO_SLOTS => say(b" slots=-"),
+        NO_SLOTS => say(rt, b" slots=-"),
         ONE_SLOT => {
-            say(b" slots=");
-            decimal(call.first as u64);
+            say(rt, b" slots=")?;
+            decimal(rt, call.first as u64)
         }
         TWO_SLOTS => {
-            say(b" slots=");
-            decimal(call.first as u64);
-            say(b",");
-            decimal(call.second as u64);
+            say(rt, b" slots=")?;
+            decimal(rt, call.first as u64)?;
+            say(rt, b",")?;
+            decimal(rt, call.second as u64)
         }
-        _ => {}
+        _ => Ok(()),
     }
 }
 
-fn at_text(positions: bool) {
+fn at_text(rt: &impl Print, positions: bool) -> io::Result<()> {
     if positions {
-        say(b"@");
+        say(rt, b"@")?;
     }
+    Ok(())
 }
 
-fn call_text(call: Call) {
+fn call_text(rt: &impl Print, call: Call) -> io::Result<()> {
     let what = call.what;
     match what {
         LINES | NO_SLOTS | ONE_SLOT | TWO_SLOTS => {
-            say(b" lines");
-            at_text(call.positions);
-            slots_text(call);
+            say(rt, b" lines")?;
+            at_text(rt, call.positions)?;
+            slots_text(rt, call)
         }
         SYMBOL => {
-            say(b" symbol");
-            at_text(call.positions);
-            say(b" at=");
-            place(call.section, call.second);
+            say(rt, b" symbol")?;
+            at_text(rt, call.positions)?;
+            say(rt, b" at=")?;
+            place(rt, call.section, call.second)
         }
         _ => {
-            say(b" dump");
-            at_text(call.positions);
+            say(rt, b" dump")?;
+            at_text(rt, call.positions)
         }
     }
 }
 
-fn reading_text(how: EndLines) {
+fn reading_text(rt: &impl Print, how: EndLines) -> io::Result<()> {
     match how {
-        EndLines::Crate => say(b" end=crate"),
-        EndLines::LowBits => say(b" end=low"),
-        EndLines::Delta => say(b" end=delta"),
+        EndLines::Crate => say(rt, b" end=crate"),
+        EndLines::LowBits => say(rt, b" end=low"),
+        EndLines::Delta => say(rt, b" end=delta"),
     }
 }
 
 // The line that names a case and a call. A sheet has one reading of end lines, which is not named.
-fn case_line(case: Case, call: Call) {
+fn case_line(rt: &impl Print, case: Case, call: Call) -> io::Result<()> {
     let how = call.how;
-    say(b"case ");
-    say(&[case.letter]);
-    decimal(case.number as u64);
-    call_text(call);
+    say(rt, b"case ")?;
+    say(rt, &[case.letter])?;
+    decimal(rt, case.number as u64)?;
+    call_text(rt, call)?;
     if call.what <= SYMBOL {
-        reading_text(how);
+        reading_text(rt, how)?;
     }
-    say(b"\n");
+    say(rt, b"\n")
 }
 
 // A line for each step. A proved loop has to end, so it counts its turns down, from a number that no run uses up.
-fn walk_lines(area: &[u8], slots: &[u32], first: LineWalk, positions: bool) {
+fn walk_lines(
+    rt: &impl Print,
+    area: &[u8],
+    slots: &[u32],
+    first: LineWalk,
+    positions: bool,
+) -> io::Result<()> {
     let mut walk = first;
     let mut turns = u64::MAX;
     while turns > 0 {
         match next_line(area, slots, walk) {
             LineStep::Line(r, next) => {
-                record(r, positions);
+                record(rt, r, positions)?;
                 walk = next;
             }
             LineStep::None => {
-                say(b"end\n");
-                return;
+                return say(rt, b"end\n");
             }
             LineStep::Refused(why) => {
-                refused(why);
-                return;
+                return refused(rt, why);
             }
         }
         turns -= 1;
     }
+    Ok(())
 }
 
-fn symbol(area: &[u8], slots: &[u32], call: Call) {
+fn symbol(rt: &impl Print, area: &[u8], slots: &[u32], call: Call) -> io::Result<()> {
     let how = call.how;
     match lines_for_symbol(area, slots, &[], call.section, call.second, how) {
-        SymbolLines::Lines(walk) => walk_lines(area, slots, walk, call.positions),
-        SymbolLines::Refused(why) => refused(why),
+        SymbolLines::Lines(walk) => walk_lines(rt, area, slots, walk, call.positions),
+        SymbolLines::Refused(why) => refused(rt, why),
     }
 }
 
 // No case has as many line subsections as there are slots here. Where the order list is refused the slots stay 0, and the walk is refused alike.
-fn answer(area: &[u8], call: Call) {
+fn answer(rt: &impl Print, area: &[u8], call: Call) -> io::Result<()> {
     let what = call.what;
     let how = call.how;
     let positions = call.positions;
     let mut slots = [0u32; 32];
     order_list(area, &mut slots);
     match what {
-        LINES => walk_lines(area, &slots, LineWalk::New(how), positions),
-        NO_SLOTS => walk_lines(area, &[], LineWalk::New(how), positions),
-        ONE_SLOT => walk_lines(area, &[call.first], LineWalk::New(how), positions),
+        LINES => walk_lines(rt, area, &slots, LineWalk::New(how), positions),
+        NO_SLOTS => walk_lines(rt, area, &[], LineWalk::New(how), positions),
+        ONE_SLOT => walk_lines(rt, area, &[call.first], LineWalk::New(how), positions),
         TWO_SLOTS => walk_lines(
+            rt,
             area,
             &[call.first, call.second],
             LineWalk::New(how),
             positions,
         ),
-        SYMBOL => symbol(area, &slots, call),
-        _ => {
-            dump::print(area);
-        }
+        SYMBOL => symbol(rt, area, &slots, call),
+        _ => { dump::print(rt, area).written }
     }
 }
 
@@ -313,18 +319,19 @@ fn call_of(call: &[u8]) -> Call {
     }
 }
 
-fn answer_each(area: &[u8], calls: &[u8], case: Case) {
+fn answer_each(rt: &impl Print, area: &[u8], calls: &[u8], case: Case) -> io::Result<()> {
     let mut at: usize = 0;
     while calls.len() - at >= CALL {
         let end = at + CALL;
         let call = call_of(&calls[at..end]);
-        case_line(case, call);
-        answer(area, call);
+        case_line(rt, case, call)?;
+        answer(rt, area, call)?;
         at = end;
     }
+    Ok(())
 }
 
-fn answers(list: &[u8]) {
+fn answers(rt: &impl Print, list: &[u8]) -> io::Result<()> {
     let mut at: usize = 0;
     while list.len() - at >= CASE_HEAD {
         let start = at + CASE_HEAD;
@@ -332,15 +339,16 @@ fn answers(list: &[u8]) {
         let calls = start + (u16_at(head, 3) as usize);
         let end = calls + CALL * (u8_at(head, 5) as usize);
         if list.len() < end {
-            return;
+            return Ok(());
         }
         let case = Case {
             letter: u8_at(head, 0),
             number: u16_at(head, 1),
         };
-        answer_each(&list[start..calls], &list[calls..end], case);
+        answer_each(rt, &list[start..calls], &list[calls..end], case)?;
         at = end;
     }
+    Ok(())
 }
 
 // All of the list behind the flags words.
@@ -352,11 +360,10 @@ fn behind_flags(list: &[u8], count: u32) -> &[u8] {
     &list[start..]
 }
 
-fn main() {
-    let mut buf = [0u8; LIST];
-    let got = io::read_full(STDIN_FILENO, &mut buf);
-    let list = &buf[..got];
-    let count = u32_at(list, 0);
-    flags_lines(list, count);
-    answers(behind_flags(list, count));
+fn main(rt: HostRuntime) -> io::Result<()> {
+    let mut list = Vec::new(rt.alloc());
+    rt.reader().take(LIST).read_to_end(&mut list)?;
+    let count = u32_at(&list, 0);
+    flags_lines(&rt, &list, count)?;
+    answers(&rt, behind_flags(&list, count))
 }

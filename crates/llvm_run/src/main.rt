@@ -4,26 +4,30 @@
 // The input is made of real areas and the file stdout of LLVM's reading of them, both by `compare/llvm --fix`: no line of stdout is this program's own.
 #![tactic(auto)]
 
-use io::{buffer, read_full};
-use libc::STDIN_FILENO;
+use std::io;
+use std::io::Read;
 use word::u32_at;
 
-fn print_all(input: &[u8]) {
+// No input is longer: what is behind so many bytes is not read.
+const INPUT: u64 = 4096;
+
+fn print_all(rt: &impl Print, input: &[u8]) -> io::Result<()> {
     let mut at: usize = 0;
     while input.len() - at >= 4 {
         let len = u32_at(input, at) as usize;
         let start = at + 4;
         if input.len() - start < len {
-            return;
+            return Ok(());
         }
         let end = start + len;
-        dump::print(&input[start..end]);
+        dump::print(rt, &input[start..end]).written?;
         at = end;
     }
+    Ok(())
 }
 
-fn main() {
-    let mut buf = buffer();
-    let got = read_full(STDIN_FILENO, &mut buf);
-    print_all(&buf[..got]);
+fn main(rt: HostRuntime) -> io::Result<()> {
+    let mut input = Vec::new(rt.alloc());
+    rt.reader().take(INPUT).read_to_end(&mut input)?;
+    print_all(&rt, &input)
 }

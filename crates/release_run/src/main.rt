@@ -8,9 +8,9 @@
 
 use files::checksum_bytes;
 use kinds::{COFF_SYMBOL_RVA, LINES, STRING_TABLE, SYMBOLS};
-use libc::STDOUT_FILENO;
 use reading_record::{Columns, ItemStep, ItemWalk};
 use reading_walk::next_item;
+use std::io;
 use table::{WordAnswer, word_in};
 use text::Place;
 use writer::Wrote;
@@ -158,13 +158,12 @@ fn equal(a: Numbers, b: Numbers) -> bool {
 
 // ---- text
 
-fn say(text: &[u8]) {
-    io::write_all(STDOUT_FILENO, text);
+fn say(rt: &impl Print, text: &[u8]) -> io::Result<()> {
+    rt.write_all(text)
 }
 
-fn word(n: u32) {
-    say(b" 0x");
-    io::print_hex(STDOUT_FILENO, n as u64, 1);
+fn word(rt: &impl Print, n: u32) -> io::Result<()> {
+    print!(rt; " 0x{n:x}")
 }
 
 // The first bytes, or all where there are fewer.
@@ -186,65 +185,72 @@ fn part_of(words: &[u32], from: usize, count: usize) -> &[u32] {
 }
 
 // A name in 15 bytes.
-fn name_in(names: &[u8], which: usize) {
+fn name_in(rt: &impl Print, names: &[u8], which: usize) -> io::Result<()> {
     if which <= names.len() / 15 {
-        say(start_of(&names[15 * which..], 15));
+        say(rt, start_of(&names[15 * which..], 15))?;
     }
+    Ok(())
 }
 
-fn name(which: usize) {
+fn name(rt: &impl Print, which: usize) -> io::Result<()> {
     name_in(
+        rt,
         b"open lines     block          open checksums checksum       open inlinees  inlinee        open imports   module         open exports   pair           opaque         none           refused        ",
         which,
-    );
+    )?;
+    Ok(())
 }
 
-fn said(n: Numbers) {
-    name(n.0);
+fn said(rt: &impl Print, n: Numbers) -> io::Result<()> {
+    name(rt, n.0)?;
     if 0 < n.1 {
-        word(n.2);
+        word(rt, n.2)?;
     }
     if 1 < n.1 {
-        word(n.3);
+        word(rt, n.3)?;
     }
     if 2 < n.1 {
-        word(n.4);
+        word(rt, n.4)?;
     }
     if 3 < n.1 {
-        word(n.5);
+        word(rt, n.5)?;
     }
+    Ok(())
 }
 
 // A list stands behind a slash.
-fn slash(len: usize) {
+fn slash(rt: &impl Print, len: usize) -> io::Result<()> {
     if 0 < len {
-        say(b" /");
+        say(rt, b" /")?;
     }
+    Ok(())
 }
 
-fn list(words: &[u32]) {
-    slash(words.len());
+fn list(rt: &impl Print, words: &[u32]) -> io::Result<()> {
+    slash(rt, words.len())?;
     let mut i = 0;
     while i < words.len() {
-        word(words[i]);
+        word(rt, words[i])?;
         i += 1;
     }
+    Ok(())
 }
 
 // At most 32 bytes.
-fn hex(bytes: &[u8]) {
+fn hex(rt: &impl Print, bytes: &[u8]) -> io::Result<()> {
     let mut line = [0u8; 64];
     match text::put_hex_bytes(&mut line, Place::At(0), bytes) {
-        Place::At(len) => say(start_of(&line, len)),
-        Place::Refused(_) => say(b"more than 32 bytes"),
+        Place::At(len) => say(rt, start_of(&line, len)),
+        Place::Refused(_) => say(rt, b"more than 32 bytes"),
     }
 }
 
-fn octets(bytes: &[u8]) {
+fn octets(rt: &impl Print, bytes: &[u8]) -> io::Result<()> {
     if 0 < bytes.len() {
-        say(b" / ");
-        hex(bytes);
+        say(rt, b" / ")?;
+        hex(rt, bytes)?;
     }
+    Ok(())
 }
 
 // ---- the first time
@@ -290,42 +296,53 @@ fn make(
 }
 
 // The place for the next call: the one that is answered, or, where it is refused, the one before.
-fn answered(at: usize, answer: Wrote) -> usize {
+fn answered(rt: &impl Print, at: usize, answer: Wrote) -> io::Result<usize> {
     match answer {
         Wrote::To(next) => {
-            say(b" : ");
-            io::print_decimal(STDOUT_FILENO, next as u64);
-            next
+            print!(rt; " : {next}")?;
+            Ok(next)
         }
         Wrote::Refused(why) => {
-            say(b" : refused ");
-            io::print_decimal(STDOUT_FILENO, refusal::number(why));
-            at
+            let number = refusal::number(why);
+            print!(rt; " : refused {number}")?;
+            Ok(at)
         }
     }
 }
 
-fn write(buf: &mut [u8; ROOM], at: usize, call: Call, words: &[u32], bytes: &[u8]) -> usize {
+fn write(
+    rt: &impl Print,
+    buf: &mut [u8; ROOM],
+    at: usize,
+    call: Call,
+    words: &[u32],
+    bytes: &[u8],
+) -> io::Result<usize> {
     let l = lists_of(call);
     let lines = part_of(words, l.0, l.1);
     let columns = part_of(words, l.2, l.3);
     let body = start_of(bytes, l.5);
-    said(numbers_of(call));
-    list(lines);
-    list(columns);
-    octets(body);
-    answered(at, make(buf, at, call, lines, columns, body))
+    said(rt, numbers_of(call))?;
+    list(rt, lines)?;
+    list(rt, columns)?;
+    octets(rt, body)?;
+    answered(rt, at, make(buf, at, call, lines, columns, body))
 }
 
 // The accepted calls, a bit each. A call that is accepted moves the place.
-fn write_all(buf: &mut [u8; ROOM], words: &[u32], bytes: &[u8]) -> u64 {
+fn write_all(
+    rt: &impl Print,
+    buf: &mut [u8; ROOM],
+    words: &[u32],
+    bytes: &[u8],
+) -> io::Result<u64> {
     let mut accepted = 0;
     let mut bit = 1;
     let mut at = 0;
     let mut i = 0;
     while i < CALLS {
-        let next = write(buf, at, call_at(i), words, bytes);
-        say(b"\n");
+        let next = write(rt, buf, at, call_at(i), words, bytes)?;
+        say(rt, b"\n")?;
         if at < next {
             accepted = accepted | bit;
         }
@@ -333,7 +350,7 @@ fn write_all(buf: &mut [u8; ROOM], words: &[u32], bytes: &[u8]) -> u64 {
         bit = std::num::wrapping_add_u64(bit, bit);
         i += 1;
     }
-    accepted
+    Ok(accepted)
 }
 
 // ---- the second time
@@ -415,55 +432,94 @@ fn same_word(words: &[u32], i: usize, word: u32) -> bool {
     false
 }
 
-fn read_word(area: &[u8], at: usize, count: usize, i: usize, words: &[u32]) -> bool {
+fn read_word(
+    rt: &impl Print,
+    area: &[u8],
+    at: usize,
+    count: usize,
+    i: usize,
+    words: &[u32],
+) -> io::Result<bool> {
     let WordAnswer::Word(w) = word_in(area, at, count, i) else {
-        return false;
+        return Ok(false);
     };
-    word(w);
-    same_word(words, i, w)
+    word(rt, w)?;
+    Ok(same_word(words, i, w))
 }
 
 // The words of an item, and whether they are those of the call.
-fn read_list(area: &[u8], at: usize, count: usize, words: &[u32]) -> bool {
-    slash(count);
+fn read_list(
+    rt: &impl Print,
+    area: &[u8],
+    at: usize,
+    count: usize,
+    words: &[u32],
+) -> io::Result<bool> {
+    slash(rt, count)?;
     let mut same = count == words.len();
     let mut i = 0;
     while i < count {
-        same = same & read_word(area, at, count, i, words);
+        same = same & read_word(rt, area, at, count, i, words)?;
         i += 1;
     }
-    same
+    Ok(same)
 }
 
-fn read_octets(area: &[u8], at: usize, len: usize, bytes: &[u8]) -> bool {
+fn read_octets(
+    rt: &impl Print,
+    area: &[u8],
+    at: usize,
+    len: usize,
+    bytes: &[u8],
+) -> io::Result<bool> {
     let read = checksum_bytes(area, at, len);
-    octets(read);
-    check::same(read, bytes)
+    octets(rt, read)?;
+    Ok(read == bytes)
 }
 
-fn read_lists(area: &[u8], item: Lists, call: Lists, words: &[u32], bytes: &[u8]) -> bool {
-    let lines = read_list(area, item.0, item.1, part_of(words, call.0, call.1));
-    let columns = read_list(area, item.2, item.3, part_of(words, call.2, call.3));
-    lines & columns & read_octets(area, item.4, item.5, start_of(bytes, call.5))
+fn read_lists(
+    rt: &impl Print,
+    area: &[u8],
+    item: Lists,
+    call: Lists,
+    words: &[u32],
+    bytes: &[u8],
+) -> io::Result<bool> {
+    let lines = read_list(rt, area, item.0, item.1, part_of(words, call.0, call.1))?;
+    let columns = read_list(rt, area, item.2, item.3, part_of(words, call.2, call.3))?;
+    Ok(lines & columns & read_octets(rt, area, item.4, item.5, start_of(bytes, call.5))?)
 }
 
-fn told(same: bool) -> bool {
+fn told(rt: &impl Print, same: bool) -> io::Result<bool> {
     if !same {
-        say(b" DIFFERS");
+        say(rt, b" DIFFERS")?;
     }
-    say(b"\n");
-    same
+    say(rt, b"\n")?;
+    Ok(same)
 }
 
-fn read(area: &[u8], item: Call, call: Call, words: &[u32], bytes: &[u8]) -> bool {
+fn read(
+    rt: &impl Print,
+    area: &[u8],
+    item: Call,
+    call: Call,
+    words: &[u32],
+    bytes: &[u8],
+) -> io::Result<bool> {
     let numbers = numbers_of(item);
-    said(numbers);
-    let same = read_lists(area, lists_of(item), lists_of(call), words, bytes);
-    told(same & equal(numbers, numbers_of(call)))
+    said(rt, numbers)?;
+    let same = read_lists(rt, area, lists_of(item), lists_of(call), words, bytes)?;
+    told(rt, same & equal(numbers, numbers_of(call)))
 }
 
 // Whether the items are the accepted calls, and nothing comes behind them.
-fn read_all(area: &[u8], accepted: u64, words: &[u32], bytes: &[u8]) -> bool {
+fn read_all(
+    rt: &impl Print,
+    area: &[u8],
+    accepted: u64,
+    words: &[u32],
+    bytes: &[u8],
+) -> io::Result<bool> {
     let mut same = true;
     let mut walk = ItemWalk::new();
     let mut bit = 1;
@@ -472,49 +528,52 @@ fn read_all(area: &[u8], accepted: u64, words: &[u32], bytes: &[u8]) -> bool {
         if accepted & bit != 0 {
             let item = item_at(area, walk);
             let it = item.0;
-            same = same & read(area, it, call_at(i), words, bytes);
+            same = same & read(rt, area, it, call_at(i), words, bytes)?;
             walk = item.1;
         }
         bit = std::num::wrapping_add_u64(bit, bit);
         i += 1;
     }
     let behind = item_at(area, walk).0;
-    same & read(area, behind, Call::None, words, bytes)
+    Ok(same & read(rt, area, behind, Call::None, words, bytes)?)
 }
 
 // ---- what is printed behind the calls and the items
 
 // A row of at most 32 bytes.
-fn row(area: &[u8], at: usize) {
+fn row(rt: &impl Print, area: &[u8], at: usize) -> io::Result<()> {
     if at < area.len() {
-        hex(start_of(&area[at..], 32));
-        say(b"\n");
+        hex(rt, start_of(&area[at..], 32))?;
+        say(rt, b"\n")?;
     }
+    Ok(())
 }
 
-fn bytes_of(area: &[u8]) {
+fn bytes_of(rt: &impl Print, area: &[u8]) -> io::Result<()> {
     let mut i = 0;
     while i <= area.len() / 32 {
-        row(area, 32 * i);
+        row(rt, area, 32 * i)?;
         i += 1;
     }
+    Ok(())
 }
 
 // The whole release: the words and bytes are what the calls take their lists from.
-fn release(buf: &mut [u8; ROOM], words: &[u32], bytes: &[u8]) {
-    let accepted = write_all(buf, words, bytes);
-    if read_all(buf, accepted, words, bytes) {
-        say(b"the items are the accepted calls, one for one\n");
+fn release(rt: &impl Print, buf: &mut [u8; ROOM], words: &[u32], bytes: &[u8]) -> io::Result<()> {
+    let accepted = write_all(rt, buf, words, bytes)?;
+    if read_all(rt, buf, accepted, words, bytes)? {
+        say(rt, b"the items are the accepted calls, one for one\n")?;
     } else {
-        say(b"THE ITEMS ARE NOT THE ACCEPTED CALLS\n");
+        say(rt, b"THE ITEMS ARE NOT THE ACCEPTED CALLS\n")?;
     }
-    bytes_of(buf);
-    dump::print(buf);
+    bytes_of(rt, buf)?;
+    dump::print(rt, buf).written
 }
 
-fn main() {
+fn main(rt: HostRuntime) -> io::Result<()> {
     let mut buf = [0u8; ROOM];
     release(
+        &rt,
         &mut buf,
         &[
             // 0 to 5: three lines, a marker in the middle; 6 to 8: their columns
@@ -538,5 +597,5 @@ fn main() {
             0x1004,
         ],
         b"\x00\x01\x02\x03\x04\x05\x06\x07\x08\x09\x0a\x0b\x0c\x0d\x0e\x0f\x10\x11\x12\x13\x14\x15\x16\x17\x18\x19\x1a\x1b\x1c\x1d\x1e\x1f",
-    );
+    )
 }

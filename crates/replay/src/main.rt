@@ -15,13 +15,14 @@ use exports::{
 use files::{FileAnswer, FileStep, checksum_bytes, file_at, next_file};
 use imports::{ImportStep, Resolved, next_import, resolve_import};
 use inlinees::{InlineeStep, next_inlinee};
-use libc::{STDIN_FILENO, STDOUT_FILENO};
 use line_record::{Column, EndLines, Length, LineKind, LineRecord};
 use line_step::LineWalk;
 use line_walk::{LineStep, next_line};
 use modi::{ModuleSizes, Part, SymbolsAnswer, lines_part, module_symbols, tables_part};
 use order::{Ordered, order_list};
 use refusal::Refusal;
+use std::io;
+use std::io::Read;
 use std::num::wrapping_add_u8;
 use strings::{NameAnswer, TableAnswer, name_at, name_bytes, string_table};
 use symbol_lines::{SymbolLines, lines_for_symbol};
@@ -84,6 +85,9 @@ const CASE: u8 = 28;
 
 const READ: u8 = 29;
 
+// No list is longer: what is behind so many bytes is not read.
+const LIST: u64 = 131072;
+
 #[derive(Clone, Copy)]
 struct Call {
     number: u8,
@@ -93,31 +97,30 @@ struct Call {
 
 // ---- pieces of the text
 
-fn say(text: &[u8]) {
-    io::write_all(STDOUT_FILENO, text);
+fn say(rt: &impl Print, text: &[u8]) -> io::Result<()> {
+    rt.write_all(text)
 }
 
-fn put(b: u8) {
-    say(&[b]);
+fn put(rt: &impl Print, b: u8) -> io::Result<()> {
+    say(rt, &[b])
 }
 
-fn hex(n: u64) {
-    io::print_hex(STDOUT_FILENO, n, 1);
+fn hex(rt: &impl Print, n: u64) -> io::Result<()> {
+    print!(rt; "{n:x}")
 }
 
-fn spaced(n: u64) {
-    put(b' ');
-    io::print_decimal(STDOUT_FILENO, n);
+fn spaced(rt: &impl Print, n: u64) -> io::Result<()> {
+    print!(rt; " {n}")
 }
 
-fn spaced_hex(n: u64) {
-    put(b' ');
-    hex(n);
+fn spaced_hex(rt: &impl Print, n: u64) -> io::Result<()> {
+    put(rt, b' ')?;
+    hex(rt, n)
 }
 
-fn dash() {
-    put(b' ');
-    put(b'-');
+fn dash(rt: &impl Print) -> io::Result<()> {
+    put(rt, b' ')?;
+    put(rt, b'-')
 }
 
 // A part of a slice; the empty one where it does not lie there.
@@ -132,115 +135,121 @@ fn part(all: &[u8], start: usize, len: usize) -> &[u8] {
 }
 
 // A term: each has its length in front and takes eight bytes.
-fn term(number: u8) {
+fn term(rt: &impl Print, number: u8) -> io::Result<()> {
     let terms: &[u8] =
         b"\x03sub....\x05order..\x04file...\x04line...\x07inlinee\x06import.\x06import.\x06export.\x07exports\x07symbols\x07program\x05table..\x04info...\x03sym....\x07resolve\x06lookup.\x04name...\x04none...\x03md5....\x04sha1...\x06sha256.\x04type...\x02id.....\x02ex.....\x02st.....\x03yes....\x03end....\x05error..\x04case...\x04read...";
     let at = 8 * (number as usize);
-    say(part(terms, at + 1, u8_at(terms, at) as usize));
+    say(rt, part(terms, at + 1, u8_at(terms, at) as usize))
 }
 
-fn spaced_term(number: u8) {
-    put(b' ');
-    term(number);
+fn spaced_term(rt: &impl Print, number: u8) -> io::Result<()> {
+    put(rt, b' ')?;
+    term(rt, number)
 }
 
 // The last line of a walk.
-fn over() {
-    spaced_term(END);
-    put(b'\n');
+fn over(rt: &impl Print) -> io::Result<()> {
+    spaced_term(rt, END)?;
+    put(rt, b'\n')
 }
 
-fn place(section: u16, offset: u32) {
-    spaced(section as u64);
-    put(b':');
-    hex(offset as u64);
+fn place(rt: &impl Print, section: u16, offset: u32) -> io::Result<()> {
+    spaced(rt, section as u64)?;
+    put(rt, b':')?;
+    hex(rt, offset as u64)
 }
 
-fn byte(b: u8) {
-    io::print_hex(STDOUT_FILENO, b as u64, 2);
+fn byte(rt: &impl Print, b: u8) -> io::Result<()> {
+    print!(rt; "{b:02x}")
 }
 
-fn bytes_text(bytes: &[u8]) {
+fn bytes_text(rt: &impl Print, bytes: &[u8]) -> io::Result<()> {
     if bytes.len() == 0 {
-        dash();
-        return;
+        return dash(rt);
     }
-    put(b' ');
+    put(rt, b' ')?;
     let mut i: usize = 0;
     while i < bytes.len() {
-        byte(bytes[i]);
+        byte(rt, bytes[i])?;
         i += 1;
     }
+    Ok(())
 }
 
 // A refusal: its number, and what it carries or 0.
-fn refused(why: Refusal) {
+fn refused(rt: &impl Print, why: Refusal) -> io::Result<()> {
     let mut words = [0u64; 2];
     put_refusal(&mut words, 0, why);
-    spaced_term(ERROR);
-    spaced(state_word(&words, 0));
-    spaced_hex(state_word(&words, 1));
+    spaced_term(rt, ERROR)?;
+    spaced(rt, state_word(&words, 0))?;
+    spaced_hex(rt, state_word(&words, 1))
 }
 
-fn length(l: Length) {
+fn length(rt: &impl Print, l: Length) -> io::Result<()> {
     match l {
-        Length::Is(n) => spaced(n as u64),
-        Length::Unset => dash(),
+        Length::Is(n) => spaced(rt, n as u64),
+        Length::Unset => dash(rt),
     }
 }
 
-fn column(c: Column) {
+fn column(rt: &impl Print, c: Column) -> io::Result<()> {
     match c {
-        Column::At(n) => spaced(n as u64),
-        Column::None => dash(),
+        Column::At(n) => spaced(rt, n as u64),
+        Column::None => dash(rt),
     }
 }
 
-fn line_kind(k: LineKind) {
+fn line_kind(rt: &impl Print, k: LineKind) -> io::Result<()> {
     match k {
-        LineKind::Statement => spaced_term(STATEMENT),
-        LineKind::Expression => spaced_term(EXPRESSION),
+        LineKind::Statement => spaced_term(rt, STATEMENT),
+        LineKind::Expression => spaced_term(rt, EXPRESSION),
     }
 }
 
-fn record(r: LineRecord) {
+fn record(rt: &impl Print, r: LineRecord) -> io::Result<()> {
     let l = r.length;
     let s = r.column_start;
     let e = r.column_end;
     let k = r.kind;
-    place(r.section, r.offset);
-    length(l);
-    spaced(r.file as u64);
-    spaced(r.start_line as u64);
-    spaced(r.end_line as u64);
-    column(s);
-    column(e);
-    line_kind(k);
-    put(b'\n');
+    place(rt, r.section, r.offset)?;
+    length(rt, l)?;
+    spaced(rt, r.file as u64)?;
+    spaced(rt, r.start_line as u64)?;
+    spaced(rt, r.end_line as u64)?;
+    column(rt, s)?;
+    column(rt, e)?;
+    line_kind(rt, k)?;
+    put(rt, b'\n')
 }
 
-fn checksum(area: &[u8], kind: ChecksumKind, start: usize, len: usize) {
-    spaced_term(wrapping_add_u8(NONE, kind_number(kind)));
-    bytes_text(checksum_bytes(area, start, len));
+fn checksum(
+    rt: &impl Print,
+    area: &[u8],
+    kind: ChecksumKind,
+    start: usize,
+    len: usize,
+) -> io::Result<()> {
+    spaced_term(rt, wrapping_add_u8(NONE, kind_number(kind)))?;
+    bytes_text(rt, checksum_bytes(area, start, len))
 }
 
 // What is asked, at the head of a line.
-fn head(call: Call) {
+fn head(rt: &impl Print, call: Call) -> io::Result<()> {
     let number = call.number;
-    term(number);
+    term(rt, number)?;
     match number {
-        0..=11 => {}
-        SYM => place(call.section, call.word),
-        RESOLVE | LOOKUP => spaced_hex(call.word as u64),
-        _ => spaced(call.word as u64),
+        0..=11 => Ok(()),
+        SYM => place(rt, call.section, call.word),
+        RESOLVE | LOOKUP => spaced_hex(rt, call.word as u64),
+        _ => spaced(rt, call.word as u64),
     }
 }
 
 // A call that is refused.
-fn refused_line(call: Call, why: Refusal) {
-    head(call);
-    refused(why);
-    put(b'\n');
+fn refused_line(rt: &impl Print, call: Call, why: Refusal) -> io::Result<()> {
+    head(rt, call)?;
+    refused(rt, why)?;
+    put(rt, b'\n')
 }
 
 // ---- walks, a line for each step. A proved loop has to end, so it counts its turns down, from a number that no run uses up.
@@ -253,7 +262,7 @@ enum Next {
     Refused(Refusal),
 }
 
-fn file_step(area: &[u8], number: u8, walk: TableWalk) -> Next {
+fn file_step(rt: &impl Print, area: &[u8], number: u8, walk: TableWalk) -> io::Result<Next> {
     match next_file(area, walk) {
         FileStep::File {
             index,
@@ -263,51 +272,51 @@ fn file_step(area: &[u8], number: u8, walk: TableWalk) -> Next {
             len,
             next,
         } => {
-            term(number);
-            spaced(index as u64);
-            spaced(name as u64);
-            checksum(area, kind, start, len);
-            put(b'\n');
-            Next::On(next)
+            term(rt, number)?;
+            spaced(rt, index as u64)?;
+            spaced(rt, name as u64)?;
+            checksum(rt, area, kind, start, len)?;
+            put(rt, b'\n')?;
+            Ok(Next::On(next))
         }
-        FileStep::None => Next::Over,
-        FileStep::Refused(why) => Next::Refused(why),
+        FileStep::None => Ok(Next::Over),
+        FileStep::Refused(why) => Ok(Next::Refused(why)),
     }
 }
 
-fn word_text(answer: WordAnswer, in_hex: bool) {
+fn word_text(rt: &impl Print, answer: WordAnswer, in_hex: bool) -> io::Result<()> {
     match answer {
         WordAnswer::Word(w) => {
             if in_hex {
-                hex(w as u64);
+                hex(rt, w as u64)
             } else {
-                io::print_decimal(STDOUT_FILENO, w as u64);
+                print!(rt; "{w}")
             }
         }
-        WordAnswer::None => dash(),
-        WordAnswer::Refused(why) => refused(why),
+        WordAnswer::None => dash(rt),
+        WordAnswer::Refused(why) => refused(rt, why),
     }
 }
 
 // The words of a record, by their place and number.
-fn words(area: &[u8], at: usize, count: usize, in_hex: bool) {
+fn words(rt: &impl Print, area: &[u8], at: usize, count: usize, in_hex: bool) -> io::Result<()> {
     if count == 0 {
-        dash();
+        dash(rt)?;
     } else {
-        put(b' ');
+        put(rt, b' ')?;
     }
     let mut i: usize = 0;
     while i < count {
         if 0 < i {
-            put(b',');
+            put(rt, b',')?;
         }
-        word_text(word_in(area, at, count, i), in_hex);
+        word_text(rt, word_in(area, at, count, i), in_hex)?;
         i += 1;
     }
-    put(b'\n');
+    put(rt, b'\n')
 }
 
-fn inlinee_step(area: &[u8], number: u8, walk: TableWalk) -> Next {
+fn inlinee_step(rt: &impl Print, area: &[u8], number: u8, walk: TableWalk) -> io::Result<Next> {
     match next_inlinee(area, walk) {
         InlineeStep::Inlinee {
             inlinee,
@@ -317,19 +326,19 @@ fn inlinee_step(area: &[u8], number: u8, walk: TableWalk) -> Next {
             count,
             next,
         } => {
-            term(number);
-            spaced(inlinee as u64);
-            spaced(file as u64);
-            spaced(line as u64);
-            words(area, extra, count, false);
-            Next::On(next)
+            term(rt, number)?;
+            spaced(rt, inlinee as u64)?;
+            spaced(rt, file as u64)?;
+            spaced(rt, line as u64)?;
+            words(rt, area, extra, count, false)?;
+            Ok(Next::On(next))
         }
-        InlineeStep::None => Next::Over,
-        InlineeStep::Refused(why) => Next::Refused(why),
+        InlineeStep::None => Ok(Next::Over),
+        InlineeStep::Refused(why) => Ok(Next::Refused(why)),
     }
 }
 
-fn import_step(area: &[u8], number: u8, walk: TableWalk) -> Next {
+fn import_step(rt: &impl Print, area: &[u8], number: u8, walk: TableWalk) -> io::Result<Next> {
     match next_import(area, walk) {
         ImportStep::Module {
             name,
@@ -338,81 +347,80 @@ fn import_step(area: &[u8], number: u8, walk: TableWalk) -> Next {
             next,
         } => {
             if number == IMPORT {
-                term(number);
-                spaced(name as u64);
-                words(area, at, count, true);
+                term(rt, number)?;
+                spaced(rt, name as u64)?;
+                words(rt, area, at, count, true)?;
             }
-            Next::On(next)
+            Ok(Next::On(next))
         }
-        ImportStep::None => Next::Over,
-        ImportStep::Refused(why) => Next::Refused(why),
+        ImportStep::None => Ok(Next::Over),
+        ImportStep::Refused(why) => Ok(Next::Refused(why)),
     }
 }
 
-fn export_line(kind: u8, local: u32, global: u32) {
-    spaced_term(kind);
-    spaced_hex(local as u64);
-    spaced_hex(global as u64);
-    put(b'\n');
+fn export_line(rt: &impl Print, kind: u8, local: u32, global: u32) -> io::Result<()> {
+    spaced_term(rt, kind)?;
+    spaced_hex(rt, local as u64)?;
+    spaced_hex(rt, global as u64)?;
+    put(rt, b'\n')
 }
 
-fn export_text(export: CrossModuleExport) {
+fn export_text(rt: &impl Print, export: CrossModuleExport) -> io::Result<()> {
     match export {
-        CrossModuleExport::Type { local, global } => export_line(TYPE, local, global),
-        CrossModuleExport::Id { local, global } => export_line(ID, local, global),
+        CrossModuleExport::Type { local, global } => export_line(rt, TYPE, local, global),
+        CrossModuleExport::Id { local, global } => export_line(rt, ID, local, global),
     }
 }
 
-fn export_step(area: &[u8], number: u8, walk: TableWalk) -> Next {
+fn export_step(rt: &impl Print, area: &[u8], number: u8, walk: TableWalk) -> io::Result<Next> {
     match next_export(area, walk) {
         ExportStep::Export { export, next } => {
-            term(number);
-            export_text(export);
-            Next::On(next)
+            term(rt, number)?;
+            export_text(rt, export)?;
+            Ok(Next::On(next))
         }
-        ExportStep::None => Next::Over,
-        ExportStep::Refused(why) => Next::Refused(why),
+        ExportStep::None => Ok(Next::Over),
+        ExportStep::Refused(why) => Ok(Next::Refused(why)),
     }
 }
 
-fn table_step(area: &[u8], number: u8, walk: TableWalk) -> Next {
+fn table_step(rt: &impl Print, area: &[u8], number: u8, walk: TableWalk) -> io::Result<Next> {
     match number {
-        FILE => file_step(area, number, walk),
-        INLINEE => inlinee_step(area, number, walk),
-        EXPORT => export_step(area, number, walk),
-        _ => import_step(area, number, walk),
+        FILE => file_step(rt, area, number, walk),
+        INLINEE => inlinee_step(rt, area, number, walk),
+        EXPORT => export_step(rt, area, number, walk),
+        _ => import_step(rt, area, number, walk),
     }
 }
 
-fn table_walk(area: &[u8], number: u8) {
+fn table_walk(rt: &impl Print, area: &[u8], number: u8) -> io::Result<()> {
     let mut walk = TableWalk::New;
     let mut turns = u64::MAX;
     while turns > 0 {
-        match table_step(area, number, walk) {
+        match table_step(rt, area, number, walk)? {
             Next::On(next) => {
                 walk = next;
             }
             Next::Over => {
-                term(number);
-                over();
-                return;
+                term(rt, number)?;
+                return over(rt);
             }
             Next::Refused(why) => {
-                term(number);
-                refused(why);
-                put(b'\n');
-                return;
+                term(rt, number)?;
+                refused(rt, why)?;
+                return put(rt, b'\n');
             }
         }
         turns -= 1;
     }
+    Ok(())
 }
 
-fn sub_walk(area: &[u8]) {
+fn sub_walk(rt: &impl Print, area: &[u8]) -> io::Result<()> {
     let mut at: usize = 0;
     let mut turns = u64::MAX;
     while turns > 0 {
-        term(SUB);
+        term(rt, SUB)?;
         match sub_at(area, at) {
             SubStep::Sub {
                 kind,
@@ -420,104 +428,109 @@ fn sub_walk(area: &[u8]) {
                 len,
                 next,
             } => {
-                spaced_hex(kind as u64);
-                spaced(start as u64);
-                spaced(len as u64);
-                put(b'\n');
+                spaced_hex(rt, kind as u64)?;
+                spaced(rt, start as u64)?;
+                spaced(rt, len as u64)?;
+                put(rt, b'\n')?;
                 at = next;
             }
             SubStep::None => {
-                over();
-                return;
+                return over(rt);
             }
             SubStep::Refused(why) => {
-                refused(why);
-                put(b'\n');
-                return;
+                refused(rt, why)?;
+                return put(rt, b'\n');
             }
         }
         turns -= 1;
     }
+    Ok(())
 }
 
-fn line_walk(area: &[u8], slots: &[u32], call: Call, first: LineWalk) {
+fn line_walk(
+    rt: &impl Print,
+    area: &[u8],
+    slots: &[u32],
+    call: Call,
+    first: LineWalk,
+) -> io::Result<()> {
     let mut walk = first;
     let mut turns = u64::MAX;
     while turns > 0 {
-        head(call);
+        head(rt, call)?;
         match next_line(area, slots, walk) {
             LineStep::Line(r, next) => {
-                record(r);
+                record(rt, r)?;
                 walk = next;
             }
             LineStep::None => {
-                over();
-                return;
+                return over(rt);
             }
             LineStep::Refused(why) => {
-                refused(why);
-                put(b'\n');
-                return;
+                refused(rt, why)?;
+                return put(rt, b'\n');
             }
         }
         turns -= 1;
     }
+    Ok(())
 }
 
 // No case has as many line subsections as there are slots here.
-fn lines(area: &[u8], call: Call) {
+fn lines(rt: &impl Print, area: &[u8], call: Call) -> io::Result<()> {
     let mut slots = [0u32; 256];
     order_list(area, &mut slots);
     if call.number == LINE {
-        line_walk(area, &slots, call, LineWalk::New(EndLines::Crate));
-        return;
+        return line_walk(rt, area, &slots, call, LineWalk::New(EndLines::Crate));
     }
     match lines_for_symbol(area, &slots, &[], call.section, call.word, EndLines::Crate) {
-        SymbolLines::Lines(walk) => line_walk(area, &slots, call, walk),
-        SymbolLines::Refused(why) => refused_line(call, why),
+        SymbolLines::Lines(walk) => line_walk(rt, area, &slots, call, walk),
+        SymbolLines::Refused(why) => refused_line(rt, call, why),
     }
 }
 
 // ---- answers of one line
 
-fn slot(s: u32) {
-    spaced(s as u64);
+fn slot(rt: &impl Print, s: u32) -> io::Result<()> {
+    spaced(rt, s as u64)
 }
 
-fn slots_text(slots: &[u32], n: usize) {
+fn slots_text(rt: &impl Print, slots: &[u32], n: usize) -> io::Result<()> {
     if n == 0 {
-        dash();
+        dash(rt)?;
     }
     let mut i: usize = 0;
     while i < n && i < slots.len() {
-        slot(slots[i]);
+        slot(rt, slots[i])?;
         i += 1;
     }
+    Ok(())
 }
 
 // The order list, or whether there is one.
-fn order_answer(area: &[u8], listed: bool) {
+fn order_answer(rt: &impl Print, area: &[u8], listed: bool) -> io::Result<()> {
     let mut slots = [0u32; 256];
     match order_list(area, &mut slots) {
         Ordered::Lines(n) => {
             if listed {
-                slots_text(&slots, n);
+                slots_text(rt, &slots, n)?;
             } else {
-                spaced_term(YES);
+                spaced_term(rt, YES)?;
             }
+            Ok(())
         }
-        Ordered::Refused(why) => refused(why),
+        Ordered::Refused(why) => refused(rt, why),
     }
 }
 
-fn symbols_answer(stream: &[u8], sizes: ModuleSizes) {
+fn symbols_answer(rt: &impl Print, stream: &[u8], sizes: ModuleSizes) -> io::Result<()> {
     match module_symbols(stream, sizes) {
-        SymbolsAnswer::Yes => spaced_term(YES),
-        SymbolsAnswer::Refused(why) => refused(why),
+        SymbolsAnswer::Yes => spaced_term(rt, YES),
+        SymbolsAnswer::Refused(why) => refused(rt, why),
     }
 }
 
-fn file_answer(area: &[u8], index: u32) {
+fn file_answer(rt: &impl Print, area: &[u8], index: u32) -> io::Result<()> {
     match file_at(area, index) {
         FileAnswer::File {
             name,
@@ -525,116 +538,121 @@ fn file_answer(area: &[u8], index: u32) {
             start,
             len,
         } => {
-            spaced(name as u64);
-            checksum(area, kind, start, len);
+            spaced(rt, name as u64)?;
+            checksum(rt, area, kind, start, len)
         }
-        FileAnswer::Refused(why) => refused(why),
+        FileAnswer::Refused(why) => refused(rt, why),
     }
 }
 
-fn reference_answer(area: &[u8], index: u32) {
+fn reference_answer(rt: &impl Print, area: &[u8], index: u32) -> io::Result<()> {
     match resolve_import(area, index) {
         Resolved::Ref { name, word } => {
-            spaced(name as u64);
-            spaced_hex(word as u64);
+            spaced(rt, name as u64)?;
+            spaced_hex(rt, word as u64)
         }
-        Resolved::Refused(why) => refused(why),
+        Resolved::Refused(why) => refused(rt, why),
     }
 }
 
-fn count_answer(area: &[u8]) {
+fn count_answer(rt: &impl Print, area: &[u8]) -> io::Result<()> {
     match export_count(area) {
-        Count::Exports(n) => spaced(n as u64),
-        Count::Refused(why) => refused(why),
+        Count::Exports(n) => spaced(rt, n as u64),
+        Count::Refused(why) => refused(rt, why),
     }
 }
 
-fn export_answer(area: &[u8], local: u32) {
+fn export_answer(rt: &impl Print, area: &[u8], local: u32) -> io::Result<()> {
     match resolve_export(area, local) {
-        Lookup::Global(global) => spaced_hex(global as u64),
-        Lookup::None => spaced_term(NONE),
-        Lookup::Refused(why) => refused(why),
+        Lookup::Global(global) => spaced_hex(rt, global as u64),
+        Lookup::None => spaced_term(rt, NONE),
+        Lookup::Refused(why) => refused(rt, why),
     }
 }
 
-fn table_answer(stream: &[u8]) {
+fn table_answer(rt: &impl Print, stream: &[u8]) -> io::Result<()> {
     match string_table(stream) {
-        TableAnswer::Names { start: _, len: _ } => spaced_term(YES),
-        TableAnswer::Refused(why) => refused(why),
+        TableAnswer::Names { start: _, len: _ } => spaced_term(rt, YES),
+        TableAnswer::Refused(why) => refused(rt, why),
     }
 }
 
-fn name_answer(stream: &[u8], offset: u32) {
+fn name_answer(rt: &impl Print, stream: &[u8], offset: u32) -> io::Result<()> {
     match name_at(stream, offset) {
-        NameAnswer::At { start: _, len: _ } => bytes_text(name_bytes(stream, offset)),
-        NameAnswer::Refused(why) => refused(why),
+        NameAnswer::At { start: _, len: _ } => bytes_text(rt, name_bytes(stream, offset)),
+        NameAnswer::Refused(why) => refused(rt, why),
     }
 }
 
 // ---- cases
 
 // The answers of one line, of an area.
-fn area_line(area: &[u8], call: Call) {
+fn area_line(rt: &impl Print, area: &[u8], call: Call) -> io::Result<()> {
     let number = call.number;
-    head(call);
+    head(rt, call)?;
     match number {
-        ORDER => order_answer(area, true),
-        PROGRAM => order_answer(area, false),
-        INFO => file_answer(area, call.word),
-        RESOLVE => reference_answer(area, call.word),
-        EXPORTS => count_answer(area),
-        _ => export_answer(area, call.word),
+        ORDER => order_answer(rt, area, true)?,
+        PROGRAM => order_answer(rt, area, false)?,
+        INFO => file_answer(rt, area, call.word)?,
+        RESOLVE => reference_answer(rt, area, call.word)?,
+        EXPORTS => count_answer(rt, area)?,
+        _ => export_answer(rt, area, call.word)?,
     }
-    put(b'\n');
+    put(rt, b'\n')
 }
 
 // The answers of one line, of a stream as a whole: a module's, or a string table.
-fn stream_line(stream: &[u8], sizes: ModuleSizes, call: Call) {
+fn stream_line(rt: &impl Print, stream: &[u8], sizes: ModuleSizes, call: Call) -> io::Result<()> {
     let number = call.number;
-    head(call);
+    head(rt, call)?;
     match number {
-        SYMBOLS => symbols_answer(stream, sizes),
-        TABLE => table_answer(stream),
-        _ => name_answer(stream, call.word),
+        SYMBOLS => symbols_answer(rt, stream, sizes)?,
+        TABLE => table_answer(rt, stream)?,
+        _ => name_answer(rt, stream, call.word)?,
     }
-    put(b'\n');
+    put(rt, b'\n')
 }
 
 // The answer of a call on an area.
-fn area_answer(area: &[u8], call: Call) {
+fn area_answer(rt: &impl Print, area: &[u8], call: Call) -> io::Result<()> {
     let number = call.number;
     match number {
-        LINE | SYM => lines(area, call),
-        FILE | INLINEE | IMPORT | IMPORT_REFUSED | EXPORT => table_walk(area, number),
-        _ => area_line(area, call),
+        LINE | SYM => lines(rt, area, call),
+        FILE | INLINEE | IMPORT | IMPORT_REFUSED | EXPORT => table_walk(rt, area, number),
+        _ => area_line(rt, area, call),
     }
 }
 
 // A call on a module's tables, as one on the part of its stream that they are read from.
-fn on_tables_part(stream: &[u8], sizes: ModuleSizes, call: Call) {
+fn on_tables_part(
+    rt: &impl Print,
+    stream: &[u8],
+    sizes: ModuleSizes,
+    call: Call,
+) -> io::Result<()> {
     match tables_part(stream, sizes) {
-        Part::At { start, len } => area_answer(&stream[start..start + len], call),
-        Part::Refused(why) => refused_line(call, why),
+        Part::At { start, len } => area_answer(rt, &stream[start..start + len], call),
+        Part::Refused(why) => refused_line(rt, call, why),
     }
 }
 
 // A call on a module's lines or files, as one on the part of its stream that they are read from.
-fn on_lines_part(stream: &[u8], sizes: ModuleSizes, call: Call) {
+fn on_lines_part(rt: &impl Print, stream: &[u8], sizes: ModuleSizes, call: Call) -> io::Result<()> {
     match lines_part(stream, sizes) {
-        Part::At { start, len } => area_answer(&stream[start..start + len], call),
-        Part::Refused(why) => refused_line(call, why),
+        Part::At { start, len } => area_answer(rt, &stream[start..start + len], call),
+        Part::Refused(why) => refused_line(rt, call, why),
     }
 }
 
-fn answer(stream: &[u8], sizes: ModuleSizes, call: Call) {
+fn answer(rt: &impl Print, stream: &[u8], sizes: ModuleSizes, call: Call) -> io::Result<()> {
     let number = call.number;
     match number {
-        SUB => sub_walk(stream),
-        ORDER | FILE | LINE | PROGRAM | INFO | SYM => on_lines_part(stream, sizes, call),
+        SUB => sub_walk(rt, stream),
+        ORDER | FILE | LINE | PROGRAM | INFO | SYM => on_lines_part(rt, stream, sizes, call),
         INLINEE | IMPORT | IMPORT_REFUSED | EXPORT | EXPORTS | RESOLVE | LOOKUP => {
-            on_tables_part(stream, sizes, call)
+            on_tables_part(rt, stream, sizes, call)
         }
-        _ => stream_line(stream, sizes, call),
+        _ => stream_line(rt, stream, sizes, call),
     }
 }
 
@@ -647,34 +665,44 @@ fn after(at: usize, n: usize) -> usize {
 }
 
 // Answers the call at a place of the list, and where the next one stands.
-fn call_at(list: &[u8], at: usize, stream: &[u8], sizes: ModuleSizes) -> usize {
+fn call_at(
+    rt: &impl Print,
+    list: &[u8],
+    at: usize,
+    stream: &[u8],
+    sizes: ModuleSizes,
+) -> io::Result<usize> {
     let number = u8_at(list, at);
     let call = Call {
         number,
         word: u32_at(list, after(at, 1)),
         section: u16_at(list, after(at, 5)),
     };
-    answer(stream, sizes, call);
-    if number < INFO {
-        after(at, 1)
-    } else {
-        after(at, 7)
-    }
+    answer(rt, stream, sizes, call)?;
+    let size = if number < INFO { 1 } else { 7 };
+    Ok(after(at, size))
 }
 
-fn calls_at(list: &[u8], first: usize, count: u8, stream: &[u8], sizes: ModuleSizes) -> usize {
+fn calls_at(
+    rt: &impl Print,
+    list: &[u8],
+    first: usize,
+    count: u8,
+    stream: &[u8],
+    sizes: ModuleSizes,
+) -> io::Result<usize> {
     let mut at = first;
     let mut i: u8 = 0;
     while i < count {
-        at = call_at(list, at, stream, sizes);
+        at = call_at(rt, list, at, stream, sizes)?;
         i += 1;
     }
-    put(b'\n');
-    at
+    put(rt, b'\n')?;
+    Ok(at)
 }
 
 // Answers the case at a place of the list, and where the next one stands.
-fn case_at(list: &[u8], at: usize, i: u32) -> usize {
+fn case_at(rt: &impl Print, list: &[u8], at: usize, i: u32) -> io::Result<usize> {
     let start = after(at, 15);
     let len = u16_at(list, after(at, 1)) as usize;
     let stream = part(list, start, len);
@@ -683,31 +711,31 @@ fn case_at(list: &[u8], at: usize, i: u32) -> usize {
         c11: u32_at(list, after(at, 7)),
         c13: u32_at(list, after(at, 11)),
     };
-    term(CASE);
-    spaced(i as u64);
-    spaced(stream.len() as u64);
-    put(b'\n');
-    calls_at(list, after(start, len), u8_at(list, at), stream, sizes)
+    term(rt, CASE)?;
+    spaced(rt, i as u64)?;
+    spaced(rt, stream.len() as u64)?;
+    put(rt, b'\n')?;
+    calls_at(rt, list, after(start, len), u8_at(list, at), stream, sizes)
 }
 
 // The last line: how many cases and how many bytes of the list were read, and how many bytes there are.
-fn cases(list: &[u8]) {
+fn cases(rt: &impl Print, list: &[u8]) -> io::Result<()> {
     let count = u32_at(list, 0);
     let mut at: usize = 4;
     let mut i: u32 = 0;
     while i < count {
         i += 1;
-        at = case_at(list, at, i);
+        at = case_at(rt, list, at, i)?;
     }
-    term(READ);
-    spaced(count as u64);
-    spaced(at as u64);
-    spaced(list.len() as u64);
-    put(b'\n');
+    term(rt, READ)?;
+    spaced(rt, count as u64)?;
+    spaced(rt, at as u64)?;
+    spaced(rt, list.len() as u64)?;
+    put(rt, b'\n')
 }
 
-fn main() {
-    let mut list = [0u8; 131072];
-    let len = io::read_full(STDIN_FILENO, &mut list);
-    cases(&list[..len]);
+fn main(rt: HostRuntime) -> io::Result<()> {
+    let mut list = Vec::new(rt.alloc());
+    rt.reader().take(LIST).read_to_end(&mut list)?;
+    cases(&rt, &list)
 }

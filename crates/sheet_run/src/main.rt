@@ -8,7 +8,6 @@ use exports::{Count, ExportStep, Lookup};
 use files::{FileAnswer, FileStep};
 use imports::{ImportStep, Resolved};
 use inlinees::InlineeStep;
-use libc::STDOUT_FILENO;
 use line_record::{EndLines, Entry, Length, LineKind, LineRecord, LineSource};
 use line_step::LineWalk;
 use line_walk::LineStep;
@@ -17,38 +16,38 @@ use modi::{ModuleSizes, Part, SymbolsAnswer};
 use order::Ordered;
 use reading_record::{ItemStep, ItemWalk};
 use refusal::Refusal;
+use std::io;
 use strings::NameAnswer;
 use table::TableWalk;
 use writer::Wrote;
 
-fn say(text: &[u8]) {
-    io::write_all(STDOUT_FILENO, text);
+fn say(rt: &impl Print, text: &[u8]) -> io::Result<()> {
+    rt.write_all(text)
 }
 
-fn number(n: u64) {
-    io::print_decimal(STDOUT_FILENO, n);
-    say(b" ");
+fn number(rt: &impl Print, n: u64) -> io::Result<()> {
+    print!(rt; "{n} ")
 }
 
-fn end() {
-    say(b"\n");
+fn end(rt: &impl Print) -> io::Result<()> {
+    say(rt, b"\n")
 }
 
-fn refused(why: Refusal) {
-    say(b"refused ");
-    number(refusal::number(why));
+fn refused(rt: &impl Print, why: Refusal) -> io::Result<()> {
+    say(rt, b"refused ")?;
+    number(rt, refusal::number(why))?;
     match why {
-        Refusal::UnknownKind(kind) => number(kind as u64),
-        Refusal::UnknownChecksumKind(kind) => number(kind as u64),
-        Refusal::NotACrossModuleRef(index) => number(index as u64),
-        Refusal::CrossModuleRefNotFound(index) => number(index as u64),
-        Refusal::NoFile(index) => number(index as u64),
-        _ => {}
+        Refusal::UnknownKind(kind) => number(rt, kind as u64),
+        Refusal::UnknownChecksumKind(kind) => number(rt, kind as u64),
+        Refusal::NotACrossModuleRef(index) => number(rt, index as u64),
+        Refusal::CrossModuleRefNotFound(index) => number(rt, index as u64),
+        Refusal::NoFile(index) => number(rt, index as u64),
+        _ => Ok(()),
     }
 }
 
 // One step of a walk over subsections: kind, start and length.
-fn sub_step(area: &[u8], walk: SubWalk) -> SubWalk {
+fn sub_step(rt: &impl Print, area: &[u8], walk: SubWalk) -> io::Result<SubWalk> {
     let stepped = walk.step(area);
     let step = stepped.step;
     match step {
@@ -58,46 +57,46 @@ fn sub_step(area: &[u8], walk: SubWalk) -> SubWalk {
             len,
             next: _,
         } => {
-            say(b"sub ");
-            number(kind as u64);
-            number(start as u64);
-            number(len as u64);
+            say(rt, b"sub ")?;
+            number(rt, kind as u64)?;
+            number(rt, start as u64)?;
+            number(rt, len as u64)?;
         }
-        SubStep::None => say(b"none "),
-        SubStep::Refused(why) => refused(why),
+        SubStep::None => say(rt, b"none ")?,
+        SubStep::Refused(why) => refused(rt, why)?,
     }
-    stepped.walk
+    Ok(stepped.walk)
 }
 
-fn subsections(area: &[u8]) {
-    let first = sub_step(area, SubWalk::new());
-    let second = sub_step(area, first);
-    sub_step(area, second);
-    end();
+fn subsections(rt: &impl Print, area: &[u8]) -> io::Result<()> {
+    let first = sub_step(rt, area, SubWalk::new())?;
+    let second = sub_step(rt, area, first)?;
+    sub_step(rt, area, second)?;
+    end(rt)
 }
 
-fn kind(k: LineKind) {
+fn kind(rt: &impl Print, k: LineKind) -> io::Result<()> {
     match k {
-        LineKind::Statement => say(b"statement "),
-        LineKind::Expression => say(b"expression "),
+        LineKind::Statement => say(rt, b"statement "),
+        LineKind::Expression => say(rt, b"expression "),
     }
 }
 
 // A record: offset, length, lines, kind.
-fn line(r: LineRecord) {
-    number(r.offset as u64);
+fn line(rt: &impl Print, r: LineRecord) -> io::Result<()> {
+    number(rt, r.offset as u64)?;
     let length = r.length;
     match length {
-        Length::Is(n) => number(n as u64),
-        Length::Unset => say(b"- "),
+        Length::Is(n) => number(rt, n as u64)?,
+        Length::Unset => say(rt, b"- ")?,
     }
-    number(r.start_line as u64);
-    number(r.end_line as u64);
+    number(rt, r.start_line as u64)?;
+    number(rt, r.end_line as u64)?;
     let k = r.kind;
-    kind(k);
+    kind(rt, k)
 }
 
-fn flags(word: u32) {
+fn flags(rt: &impl Print, word: u32) -> io::Result<()> {
     let source = LineSource {
         section: 1,
         base: 0,
@@ -107,14 +106,14 @@ fn flags(word: u32) {
         body: LineRecord::NO_POSITION,
     };
     match line_record::entry_of(source, 0, word, 0) {
-        Entry::Line(r) => line(r),
-        Entry::Marker => say(b"marker "),
-        Entry::Refused(why) => refused(why),
+        Entry::Line(r) => line(rt, r)?,
+        Entry::Marker => say(rt, b"marker ")?,
+        Entry::Refused(why) => refused(rt, why)?,
     }
-    end();
+    end(rt)
 }
 
-fn block(body: &[u8], columns: bool) {
+fn block(rt: &impl Print, body: &[u8], columns: bool) -> io::Result<()> {
     match lines::block_at(body, 0, columns) {
         BlockStep::Block {
             file,
@@ -122,57 +121,57 @@ fn block(body: &[u8], columns: bool) {
             start: _,
             next,
         } => {
-            say(b"block ");
-            number(file as u64);
-            number(count as u64);
-            number(next as u64);
+            say(rt, b"block ")?;
+            number(rt, file as u64)?;
+            number(rt, count as u64)?;
+            number(rt, next as u64)?;
         }
-        BlockStep::None => say(b"none "),
-        BlockStep::Refused(why) => refused(why),
+        BlockStep::None => say(rt, b"none ")?,
+        BlockStep::Refused(why) => refused(rt, why)?,
     }
-    end();
+    end(rt)
 }
 
-fn resolve(area: &[u8], index: u32) {
+fn resolve(rt: &impl Print, area: &[u8], index: u32) -> io::Result<()> {
     match imports::resolve_import(area, index) {
         Resolved::Ref { name, word } => {
-            number(name as u64);
-            number(word as u64);
+            number(rt, name as u64)?;
+            number(rt, word as u64)?;
         }
-        Resolved::Refused(why) => refused(why),
+        Resolved::Refused(why) => refused(rt, why)?,
     }
-    end();
+    end(rt)
 }
 
-fn count(area: &[u8]) {
+fn count(rt: &impl Print, area: &[u8]) -> io::Result<()> {
     match exports::export_count(area) {
-        Count::Exports(n) => number(n as u64),
-        Count::Refused(why) => refused(why),
+        Count::Exports(n) => number(rt, n as u64)?,
+        Count::Refused(why) => refused(rt, why)?,
     }
-    end();
+    end(rt)
 }
 
-fn lookup(area: &[u8], local: u32) {
+fn lookup(rt: &impl Print, area: &[u8], local: u32) -> io::Result<()> {
     match exports::resolve_export(area, local) {
-        Lookup::Global(global) => number(global as u64),
-        Lookup::None => say(b"none "),
-        Lookup::Refused(why) => refused(why),
+        Lookup::Global(global) => number(rt, global as u64)?,
+        Lookup::None => say(rt, b"none ")?,
+        Lookup::Refused(why) => refused(rt, why)?,
     }
-    end();
+    end(rt)
 }
 
-fn sum(kind: ChecksumKind, start: usize, len: usize) {
+fn sum(rt: &impl Print, kind: ChecksumKind, start: usize, len: usize) -> io::Result<()> {
     match kind {
-        ChecksumKind::None => say(b"none "),
-        ChecksumKind::Md5 => say(b"md5 "),
-        ChecksumKind::Sha1 => say(b"sha1 "),
-        ChecksumKind::Sha256 => say(b"sha256 "),
+        ChecksumKind::None => say(rt, b"none ")?,
+        ChecksumKind::Md5 => say(rt, b"md5 ")?,
+        ChecksumKind::Sha1 => say(rt, b"sha1 ")?,
+        ChecksumKind::Sha256 => say(rt, b"sha256 ")?,
     }
-    number(start as u64);
-    number(len as u64);
+    number(rt, start as u64)?;
+    number(rt, len as u64)
 }
 
-fn entry(body: &[u8], at: usize) {
+fn entry(rt: &impl Print, body: &[u8], at: usize) -> io::Result<()> {
     match checksums::entry_at(body, at) {
         EntryStep::Entry {
             name,
@@ -181,18 +180,18 @@ fn entry(body: &[u8], at: usize) {
             len,
             next,
         } => {
-            number(name as u64);
-            sum(kind, start, len);
-            say(b"next ");
-            number(next as u64);
+            number(rt, name as u64)?;
+            sum(rt, kind, start, len)?;
+            say(rt, b"next ")?;
+            number(rt, next as u64)?;
         }
-        EntryStep::None => say(b"none "),
-        EntryStep::Refused(why) => refused(why),
+        EntryStep::None => say(rt, b"none ")?,
+        EntryStep::Refused(why) => refused(rt, why)?,
     }
-    end();
+    end(rt)
 }
 
-fn file(area: &[u8], index: u32) {
+fn file(rt: &impl Print, area: &[u8], index: u32) -> io::Result<()> {
     match files::file_at(area, index) {
         FileAnswer::File {
             name,
@@ -200,403 +199,449 @@ fn file(area: &[u8], index: u32) {
             start,
             len,
         } => {
-            number(name as u64);
-            sum(kind, start, len);
+            number(rt, name as u64)?;
+            sum(rt, kind, start, len)?;
         }
-        FileAnswer::Refused(why) => refused(why),
+        FileAnswer::Refused(why) => refused(rt, why)?,
     }
-    end();
+    end(rt)
 }
 
 // One step of a line walk.
-fn line_step(area: &[u8], slots: &[u32], walk: LineWalk) -> LineWalk {
+fn line_step(rt: &impl Print, area: &[u8], slots: &[u32], walk: LineWalk) -> io::Result<LineWalk> {
     match line_walk::next_line(area, slots, walk) {
         LineStep::Line(r, next) => {
-            line(r);
-            next
+            line(rt, r)?;
+            Ok(next)
         }
         LineStep::None => {
-            say(b"none ");
-            walk
+            say(rt, b"none ")?;
+            Ok(walk)
         }
         LineStep::Refused(why) => {
-            refused(why);
-            walk
+            refused(rt, why)?;
+            Ok(walk)
         }
     }
 }
 
-fn steps(area: &[u8], slots: &[u32]) {
-    let first = line_step(area, slots, LineWalk::New(EndLines::Crate));
-    let second = line_step(area, slots, first);
-    line_step(area, slots, second);
+fn steps(rt: &impl Print, area: &[u8], slots: &[u32]) -> io::Result<()> {
+    let first = line_step(rt, area, slots, LineWalk::New(EndLines::Crate))?;
+    let second = line_step(rt, area, slots, first)?;
+    line_step(rt, area, slots, second)?;
+    Ok(())
 }
 
 // The order list, and three steps over it.
-fn walk(area: &[u8], slots: &mut [u32]) {
+fn walk(rt: &impl Print, area: &[u8], slots: &mut [u32]) -> io::Result<()> {
     match order::order_list(area, slots) {
         Ordered::Lines(n) => {
-            number(n as u64);
-            steps(area, slots);
+            number(rt, n as u64)?;
+            steps(rt, area, slots)?;
         }
-        Ordered::Refused(why) => refused(why),
+        Ordered::Refused(why) => refused(rt, why)?,
     }
-    end();
+    end(rt)
 }
 
 // The order list in two slots, and three steps over it.
-fn walked(area: &[u8]) {
+fn walked(rt: &impl Print, area: &[u8]) -> io::Result<()> {
     let mut slots = [0u32; 2];
-    walk(area, &mut slots);
+    walk(rt, area, &mut slots)
 }
 
 // Three steps over slots that nobody filled.
-fn forged(area: &[u8]) {
+fn forged(rt: &impl Print, area: &[u8]) -> io::Result<()> {
     let slots = [0u32; 2];
-    steps(area, &slots);
-    end();
+    steps(rt, area, &slots)?;
+    end(rt)
 }
 
 // What the walks over an area's tables answer first, and the full reading.
-fn first_file(area: &[u8]) {
+fn first_file(rt: &impl Print, area: &[u8]) -> io::Result<()> {
     match files::next_file(area, TableWalk::New) {
-        FileStep::None => say(b"none "),
-        FileStep::Refused(why) => refused(why),
-        _ => say(b"a file "),
+        FileStep::None => say(rt, b"none "),
+        FileStep::Refused(why) => refused(rt, why),
+        _ => say(rt, b"a file "),
     }
 }
 
-fn first_inlinee(area: &[u8]) {
+fn first_inlinee(rt: &impl Print, area: &[u8]) -> io::Result<()> {
     match inlinees::next_inlinee(area, TableWalk::New) {
-        InlineeStep::None => say(b"none "),
-        InlineeStep::Refused(why) => refused(why),
-        _ => say(b"an inlinee "),
+        InlineeStep::None => say(rt, b"none "),
+        InlineeStep::Refused(why) => refused(rt, why),
+        _ => say(rt, b"an inlinee "),
     }
 }
 
-fn first_import(area: &[u8]) {
+fn first_import(rt: &impl Print, area: &[u8]) -> io::Result<()> {
     match imports::next_import(area, TableWalk::New) {
-        ImportStep::None => say(b"none "),
-        ImportStep::Refused(why) => refused(why),
-        _ => say(b"a module "),
+        ImportStep::None => say(rt, b"none "),
+        ImportStep::Refused(why) => refused(rt, why),
+        _ => say(rt, b"a module "),
     }
 }
 
-fn first_export(area: &[u8]) {
+fn first_export(rt: &impl Print, area: &[u8]) -> io::Result<()> {
     match exports::next_export(area, TableWalk::New) {
-        ExportStep::None => say(b"none "),
-        ExportStep::Refused(why) => refused(why),
-        _ => say(b"an export "),
+        ExportStep::None => say(rt, b"none "),
+        ExportStep::Refused(why) => refused(rt, why),
+        _ => say(rt, b"an export "),
     }
 }
 
-fn first_item(area: &[u8]) {
+fn first_item(rt: &impl Print, area: &[u8]) -> io::Result<()> {
     match reading_walk::next_item(area, ItemWalk::new()) {
-        ItemStep::None => say(b"none "),
-        ItemStep::Refused(why) => refused(why),
-        _ => say(b"an item "),
+        ItemStep::None => say(rt, b"none "),
+        ItemStep::Refused(why) => refused(rt, why),
+        _ => say(rt, b"an item "),
     }
 }
 
-fn firsts(area: &[u8]) {
-    first_file(area);
-    first_inlinee(area);
-    first_import(area);
-    first_export(area);
-    first_item(area);
-    end();
+fn firsts(rt: &impl Print, area: &[u8]) -> io::Result<()> {
+    first_file(rt, area)?;
+    first_inlinee(rt, area)?;
+    first_import(rt, area)?;
+    first_export(rt, area)?;
+    first_item(rt, area)?;
+    end(rt)
 }
 
-fn name(stream: &[u8], offset: u32) {
+fn name(rt: &impl Print, stream: &[u8], offset: u32) -> io::Result<()> {
     match strings::name_at(stream, offset) {
         NameAnswer::At { start, len } => {
-            number(start as u64);
-            number(len as u64);
-            say(strings::name_bytes(stream, offset));
+            number(rt, start as u64)?;
+            number(rt, len as u64)?;
+            say(rt, strings::name_bytes(stream, offset))?;
         }
-        NameAnswer::Refused(why) => refused(why),
+        NameAnswer::Refused(why) => refused(rt, why)?,
     }
-    end();
+    end(rt)
 }
 
-fn symbols(stream: &[u8], symbols: u32, c11: u32, c13: u32) {
+fn symbols(rt: &impl Print, stream: &[u8], symbols: u32, c11: u32, c13: u32) -> io::Result<()> {
     match modi::module_symbols(stream, ModuleSizes { symbols, c11, c13 }) {
-        SymbolsAnswer::Yes => say(b"yes"),
-        SymbolsAnswer::Refused(why) => refused(why),
+        SymbolsAnswer::Yes => say(rt, b"yes")?,
+        SymbolsAnswer::Refused(why) => refused(rt, why)?,
     }
-    end();
+    end(rt)
 }
 
-fn lines_of(stream: &[u8], symbols: u32, c11: u32, c13: u32) {
+fn lines_of(rt: &impl Print, stream: &[u8], symbols: u32, c11: u32, c13: u32) -> io::Result<()> {
     match modi::lines_part(stream, ModuleSizes { symbols, c11, c13 }) {
         Part::At { start, len } => {
-            number(start as u64);
-            number(len as u64);
+            number(rt, start as u64)?;
+            number(rt, len as u64)?;
         }
-        Part::Refused(why) => refused(why),
+        Part::Refused(why) => refused(rt, why)?,
     }
-    end();
+    end(rt)
 }
 
-fn wrote(w: Wrote) -> usize {
+fn wrote(rt: &impl Print, w: Wrote) -> io::Result<usize> {
     match w {
         Wrote::To(at) => {
-            number(at as u64);
-            end();
-            at
+            number(rt, at as u64)?;
+            end(rt)?;
+            Ok(at)
         }
         Wrote::Refused(why) => {
-            refused(why);
-            end();
-            0
+            refused(rt, why)?;
+            end(rt)?;
+            Ok(0)
         }
     }
 }
 
-fn area_lines() {
-    say(b"empty area: ");
-    subsections(b"");
-    say(b"its order list and lines: ");
-    walked(b"");
-    say(b"its files, inlinees, imports, exports, items: ");
-    firsts(b"");
-    say(b"its number of exports: ");
-    count(b"");
-    say(b"a lookup in its exports: ");
-    lookup(b"", 7);
-    say(b"7 bytes: ");
-    subsections(b"\x00\x00\x00\x00\x00\x00\x00");
-    say(b"their order list: ");
-    walked(b"\x00\x00\x00\x00\x00\x00\x00");
-    say(b"their files, inlinees, imports, exports, items: ");
-    firsts(b"\x00\x00\x00\x00\x00\x00\x00");
-    say(b"kind 0xf0, length 0: ");
-    subsections(b"\xf0\x00\x00\x00\x00\x00\x00\x00");
-    say(b"kind 0xf0, length 4, no body: ");
-    subsections(b"\xf0\x00\x00\x00\x04\x00\x00\x00");
-    say(b"kind 0x80000000, length 4, its body: ");
-    subsections(b"\x00\x00\x00\x80\x04\x00\x00\x00\x01\x02\x03\x04");
-    say(b"kinds 0xf1 and 0xfd: ");
-    subsections(b"\xf1\x00\x00\x00\x00\x00\x00\x00\xfd\x00\x00\x00\x01\x00\x00\x00\x09");
+fn area_lines(rt: &impl Print) -> io::Result<()> {
+    say(rt, b"empty area: ")?;
+    subsections(rt, b"")?;
+    say(rt, b"its order list and lines: ")?;
+    walked(rt, b"")?;
+    say(rt, b"its files, inlinees, imports, exports, items: ")?;
+    firsts(rt, b"")?;
+    say(rt, b"its number of exports: ")?;
+    count(rt, b"")?;
+    say(rt, b"a lookup in its exports: ")?;
+    lookup(rt, b"", 7)?;
+    say(rt, b"7 bytes: ")?;
+    subsections(rt, b"\x00\x00\x00\x00\x00\x00\x00")?;
+    say(rt, b"their order list: ")?;
+    walked(rt, b"\x00\x00\x00\x00\x00\x00\x00")?;
+    say(rt, b"their files, inlinees, imports, exports, items: ")?;
+    firsts(rt, b"\x00\x00\x00\x00\x00\x00\x00")?;
+    say(rt, b"kind 0xf0, length 0: ")?;
+    subsections(rt, b"\xf0\x00\x00\x00\x00\x00\x00\x00")?;
+    say(rt, b"kind 0xf0, length 4, no body: ")?;
+    subsections(rt, b"\xf0\x00\x00\x00\x04\x00\x00\x00")?;
+    say(rt, b"kind 0x80000000, length 4, its body: ")?;
+    subsections(rt, b"\x00\x00\x00\x80\x04\x00\x00\x00\x01\x02\x03\x04")?;
+    say(rt, b"kinds 0xf1 and 0xfd: ")?;
+    subsections(
+        rt,
+        b"\xf1\x00\x00\x00\x00\x00\x00\x00\xfd\x00\x00\x00\x01\x00\x00\x00\x09",
+    )
 }
 
-fn flag_lines() {
-    say(b"flags 0x0c00000a: ");
-    flags(0x0c00_000a);
-    say(b"flags 0x80feefee: ");
-    flags(0x80fe_efee);
-    say(b"flags 0x80f00f00: ");
-    flags(0x80f0_0f00);
-    say(b"flags 0x8000000c: ");
-    flags(0x8000_000c);
+fn flag_lines(rt: &impl Print) -> io::Result<()> {
+    say(rt, b"flags 0x0c00000a: ")?;
+    flags(rt, 0x0c00_000a)?;
+    say(rt, b"flags 0x80feefee: ")?;
+    flags(rt, 0x80fe_efee)?;
+    say(rt, b"flags 0x80f00f00: ")?;
+    flags(rt, 0x80f0_0f00)?;
+    say(rt, b"flags 0x8000000c: ")?;
+    flags(rt, 0x8000_000c)
 }
 
-fn block_lines() {
-    say(b"block size 11: ");
-    block(b"\x00\x00\x00\x00\x00\x00\x00\x00\x0b\x00\x00\x00", false);
-    say(b"block size 12, no lines: ");
-    block(b"\x00\x00\x00\x00\x00\x00\x00\x00\x0c\x00\x00\x00", false);
-    say(b"block size 19, one line: ");
+fn block_lines(rt: &impl Print) -> io::Result<()> {
+    say(rt, b"block size 11: ")?;
     block(
+        rt,
+        b"\x00\x00\x00\x00\x00\x00\x00\x00\x0b\x00\x00\x00",
+        false,
+    )?;
+    say(rt, b"block size 12, no lines: ")?;
+    block(
+        rt,
+        b"\x00\x00\x00\x00\x00\x00\x00\x00\x0c\x00\x00\x00",
+        false,
+    )?;
+    say(rt, b"block size 19, one line: ")?;
+    block(
+        rt,
         b"\x00\x00\x00\x00\x01\x00\x00\x00\x13\x00\x00\x00\x00\x00\x00\x00\x0a\x00\x00\x80",
         false,
-    );
-    say(b"block size 20, one line: ");
+    )?;
+    say(rt, b"block size 20, one line: ")?;
     block(
+        rt,
         b"\x00\x00\x00\x00\x01\x00\x00\x00\x14\x00\x00\x00\x00\x00\x00\x00\x0a\x00\x00\x80",
         false,
-    );
-    say(b"block size 20, one line, columns: ");
+    )?;
+    say(rt, b"block size 20, one line, columns: ")?;
     block(
+        rt,
         b"\x00\x00\x00\x00\x01\x00\x00\x00\x14\x00\x00\x00\x00\x00\x00\x00\x0a\x00\x00\x80",
         true,
-    );
-    say(b"block size 24, one line, columns: ");
+    )?;
+    say(rt, b"block size 24, one line, columns: ")?;
     block(
+        rt,
         b"\x00\x00\x00\x00\x01\x00\x00\x00\x18\x00\x00\x00\x00\x00\x00\x00\x0a\x00\x00\x80\x01\x00\x02\x00",
         true,
-    );
+    )?;
+    Ok(())
 }
 
-fn import_lines() {
-    say(b"imports, 0x8000_0001: ");
+fn import_lines(rt: &impl Print) -> io::Result<()> {
+    say(rt, b"imports, 0x8000_0001: ")?;
     resolve(
+        rt,
         b"\xf7\x00\x00\x00\x10\x00\x00\x00\x05\x00\x00\x00\x02\x00\x00\x00\x03\x10\x00\x00\x04\x10\x00\x00",
         0x8000_0001,
-    );
-    say(b"imports, 0x8000_0002: ");
+    )?;
+    say(rt, b"imports, 0x8000_0002: ")?;
     resolve(
+        rt,
         b"\xf7\x00\x00\x00\x10\x00\x00\x00\x05\x00\x00\x00\x02\x00\x00\x00\x03\x10\x00\x00\x04\x10\x00\x00",
         0x8000_0002,
-    );
-    say(b"imports, 0x8010_0000: ");
+    )?;
+    say(rt, b"imports, 0x8010_0000: ")?;
     resolve(
+        rt,
         b"\xf7\x00\x00\x00\x10\x00\x00\x00\x05\x00\x00\x00\x02\x00\x00\x00\x03\x10\x00\x00\x04\x10\x00\x00",
         0x8010_0000,
-    );
-    say(b"imports, 1: ");
+    )?;
+    say(rt, b"imports, 1: ")?;
     resolve(
+        rt,
         b"\xf7\x00\x00\x00\x10\x00\x00\x00\x05\x00\x00\x00\x02\x00\x00\x00\x03\x10\x00\x00\x04\x10\x00\x00",
         1,
-    );
+    )?;
+    Ok(())
 }
 
-fn export_lines() {
-    say(b"export body of 12 bytes: ");
-    count(b"\xf8\x00\x00\x00\x0c\x00\x00\x00\x00\x00\x00\x00\x00\x00\x00\x00\x00\x00\x00\x00");
-    say(b"export body of 0 bytes: ");
-    count(b"\xf8\x00\x00\x00\x00\x00\x00\x00");
-    say(b"export body of 16 bytes: ");
+fn export_lines(rt: &impl Print) -> io::Result<()> {
+    say(rt, b"export body of 12 bytes: ")?;
     count(
+        rt,
+        b"\xf8\x00\x00\x00\x0c\x00\x00\x00\x00\x00\x00\x00\x00\x00\x00\x00\x00\x00\x00\x00",
+    )?;
+    say(rt, b"export body of 0 bytes: ")?;
+    count(rt, b"\xf8\x00\x00\x00\x00\x00\x00\x00")?;
+    say(rt, b"export body of 16 bytes: ")?;
+    count(
+        rt,
         b"\xf8\x00\x00\x00\x10\x00\x00\x00\x01\x00\x00\x00\x07\x00\x00\x00\x02\x00\x00\x00\x08\x00\x00\x00",
-    );
-    say(b"lookup of 2 in locals 1, 2: ");
+    )?;
+    say(rt, b"lookup of 2 in locals 1, 2: ")?;
     lookup(
+        rt,
         b"\xf8\x00\x00\x00\x10\x00\x00\x00\x01\x00\x00\x00\x07\x00\x00\x00\x02\x00\x00\x00\x08\x00\x00\x00",
         2,
-    );
-    say(b"lookup of 3 in locals 1, 2: ");
+    )?;
+    say(rt, b"lookup of 3 in locals 1, 2: ")?;
     lookup(
+        rt,
         b"\xf8\x00\x00\x00\x10\x00\x00\x00\x01\x00\x00\x00\x07\x00\x00\x00\x02\x00\x00\x00\x08\x00\x00\x00",
         3,
-    );
-    say(b"lookup of 2 in locals 2, 1: ");
+    )?;
+    say(rt, b"lookup of 2 in locals 2, 1: ")?;
     lookup(
+        rt,
         b"\xf8\x00\x00\x00\x10\x00\x00\x00\x02\x00\x00\x00\x08\x00\x00\x00\x01\x00\x00\x00\x07\x00\x00\x00",
         2,
-    );
+    )?;
+    Ok(())
 }
 
-fn checksum_lines() {
-    say(b"checksum kind 4: ");
-    entry(b"\x07\x00\x00\x00\x00\x04\x00\x00", 0);
-    say(b"checksum kind 0, size 16: ");
+fn checksum_lines(rt: &impl Print) -> io::Result<()> {
+    say(rt, b"checksum kind 4: ")?;
+    entry(rt, b"\x07\x00\x00\x00\x00\x04\x00\x00", 0)?;
+    say(rt, b"checksum kind 0, size 16: ")?;
     entry(
+        rt,
         b"\x07\x00\x00\x00\x10\x00\x00\x01\x02\x03\x04\x05\x06\x07\x08\x09\x0a\x0b\x0c\x0d\x0e\x0f\x00\x00",
         0,
-    );
-    say(b"MD5: ");
+    )?;
+    say(rt, b"MD5: ")?;
     entry(
+        rt,
         b"\x01\x00\x00\x00\x10\x01\x00\x01\x02\x03\x04\x05\x06\x07\x08\x09\x0a\x0b\x0c\x0d\x0e\x0f\x00\x00",
         0,
-    );
-    say(b"file at index 0: ");
+    )?;
+    say(rt, b"file at index 0: ")?;
     file(
+        rt,
         b"\xf4\x00\x00\x00\x18\x00\x00\x00\x01\x00\x00\x00\x10\x01\x00\x01\x02\x03\x04\x05\x06\x07\x08\x09\x0a\x0b\x0c\x0d\x0e\x0f\x00\x00",
         0,
-    );
-    say(b"file at the end of the body: ");
+    )?;
+    say(rt, b"file at the end of the body: ")?;
     file(
+        rt,
         b"\xf4\x00\x00\x00\x18\x00\x00\x00\x01\x00\x00\x00\x10\x01\x00\x01\x02\x03\x04\x05\x06\x07\x08\x09\x0a\x0b\x0c\x0d\x0e\x0f\x00\x00",
         24,
-    );
-    say(b"file beyond the body: ");
+    )?;
+    say(rt, b"file beyond the body: ")?;
     file(
+        rt,
         b"\xf4\x00\x00\x00\x18\x00\x00\x00\x01\x00\x00\x00\x10\x01\x00\x01\x02\x03\x04\x05\x06\x07\x08\x09\x0a\x0b\x0c\x0d\x0e\x0f\x00\x00",
         25,
-    );
-    say(b"no checksum subsection, index 0: ");
-    file(b"", 0);
+    )?;
+    say(rt, b"no checksum subsection, index 0: ")?;
+    file(rt, b"", 0)
 }
 
-fn walk_lines() {
-    say(b"lines at 1:1000: ");
+fn walk_lines(rt: &impl Print) -> io::Result<()> {
+    say(rt, b"lines at 1:1000: ")?;
     walked(
+        rt,
         b"\xf2\x00\x00\x00\x28\x00\x00\x00\x00\x10\x00\x00\x01\x00\x00\x00\x20\x00\x00\x00\x00\x00\x00\x00\x02\x00\x00\x00\x1c\x00\x00\x00\x00\x00\x00\x00\x0a\x00\x00\x80\x08\x00\x00\x00\x0c\x00\x00\x80",
-    );
-    say(b"section offset 1, line offset 4294967295: ");
+    )?;
+    say(rt, b"section offset 1, line offset 4294967295: ")?;
     walked(
+        rt,
         b"\xf2\x00\x00\x00\x20\x00\x00\x00\x01\x00\x00\x00\x01\x00\x00\x00\x20\x00\x00\x00\x00\x00\x00\x00\x01\x00\x00\x00\x14\x00\x00\x00\xff\xff\xff\xff\x0a\x00\x00\x00",
-    );
-    say(b"three line subsections, two slots: ");
+    )?;
+    say(rt, b"three line subsections, two slots: ")?;
     walked(
+        rt,
         b"\xf2\x00\x00\x00\x0c\x00\x00\x00\x01\x00\x00\x00\x01\x00\x00\x00\x00\x00\x00\x00\xf2\x00\x00\x00\x0c\x00\x00\x00\x01\x00\x00\x00\x01\x00\x00\x00\x00\x00\x00\x00\xf2\x00\x00\x00\x0c\x00\x00\x00\x01\x00\x00\x00\x01\x00\x00\x00\x00\x00\x00\x00",
-    );
-    say(b"a slot that names nothing: ");
+    )?;
+    say(rt, b"a slot that names nothing: ")?;
     forged(
+        rt,
         b"\xf2\x00\x00\x00\x28\x00\x00\x00\x00\x10\x00\x00\x01\x00\x00\x00\x20\x00\x00\x00\x00\x00\x00\x00\x02\x00\x00\x00\x1c\x00\x00\x00\x00\x00\x00\x00\x0a\x00\x00\x80\x08\x00\x00\x00\x0c\x00\x00\x80",
-    );
+    )?;
+    Ok(())
 }
 
-fn string_lines() {
-    say(b"names size 3, 27 bytes: ");
+fn string_lines(rt: &impl Print) -> io::Result<()> {
+    say(rt, b"names size 3, 27 bytes: ")?;
     name(
+        rt,
         b"\xfe\xef\xfe\xef\x01\x00\x00\x00\x03\x00\x00\x00\x61\x62\x00\x00\x00\x00\x00\x00\x00\x00\x00\x00\x00\x00\x00",
         0,
-    );
-    say(b"names size 3, 26 bytes: ");
+    )?;
+    say(rt, b"names size 3, 26 bytes: ")?;
     name(
+        rt,
         b"\xfe\xef\xfe\xef\x01\x00\x00\x00\x03\x00\x00\x00\x61\x62\x00\x00\x00\x00\x00\x00\x00\x00\x00\x00\x00\x00",
         0,
-    );
-    say(b"a signature of 0xEFFEEFFF: ");
+    )?;
+    say(rt, b"a signature of 0xEFFEEFFF: ")?;
     name(
+        rt,
         b"\xff\xef\xfe\xef\x01\x00\x00\x00\x03\x00\x00\x00\x61\x62\x00\x00\x00\x00\x00\x00\x00\x00\x00\x00\x00\x00\x00",
         0,
-    );
-    say(b"hash version 3: ");
+    )?;
+    say(rt, b"hash version 3: ")?;
     name(
+        rt,
         b"\xfe\xef\xfe\xef\x03\x00\x00\x00\x03\x00\x00\x00\x61\x62\x00\x00\x00\x00\x00\x00\x00\x00\x00\x00\x00\x00\x00",
         0,
-    );
-    say(b"offset 3 of names size 3: ");
+    )?;
+    say(rt, b"offset 3 of names size 3: ")?;
     name(
+        rt,
         b"\xfe\xef\xfe\xef\x01\x00\x00\x00\x03\x00\x00\x00\x61\x62\x00\x00\x00\x00\x00\x00\x00\x00\x00\x00\x00\x00\x00",
         3,
-    );
+    )?;
+    Ok(())
 }
 
-fn module_lines() {
-    say(b"no symbols: ");
-    symbols(b"", 0, 0, 0);
-    say(b"symbols of 3 bytes: ");
-    symbols(b"\x04\x00\x00", 3, 0, 0);
-    say(b"symbols with signature 4: ");
-    symbols(b"\x04\x00\x00\x00", 4, 0, 0);
-    say(b"symbols with signature 2: ");
-    symbols(b"\x02\x00\x00\x00", 4, 0, 0);
-    say(b"lines of a module with C11 lines: ");
-    lines_of(b"\x00", 0, 1, 0);
-    say(b"symbols and C13 above the stream: ");
-    lines_of(b"\x00", 1, 0, 1);
+fn module_lines(rt: &impl Print) -> io::Result<()> {
+    say(rt, b"no symbols: ")?;
+    symbols(rt, b"", 0, 0, 0)?;
+    say(rt, b"symbols of 3 bytes: ")?;
+    symbols(rt, b"\x04\x00\x00", 3, 0, 0)?;
+    say(rt, b"symbols with signature 4: ")?;
+    symbols(rt, b"\x04\x00\x00\x00", 4, 0, 0)?;
+    say(rt, b"symbols with signature 2: ")?;
+    symbols(rt, b"\x02\x00\x00\x00", 4, 0, 0)?;
+    say(rt, b"lines of a module with C11 lines: ")?;
+    lines_of(rt, b"\x00", 0, 1, 0)?;
+    say(rt, b"symbols and C13 above the stream: ")?;
+    lines_of(rt, b"\x00", 1, 0, 1)
 }
 
 // A subsection of exports in a buffer that holds two pairs and no more.
-fn writer_lines() {
+fn writer_lines(rt: &impl Print) -> io::Result<()> {
     let mut buf = [0u8; 24];
-    say(b"open exports: ");
-    let opened = wrote(writer::open_exports(&mut buf, 0));
-    say(b"a pair: ");
-    let first = wrote(writer::add_pair(&mut buf, opened, 5, 6));
-    say(b"a pair that does not ascend: ");
-    wrote(writer::add_pair(&mut buf, first, 5, 7));
-    say(b"a module among exports: ");
-    wrote(writer::add_module(&mut buf, first, 1, &[2u32]));
-    say(b"a second pair: ");
-    let second = wrote(writer::add_pair(&mut buf, first, 6, 7));
-    say(b"a third pair, no room: ");
-    wrote(writer::add_pair(&mut buf, second, 7, 8));
-    say(b"what was written: ");
-    count(&buf);
+    say(rt, b"open exports: ")?;
+    let opened = wrote(rt, writer::open_exports(&mut buf, 0))?;
+    say(rt, b"a pair: ")?;
+    let first = wrote(rt, writer::add_pair(&mut buf, opened, 5, 6))?;
+    say(rt, b"a pair that does not ascend: ")?;
+    wrote(rt, writer::add_pair(&mut buf, first, 5, 7))?;
+    say(rt, b"a module among exports: ")?;
+    wrote(rt, writer::add_module(&mut buf, first, 1, &[2u32]))?;
+    say(rt, b"a second pair: ")?;
+    let second = wrote(rt, writer::add_pair(&mut buf, first, 6, 7))?;
+    say(rt, b"a third pair, no room: ")?;
+    wrote(rt, writer::add_pair(&mut buf, second, 7, 8))?;
+    say(rt, b"what was written: ")?;
+    count(rt, &buf)
 }
 
 // Number 11: an area above 65,536 bytes has no text but this. (One above 16,777,216 bytes does not fit a program's stack.)
-fn long_lines() {
-    say(b"65537 bytes, as text: ");
+fn long_lines(rt: &impl Print) -> io::Result<()> {
+    say(rt, b"65537 bytes, as text: ")?;
     let area = [0u8; 65537];
-    dump::print(&area);
+    dump::print(rt, &area).written
 }
 
-fn main() {
-    area_lines();
-    flag_lines();
-    block_lines();
-    import_lines();
-    export_lines();
-    checksum_lines();
-    walk_lines();
-    string_lines();
-    module_lines();
-    writer_lines();
-    long_lines();
+fn main(rt: HostRuntime) -> io::Result<()> {
+    area_lines(&rt)?;
+    flag_lines(&rt)?;
+    block_lines(&rt)?;
+    import_lines(&rt)?;
+    export_lines(&rt)?;
+    checksum_lines(&rt)?;
+    walk_lines(&rt)?;
+    string_lines(&rt)?;
+    module_lines(&rt)?;
+    writer_lines(&rt)?;
+    long_lines(&rt)
 }
