@@ -19,7 +19,7 @@ use Rattle.refusal.specs.declared.Refusal.TheVariants as why
 use Rattle.area.specs.Parts.{Raw, Lack, Parts, bite, parts}
 use Rattle.area.specs.PartsLaws.{parts_step, parts_ind, Bitten, bitten}
 use Rattle.kinds.specs.Kind.{SYMBOLS, COFF_SYMBOL_RVA, IGNORE, Sort, known, skipped, unknown, on_sort, crate_rule}
-use Rattle.kinds.specs.KindLaws.{rule_range}
+use Rattle.kinds.proofs.KindLaws.{rule_range}
 use Rattle.area.specs.Subs.{Sub, sub_of, placed, subs_from, first_of, step_at, bodies_in, bodies, place_behind, WalkStep, crate_step}
 use Rattle.area.specs.declared.SubStep.{SubStep}
 use Rattle.area.specs.Told.{told_step}

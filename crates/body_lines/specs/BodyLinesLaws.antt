@@ -9,7 +9,7 @@ use Rattle.kinds.specs.Kind.{Sort}
 use Rattle.body.specs.Lines.{columned}
 use Rattle.line_record.specs.Flags.{is_marker}
 use Rattle.line_record.specs.Record.{max_offset, column_if, record_of, entry_of, closed_at}
-use Rattle.line_record.specs.RecordLaws.{entry_marker, entry_line, close_before}
+use Rattle.line_record.proofs.RecordLaws.{entry_marker, entry_line, close_before}
 use Rattle.line_record.specs.declared.LineRecord.{LineRecord}
 use Rattle.line_record.specs.declared.LineSource.{LineSource}
 use Rattle.line_state_words.specs.LineWords.{record_size, record_words}

@@ -1,4 +1,3 @@
 pub mod Files
 pub mod Told
 pub mod Untold
-pub mod FilesLaws

@@ -9,7 +9,7 @@ use Rattle.kinds.specs.Kind.{Sort}
 use Rattle.line_record.specs.declared.EndLines.{EndLines}
 use Rattle.line_record.specs.declared.LineRecord.{LineRecord}
 use Rattle.line_record.specs.Record.{max_offset, head_source, closed_at}
-use Rattle.line_record.specs.LimitsLaws.{Limits, entry_limits, close_limits}
+use Rattle.line_record.proofs.LimitsLaws.{Limits, entry_limits, close_limits}
 use Rattle.lines.specs.Lines.{Body}
 use Rattle.lines.specs.Slots.{list_of}
 use Rattle.line_walk.specs.Meaning.{line, done, Events, body_then, events_of, settle_one, settle, records_of}

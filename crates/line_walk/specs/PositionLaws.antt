@@ -17,7 +17,7 @@ use Rattle.line_record.specs.declared.LineRecord.{LineRecord}
 use Rattle.line_record.specs.declared.LineSource.{LineSource}
 use Rattle.line_record.specs.Flags.{is_marker}
 use Rattle.line_record.specs.Record.{max_offset, no_position, head_source, entry_of, closed_at}
-use Rattle.line_record.specs.RecordLaws.{lengthless, close_lengthless}
+use Rattle.line_record.proofs.RecordLaws.{lengthless, close_lengthless}
 use Rattle.lines.specs.Lines.{Body}
 use Rattle.lines.specs.Slots.{list_of}
 use Rattle.lines.specs.SlotsLaws.{body_by, LineSubAt, IsLineBody, list_line_bodies}

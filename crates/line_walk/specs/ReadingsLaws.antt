@@ -14,7 +14,7 @@ use Rattle.body.specs.Lines.{LineHead, line_head_size, line_head, columned, Bloc
 use Rattle.line_record.specs.declared.EndLines.{EndLines}
 use Rattle.line_record.specs.declared.LineRecord.{LineRecord}
 use Rattle.line_record.specs.Record.{max_offset, head_source, entry_of, closed_at}
-use Rattle.line_record.specs.ReadingsLaws.{with_end, entry_readings, close_readings}
+use Rattle.line_record.proofs.ReadingsLaws.{with_end, entry_readings, close_readings}
 use Rattle.lines.specs.Lines.{Body}
 use Rattle.lines.specs.Slots.{list_of}
 use Rattle.order.specs.Order.{in_order}

@@ -25,7 +25,7 @@ use Rattle.body_list.specs.BodyList.{in_room}
 use Rattle.order.specs.Order.{ordered, slots_after}
 use Rattle.order.specs.BuiltLaws.{built}
 use Rattle.files.specs.Files.{File, file_of, files_sub, file_step, files_in}
-use Rattle.files.specs.FilesLaws.{files_finds, files_walk}
+use Rattle.files.proofs.FilesLaws.{files_finds, files_walk}
 use Rattle.line_step.specs.Turn.{turn_of}
 use Rattle.line_step.specs.declared.LineWalk.{LineWalk}
 use Rattle.line_step.specs.declared.LineWalk.TheVariants as line

@@ -22,7 +22,7 @@ use Rattle.table.specs.declared.TableWalk.TheVariants as table
 use Rattle.checksums.specs.Entry.{Entry, entry_at}
 use Rattle.checksums.specs.EntryLaws.{EntryWithin, entry_within}
 use Rattle.files.specs.Files.{file_of, files_sub, file_step}
-use Rattle.files.specs.FilesLaws.{files_finds}
+use Rattle.files.proofs.FilesLaws.{files_finds}
 use Rattle.line_record.specs.declared.EndLines.TheVariants.{Crate}
 use Rattle.line_step.specs.Turn.{turn_of}
 use Rattle.line_step.specs.declared.LineWalk.{LineWalk}

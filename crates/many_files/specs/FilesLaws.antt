@@ -14,7 +14,7 @@ use Rattle.kinds.specs.Kind.{Sort}
 use Rattle.table.specs.declared.TableWalk.{TableWalk}
 use Rattle.table.specs.declared.TableWalk.TheVariants as walk
 use Rattle.files.specs.Files.{File, file_step, files_in}
-use Rattle.files.specs.FilesLaws.{files_walk, Leads, file_leads, file_over}
+use Rattle.files.proofs.FilesLaws.{files_walk, Leads, file_leads, file_over}
 use Rattle.answer_words.specs.Fill.{no_room, counted}
 use Rattle.answer_words.specs.Filling.{Filled, Filling}
 use Rattle.answer_words.specs.FillLaws.{fill_stored, fill_stop, fill_none}

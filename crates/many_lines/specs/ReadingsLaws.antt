@@ -14,7 +14,7 @@ use Rattle.refusal.specs.declared.Refusal.TheVariants as why
 use Rattle.kinds.specs.Kind.{Sort}
 use Rattle.line_record.specs.declared.EndLines.{EndLines}
 use Rattle.line_record.specs.declared.LineRecord.{LineRecord}
-use Rattle.line_record.specs.ReadingsLaws.{with_end}
+use Rattle.line_record.proofs.ReadingsLaws.{with_end}
 use Rattle.line_state_words.specs.LineWords.{record_size}
 use Rattle.line_step.specs.declared.LineWalk.{LineWalk}
 use Rattle.line_step.specs.declared.LineWalk.TheVariants.{New}

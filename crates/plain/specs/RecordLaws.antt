@@ -12,7 +12,7 @@ use Rattle.walk.specs.Listing.{Move, fail}
 use Rattle.refusal.specs.Told.{Told, told}
 use Rattle.refusal.specs.declared.Refusal.TheVariants as why
 use Rattle.kinds.specs.Kind.{SYMBOLS, LINES, STRING_TABLE, FILE_CHECKSUMS, FRAME_DATA, INLINEE_LINES, CROSS_SCOPE_IMPORTS, CROSS_SCOPE_EXPORTS, IL_LINES, COFF_SYMBOL_RVA, known_kinds, among}
-use Rattle.kinds.specs.KindLaws.{among_range, among_but}
+use Rattle.kinds.proofs.KindLaws.{among_range, among_but}
 use Rattle.body.specs.Lines.{line_bytes, block_head_size, block_bite}
 use Rattle.body.specs.Checksums.{Checksum, up4, checksum_bite}
 use Rattle.body.specs.Inlinees.{extra_bite, inlinee_bite}

@@ -31,7 +31,7 @@ use Rattle.inlinees.specs.InlineesLaws.{inlinees_mean}
 use Rattle.checksums.specs.Entry.{shown}
 use Rattle.files.specs.Files.{files_sub, files_in}
 use Rattle.files.specs.Files as file
-use Rattle.files.specs.FilesLaws.{files_mean}
+use Rattle.files.proofs.FilesLaws.{files_mean}
 use Rattle.lines.specs.Lines.{Body, headed, lines_from, plus, count_of}
 use Rattle.body_list.specs.BodyList.{listed}
 use Rattle.order.specs.Order.{body_of, line_bodies}

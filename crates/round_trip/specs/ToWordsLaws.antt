@@ -11,7 +11,7 @@ use Rattle.walk.specs.Pick.{failure}
 use Rattle.refusal.specs.Told.{Told, longest}
 use Rattle.area.specs.Parts.{Raw, Lack, Parts, parts}
 use Rattle.kinds.specs.Kind.{LINES, FILE_CHECKSUMS, crate_rule}
-use Rattle.kinds.specs.KindLaws.{known_not_ignored}
+use Rattle.kinds.proofs.KindLaws.{known_not_ignored}
 use Rattle.body.specs.Lines.{line_head_size, line_head, line_bytes, block_head_size, block_bite}
 use Rattle.body.specs.Checksums.{up4, checksum_bite}
 use Rattle.body.specs.LinesLaws.{block_sound}

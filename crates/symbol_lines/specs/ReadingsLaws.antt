@@ -7,7 +7,7 @@ use Rattle.walk.specs.AlikeLaws.{through, Alike, listings_alike}
 use Rattle.refusal.specs.Told.{Told}
 use Rattle.kinds.specs.Kind.{Sort}
 use Rattle.line_record.specs.declared.EndLines.{EndLines}
-use Rattle.line_record.specs.ReadingsLaws.{with_end}
+use Rattle.line_record.proofs.ReadingsLaws.{with_end}
 use Rattle.lines.specs.Lines.{Body}
 use Rattle.lines.specs.Slots.{list_of}
 use Rattle.order.specs.Order.{in_order}

@@ -13,7 +13,7 @@ use Rattle.walk.specs.PickLaws.{Gives, map_or, first_map, last_map, first_holds,
 use Rattle.refusal.specs.Told.{Told, longest}
 use Rattle.kinds.specs.Kind.{Sort}
 use Rattle.find.specs.Find.{same, Span}
-use Rattle.line_record.specs.LimitsLaws.{Limits}
+use Rattle.line_record.proofs.LimitsLaws.{Limits}
 use Rattle.line_record.specs.declared.EndLines.{EndLines}
 use Rattle.lines.specs.Lines.{count_lines, Body, body_on}
 use Rattle.lines.specs.LinesLaws.{count_long}

@@ -3,7 +3,7 @@
 use borrow.Author.Rules.{rules}
 use mathlib.Core.Path.{sym, ap, ◌∙◌}
 use Rattle.find.specs.Told.{told_found}
-use Rattle.files.specs.FilesLaws.{part_found, part_none, part_refused}
+use Rattle.files.proofs.FilesLaws.{part_found, part_none, part_refused}
 use Rattle.answer_words.specs.Given.{reply_given, span_words}
 use Rattle.answer_words.specs.GivenLaws.{gives_as}
 use Rattle.export_files.proofs.checksums.Statement.{statement}

@@ -3,7 +3,7 @@
 use borrow.Author.Rules.{rules}
 use mathlib.Core.Path.{sym, ap, ◌∙◌}
 use Rattle.lines.specs.Told.{told_counted}
-use Rattle.files.specs.FilesLaws.{body_passed, body_refused}
+use Rattle.files.proofs.FilesLaws.{body_passed, body_refused}
 use Rattle.files.proofs.checksum_body.Statement.{statement}
 use Rattle.files.proofs.checksum_body.Tie as tie
 

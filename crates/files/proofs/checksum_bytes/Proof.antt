@@ -11,7 +11,7 @@ use Rattle.table.specs.Table.{Place}
 use Rattle.table.specs.Told.{told_spot}
 use Rattle.table.specs.HandLaws.{hands_at, hands_empty}
 use Rattle.files.specs.Files.{part_of}
-use Rattle.files.specs.FilesLaws.{part_in}
+use Rattle.files.proofs.FilesLaws.{part_in}
 use Rattle.files.proofs.checksum_bytes.Statement.{statement}
 use Rattle.files.proofs.checksum_bytes.Tie as tie
 

@@ -3,7 +3,7 @@
 use borrow.Author.Rules.{rules}
 use mathlib.Core.Path.{sym, ap, ◌∙◌}
 use Rattle.find.specs.Told.{told_found}
-use Rattle.files.specs.FilesLaws.{body_in_lem, part_found, part_none, part_refused, file_in_lem, file_refused}
+use Rattle.files.proofs.FilesLaws.{body_in_lem, part_found, part_none, part_refused, file_in_lem, file_refused}
 use Rattle.files.proofs.file_at.Statement.{statement}
 use Rattle.files.proofs.file_at.Tie as tie
 

@@ -4,7 +4,7 @@ use borrow.Author.Rules.{rules}
 use mathlib.Core.Path.{sym, ap, ◌∙◌}
 use native.Mathlib.Omega.{arith}
 use Rattle.checksums.specs.Told.{told_entry}
-use Rattle.files.specs.FilesLaws.{in_long, in_read}
+use Rattle.files.proofs.FilesLaws.{in_long, in_read}
 use Rattle.files.proofs.file_in.Statement.{statement}
 use Rattle.files.proofs.file_in.Tie as tie
 

@@ -5,7 +5,7 @@ use mathlib.Core.Path.{sym, ap, ◌∙◌}
 use native.Mathlib.Nat.{add-sub_cancel_left}
 use native.Mathlib.Omega.{arith}
 use Rattle.files.specs.Told.{told_info}
-use Rattle.files.specs.FilesLaws.{part_read, part_lies}
+use Rattle.files.proofs.FilesLaws.{part_read, part_lies}
 use Rattle.files.proofs.file_in_part.Statement.{statement}
 use Rattle.files.proofs.file_in_part.Tie as tie
 

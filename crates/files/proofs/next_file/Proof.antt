@@ -6,7 +6,7 @@ use mathlib.Core.Path.{sym, ap, ◌∙◌}
 use Rattle.kinds.specs.Kind.{crate_rule}
 use Rattle.checksums.specs.Told.{told_entry}
 use Rattle.checksums.specs.EntryLaws.{entry_lies}
-use Rattle.files.specs.FilesLaws.{file_steps, file_entry}
+use Rattle.files.proofs.FilesLaws.{file_steps, file_entry}
 use Rattle.files.proofs.next_file.Statement.{statement}
 use Rattle.files.proofs.next_file.Tie as tie
 

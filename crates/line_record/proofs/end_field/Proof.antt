@@ -1,6 +1,6 @@
 -- `line_record::end_field` meets its contract: the quotient and its rest are the masked bits.
 -- Assumes nothing.
-use Rattle.line_record.specs.EndLineLaws.{field_is}
+use Rattle.line_record.proofs.FieldLaws.{field_is}
 use Rattle.line_record.proofs.end_field.Statement.{statement}
 use Rattle.line_record.proofs.end_field.Tie as tie
 

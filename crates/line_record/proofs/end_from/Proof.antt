@@ -1,7 +1,7 @@
 -- `line_record::end_from` meets its contract: each way out is a case of `end_from`.
 -- Assumes nothing.
 use native.Mathlib.Omega.{arith}
-use Rattle.line_record.specs.EndLineLaws.{end_below, end_joined}
+use Rattle.line_record.proofs.EndLineLaws.{end_below, end_joined}
 use Rattle.line_record.proofs.end_from.Statement.{statement}
 use Rattle.line_record.proofs.end_from.Tie as tie
 

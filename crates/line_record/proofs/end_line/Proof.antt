@@ -6,7 +6,7 @@ use Prim.Native.Nat.{◌+◌}
 use mathlib.Core.Path.{sym, ap, ◌∙◌}
 use Rattle.line_record.specs.declared.EndLines.{EndLines}
 use Rattle.line_record.specs.EndLine.{end_from, end_line}
-use Rattle.line_record.specs.EndLineLaws.{end_is_start, field_small}
+use Rattle.line_record.proofs.EndLineLaws.{end_is_start, field_small}
 use Rattle.line_record.proofs.end_line.Statement.{statement}
 use Rattle.line_record.proofs.end_line.Tie as tie
 

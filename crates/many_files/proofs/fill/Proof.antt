@@ -8,7 +8,7 @@ use lib.ListN.{length}
 use Rattle.kinds.specs.Kind.{crate_rule}
 use Rattle.walk.specs.Listing.{none, refuses}
 use Rattle.files.specs.Files.{file_step}
-use Rattle.files.specs.FilesLaws.{file_leads}
+use Rattle.files.proofs.FilesLaws.{file_leads}
 use Rattle.files.specs.Told.{told_file}
 use Rattle.answer_words.specs.FillLaws.{fill_start, fill_full}
 use Rattle.many_files.specs.Files.{file_size, file_words}

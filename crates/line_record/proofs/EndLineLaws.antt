@@ -12,6 +12,7 @@ use Rattle.walk.specs.Cases.{by_cases}
 use Rattle.line_record.specs.declared.EndLines.{EndLines}
 use Rattle.line_record.specs.declared.EndLines.TheVariants.{Crate, LowBits, Delta}
 use Rattle.line_record.specs.Flags.{start_line}
+use Rattle.line_record.proofs.FieldLaws.{field_is}
 use Rattle.line_record.specs.EndLine.{crate_low, end_field, joined_line, falls_below, end_from, end_line}
 
 -- the examples of document 02: 10 to 12, by the low bits and by the delta; line 127 and the low bits of line 130. And the largest start line with an
@@ -77,11 +78,8 @@ module _ (flags : ℕ) where
 -- ---- the field
 
 module _ (flags : ℕ) where
-  pub field_is : flags / 0x100_0000 % 128 ≡ end_field flags
-  field_is = sym (ap (λ (k : ℕ). k / 2 ^ 24) (and_high flags 7 24) ∙ omega arith)
-
   pub field_small : end_field flags < 2 ^ 7
-  field_small = omega (arith, field_is)
+  field_small = omega (arith, field_is flags)
 
 -- ---- the low bits
 
