@@ -18,27 +18,6 @@ invariant-loop body local from₀ to₀ from to =
 abbrev decreases-loop : tie.decreases-loop-from
 decreases-loop body local from₀ to₀ from to = to - from
 
-returns : tie.Need-returns-then-found-local invariant-loop decreases-loop
-returns c =
-    let at = c.loop-from in
-    let mid = (at.from + at.to) / 2 in
-    half_here _ _ _ _ c.loop-from-test.true mid (omega arith) _ c.word_at-found.ensures c.if-found-local.true _ c.word_at.ensures
-    ∙ at.invariant.1
-
-loop-again : tie.Need-loop-from-preserved-then-found-local-2 invariant-loop decreases-loop
-loop-again c =
-    let at = c.loop-from in
-    let mid = (at.from + at.to) / 2 in
-    let e = half_back _ _ _ _ c.loop-from-test.true mid (omega arith) _ c.word_at-found.ensures c.if-found-local.false c.if-found-local-2.true in
-    (omega arith, e ∙ at.invariant.1)
-
-loop-again-2 : tie.Need-loop-from-preserved invariant-loop decreases-loop
-loop-again-2 c =
-    let at = c.loop-from in
-    let mid = (at.from + at.to) / 2 in
-    let e = half_front _ _ _ _ c.loop-from-test.true mid (omega arith) _ c.word_at-found.ensures c.if-found-local.false c.if-found-local-2.false in
-    (omega arith, e ∙ at.invariant.1)
-
 pub halved_spec : {M : Type 1} → statement M
 halved_spec =
     tie.close
@@ -51,10 +30,22 @@ halved_spec =
     (λ c κs. omega arith)
     (λ c. search rules)
     (λ c κs. omega arith)
-    returns
+    (λ c.
+    let at = c.loop-from in
+    let mid = (at.from + at.to) / 2 in
+    half_here _ _ _ _ c.loop-from-test.true mid (omega arith) _ c.word_at-found.ensures c.if-found-local.true _ c.word_at.ensures
+    ∙ at.invariant.1)
     (λ c. search rules)
     (λ c. omega arith)
-    loop-again
+    (λ c.
+    let at = c.loop-from in
+    let mid = (at.from + at.to) / 2 in
+    let e = half_back _ _ _ _ c.loop-from-test.true mid (omega arith) _ c.word_at-found.ensures c.if-found-local.false (omega arith) in
+    (omega arith, e ∙ at.invariant.1))
     (λ c. omega arith)
-    loop-again-2
+    (λ c.
+    let at = c.loop-from in
+    let mid = (at.from + at.to) / 2 in
+    let e = half_front _ _ _ _ c.loop-from-test.true mid (omega arith) _ c.word_at-found.ensures c.if-found-local.false (omega arith) in
+    (omega arith, e ∙ at.invariant.1))
     (λ c. half_none _ _ _ _ c.loop-from-test.false ∙ c.loop-from.invariant.1))

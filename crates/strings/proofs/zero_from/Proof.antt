@@ -25,8 +25,8 @@ zero_from_spec =
     decreases-loop
     (λ c. refl)
     (λ c. search rules)
-    (λ c. zero_here _ _ (omega arith) c.if-names-i-eq0.true ∙ c.loop-i.invariant)
+    (λ c. zero_here _ _ (omega arith) (omega arith) ∙ c.loop-i.invariant)
     (λ c. search rules)
     (λ c. search rules)
-    (λ c. zero_later _ _ (omega arith) c.if-names-i-eq0.false ∙ c.loop-i.invariant)
+    (λ c. zero_later _ _ (omega arith) (omega arith) ∙ c.loop-i.invariant)
     (λ c. zero_end _ _ (omega arith) ∙ c.loop-i.invariant))
