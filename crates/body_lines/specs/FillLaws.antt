@@ -14,7 +14,7 @@ use Rattle.line_state_words.specs.LineWordsLaws.{record_length}
 use Rattle.line_step.specs.declared.LineWalk.{LineWalk}
 use Rattle.line_step.specs.Turn.{LineMove, turn_of}
 use Rattle.line_walk.specs.Next.{todo, next_of}
-use Rattle.line_walk.specs.NextLaws.{falls, next_is}
+use Rattle.line_walk.proofs.NextLaws.{falls, next_is}
 use Rattle.answer_words.specs.Fill.{no_room, counted}
 use Rattle.answer_words.specs.FillLaws as fill
 use Rattle.body_lines.specs.Turns.{Filled, Fills}

@@ -9,7 +9,7 @@ use Rattle.line_record.specs.declared.LineRecord.{LineRecord}
 use Rattle.line_state_words.specs.LineWords.{record_size, record_words}
 use Rattle.line_step.specs.declared.LineWalk.{LineWalk}
 use Rattle.line_step.specs.Turn.{turn_of}
-use Rattle.line_walk.specs.NextLaws.{next_falls}
+use Rattle.line_walk.proofs.NextLaws.{next_falls}
 use Rattle.body_lines.specs.Turns.{UnderWay, TurnsPut}
 use Rattle.body_lines.specs.FillLaws.{turns_pass, turns_record, record_falls}
 

@@ -20,7 +20,7 @@ use Rattle.line_step.specs.declared.Rest.{Rest}
 use Rattle.line_step.specs.declared.LineWalk.{LineWalk}
 use Rattle.line_step.specs.declared.LineWalk.TheVariants.{New, Between, Inside}
 use Rattle.line_walk.specs.Next.{next_of}
-use Rattle.line_walk.specs.NextLaws.{next_is}
+use Rattle.line_walk.proofs.NextLaws.{next_is}
 use Rattle.answer_words.specs.Given.{Given, Gives, step_given, none_given, if_chosen, choice_given}
 use Rattle.answer_words.specs.GivenLaws.{gives_fits}
 use Rattle.answer_words.specs.FillGiven.{count_words, fill_given}

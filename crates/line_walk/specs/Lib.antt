@@ -2,10 +2,3 @@ pub mod Meaning
 pub mod Next
 pub mod Told
 pub mod Untold
-pub mod NextLaws
-pub mod WalkLaws
-pub mod AreaLaws
-pub mod EveryLaws
-pub mod LimitsLaws
-pub mod ReadingsLaws
-pub mod PositionLaws

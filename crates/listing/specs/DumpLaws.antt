@@ -32,8 +32,8 @@ use Rattle.line_step.specs.declared.LineWalk.TheVariants as line
 use Rattle.line_record.specs.declared.EndLines.TheVariants.{Crate}
 use Rattle.line_walk.specs.Meaning.{Records, events_of, settle, records_of, area_records}
 use Rattle.line_walk.specs.Next.{todo, next_of}
-use Rattle.line_walk.specs.NextLaws.{falls}
-use Rattle.line_walk.specs.WalkLaws.{walk_is}
+use Rattle.line_walk.proofs.NextLaws.{falls}
+use Rattle.line_walk.proofs.WalkLaws.{walk_is}
 use Rattle.text.specs.Text.{joined}
 use Rattle.printed.specs.Printed.{Pieces, head_line, end_of_text}
 use Rattle.printed.specs.LineText.{record_line}

@@ -28,7 +28,7 @@ use Rattle.line_step.specs.Turn.{turn_of}
 use Rattle.line_step.specs.declared.LineWalk.{LineWalk}
 use Rattle.line_step.specs.declared.LineWalk.TheVariants as line
 use Rattle.line_walk.specs.Next.{todo, next_of}
-use Rattle.line_walk.specs.NextLaws.{falls}
+use Rattle.line_walk.proofs.NextLaws.{falls}
 use Rattle.text.specs.Text.{joined}
 use Rattle.printed.specs.Printed.{Pieces, longest_line, end_of_text}
 use Rattle.printed.specs.LineText.{record_line}

@@ -34,7 +34,7 @@ use Rattle.line_step.specs.declared.Place.{Place}
 use Rattle.line_step.specs.declared.LineWalk.{LineWalk}
 use Rattle.line_step.specs.declared.LineWalk.TheVariants.{New, Between, Inside}
 use Rattle.line_walk.specs.Next.{next_of}
-use Rattle.line_walk.specs.NextLaws.{next_is}
+use Rattle.line_walk.proofs.NextLaws.{next_is}
 use Rattle.walk.specs.Many.{as_many, many}
 use Rattle.answer_words.specs.Fill.{no_room, counted, fill_of}
 use Rattle.body_lines.specs.declared.InBody.{InBody}

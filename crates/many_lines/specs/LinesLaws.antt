@@ -11,8 +11,8 @@ use Rattle.line_record.specs.declared.EndLines.{EndLines}
 use Rattle.line_step.specs.declared.LineWalk.TheVariants.{New}
 use Rattle.line_walk.specs.Meaning.{records_of, area_records}
 use Rattle.line_walk.specs.Next.{next_of}
-use Rattle.line_walk.specs.WalkLaws.{walk_is}
-use Rattle.line_walk.specs.AreaLaws.{walk_built}
+use Rattle.line_walk.proofs.WalkLaws.{walk_is}
+use Rattle.line_walk.proofs.AreaLaws.{walk_built}
 
 module _ (how : EndLines) (rule : ℕ → Sort) (s v : List ℕ) (k j : ℕ) where
   -- k records at once, and j steps behind them

@@ -19,7 +19,7 @@ use Rattle.line_state_words.specs.LineWords.{record_size}
 use Rattle.line_step.specs.declared.LineWalk.{LineWalk}
 use Rattle.line_step.specs.declared.LineWalk.TheVariants.{New}
 use Rattle.line_walk.specs.Next.{next_of}
-use Rattle.line_walk.specs.ReadingsLaws.{walk_readings}
+use Rattle.line_walk.proofs.ReadingsLaws.{walk_readings}
 use Rattle.answer_words.specs.Fill.{no_room, fill_of}
 use Rattle.many_lines.specs.Lines.{lines_of}
 

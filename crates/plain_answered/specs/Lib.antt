@@ -1,2 +1,1 @@
 pub mod PlainAgree
-pub mod PlainAgreeLaws

@@ -2,4 +2,3 @@ pub mod Printed
 pub mod PrintedLaws
 pub mod LineText
 pub mod LineTextLaws
-pub mod ApartLaws

@@ -1,3 +1,1 @@
 pub mod Chapters
-pub mod ChaptersLaws
-pub mod TablesLaws

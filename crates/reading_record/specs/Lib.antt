@@ -3,4 +3,3 @@ pub mod Record
 pub mod Told
 pub mod Untold
 pub mod RecordLaws
-pub mod RecordsLaws

@@ -1,4 +1,1 @@
 pub mod Step
-pub mod StepLaws
-pub mod WalkLaws
-pub mod ReadingLaws

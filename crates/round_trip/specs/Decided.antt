@@ -3,7 +3,7 @@
 --
 -- To check what is said here a reader needs Listed.antt and InWords.antt of this crate (plain areas; `in_words_lem` and `listed_in_words` of InWordsLaws say that
 -- `Plain` is what document 01 says in words; above 16,777,216 bytes also Plain.antt of `plain`), Reading.antt of `reading` and, of Calls.antt of
--- `writer_decides`, `item_kind` and `limit`, and no proof. The statement is `Decided`; the name below it proves it. What stands behind the written bytes is as
+-- `writer_decides`, `item_kind` and `limit`, and no proof. The statement is `Decided`; DecidedHolds.antt of proofs/ proves it. What stands behind the written bytes is as
 -- it was: `Careful` of Demand. That the bytes of a plain area are those that the writer makes of what it lists is `MadeAgain` of Demand.
 use Rattle.std.specs.Prelude.{ℕ, ◌<◌, ◌≤◌, ◌≡◌, ◌⊎◌, List, [], ◌∷◌, ◌++◌, true, length, take}
 use Rattle.word.specs.Word.{Bytes}
@@ -15,8 +15,6 @@ use Rattle.reading.specs.Reading.{Item, opens, reading}
 use Rattle.plain.specs.Plain.{Plain}
 use Rattle.writer_decides.specs.Calls.{item_kind, limit, answered, buffer_after}
 use Rattle.round_trip.specs.Listed.{PlainAtAnyLength, items_in, kind_after}
-use Rattle.round_trip.specs.Secs.{calls_of}
-use Rattle.round_trip.specs.DecidedLaws.{not_placed, plain_holds, here_reads, one_of_four}
 
 -- the call it stands behind the calls xs: it opens a subsection, or is an entry of the kind of the last call
 abbrev pub InPlace : List Item → Item → Type 0
@@ -51,11 +49,3 @@ Decided =
     → (((w ≤ limit (length b)) × Plain (take w b) → ⊥) → answered it b w ≡ refused (told why.WrongPlace))
     × (w ≤ limit (length b) → Plain (take w b)
     → (xs : List Item) × (reading crate_rule (take w b) ≡ before xs ends) × (Is16 it b w xs ⊎ (Is17 it b w xs ⊎ (Is10 it b w xs ⊎ IsWritten it b w xs))))
-
-pub decided : Decided
-decided it b w h = (
-  not_placed it b w,
-  λ l p.
-      let B = plain_holds b w h p in
-      (calls_of B.0, here_reads it b w B.0 B.2 l B.1, one_of_four it b w B.0 B.2 l B.1),
-)

@@ -17,7 +17,7 @@ use Rattle.order.specs.Order.{order_of, ordered, slots_after, in_order}
 use Rattle.order.specs.BuiltLaws.{built_list, built}
 use Rattle.line_step.specs.declared.LineWalk.{LineWalk}
 use Rattle.line_walk.specs.Meaning.{body_then}
-use Rattle.line_walk.specs.AreaLaws.{body_by_lem, settle_by}
+use Rattle.line_walk.proofs.AreaLaws.{body_by_lem, settle_by}
 use Rattle.line_walk.specs.Next.{next_of}
 use Rattle.symbol_lines.specs.Symbol.{is_at, is_before, symbol_body, body_records, symbol_records, area_symbol, Numbered, numbered, slot_of, at_slot, before_slot, walk_of, walk_to, symbol_walk}
 use Rattle.symbol_lines.specs.RecordsLaws.{symbol_walk_lem}

@@ -14,7 +14,7 @@ use Rattle.order.specs.Order.{in_order}
 use Rattle.line_step.specs.declared.LineWalk.{LineWalk}
 use Rattle.line_walk.specs.Meaning.{events_of}
 use Rattle.line_walk.specs.Next.{next_of}
-use Rattle.line_walk.specs.ReadingsLaws.{with_ends, readings_same}
+use Rattle.line_walk.proofs.ReadingsLaws.{with_ends, readings_same}
 use Rattle.symbol_lines.specs.Symbol.{symbol_body, body_records, symbol_records, area_symbol, slot_in, walk_to, symbol_walk}
 use Rattle.symbol_lines.specs.RecordsLaws.{symbol_walk_lem}
 

@@ -22,9 +22,9 @@ use Rattle.lines.specs.SlotsLaws.{scans_start, named_slot, IsLineBody, list_line
 use Rattle.line_step.specs.declared.LineWalk.{LineWalk}
 use Rattle.line_walk.specs.Meaning.{body_then, events_of, settle}
 use Rattle.line_walk.specs.Next.{next_of}
-use Rattle.line_walk.specs.WalkLaws.{walk_from}
-use Rattle.line_walk.specs.LimitsLaws.{body_limits, settle_limits}
-use Rattle.line_walk.specs.PositionLaws.{ReadFrom, bodies_read}
+use Rattle.line_walk.proofs.WalkLaws.{walk_from}
+use Rattle.line_walk.proofs.LimitsLaws.{body_limits, settle_limits}
+use Rattle.line_walk.proofs.PositionLaws.{ReadFrom, bodies_read}
 use Rattle.symbol_lines.specs.Symbol.{is_at, is_before, symbol_body, body_records, symbol_records, Numbered, numbered, slot_of, at_slot, before_slot, walk_of, walk_to, symbol_walk}
 use Rattle.symbol_lines.specs.SymbolLaws.{symbol_refused}
 

@@ -6,7 +6,7 @@ use mathlib.Core.Path.{◌≡◌, refl, sym, ap, ◌∙◌}
 use Rattle.kinds.specs.Kind.{crate_rule}
 use Rattle.line_step.specs.Told.{told_turn}
 use Rattle.line_walk.specs.Next.{todo, next_of}
-use Rattle.line_walk.specs.NextLaws.{next_is, next_falls}
+use Rattle.line_walk.proofs.NextLaws.{next_is, next_falls}
 use Rattle.line_walk.proofs.next_line.Statement.{statement}
 use Rattle.line_walk.proofs.next_line.Tie as tie
 

@@ -9,7 +9,7 @@ use Rattle.kinds.specs.Kind.{crate_rule}
 use Rattle.line_state_words.specs.LineWords.{record_size}
 use Rattle.line_step.specs.Told.{told_turn}
 use Rattle.line_walk.specs.Next.{todo}
-use Rattle.line_walk.specs.NextLaws.{next_falls}
+use Rattle.line_walk.proofs.NextLaws.{next_falls}
 use Rattle.body_lines.specs.FillLaws.{record_falls}
 use Rattle.many_lines.specs.BodiesLaws.{Turning, turning_start, turning_record, turning_pass, turning_stops, turning_full}
 use Rattle.many_lines.proofs.turns.Statement.{statement}

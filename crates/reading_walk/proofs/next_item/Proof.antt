@@ -9,7 +9,7 @@ use Rattle.reading_record.specs.Told.{told_item}
 use Rattle.reading_record.specs.Untold.{untold_item, untold_item_lem}
 use Rattle.reading_record.specs.declared.ItemStep.{ItemStep}
 use Rattle.reading_record.specs.declared.ItemStep.TheVariants as step
-use Rattle.reading_walk.specs.StepLaws.{between_is, record_passes, record_ends, end_lies}
+use Rattle.reading_walk.proofs.StepLaws.{between_is, record_passes, record_ends, end_lies}
 use Rattle.reading_walk.proofs.next_item.Statement.{statement}
 use Rattle.reading_walk.proofs.next_item.Tie as tie
 

@@ -5,7 +5,7 @@ use native.Mathlib.Omega.{arith}
 use mathlib.Core.Path.{sym, ap, ◌∙◌}
 use Rattle.area.specs.Told.{told_step}
 use Rattle.area.specs.SubsLaws.{sub_next}
-use Rattle.reading_walk.specs.StepLaws.{open_sub_lem, open_other}
+use Rattle.reading_walk.proofs.StepLaws.{open_sub_lem, open_other}
 use Rattle.reading_walk.proofs.open_at.Statement.{statement}
 use Rattle.reading_walk.proofs.open_at.Tie as tie
 

@@ -3,7 +3,7 @@
 use borrow.Author.Rules.{rules}
 use native.Mathlib.Omega.{arith}
 use mathlib.Core.Path.{◌∙◌}
-use Rattle.reading_walk.specs.StepLaws.{opened_lines, opened_checksums, opened_inlinees, opened_imports, opened_exports, opened_opaque}
+use Rattle.reading_walk.proofs.StepLaws.{opened_lines, opened_checksums, opened_inlinees, opened_imports, opened_exports, opened_opaque}
 use Rattle.reading_walk.proofs.open_body.Statement.{statement}
 use Rattle.reading_walk.proofs.open_body.Tie as tie
 

@@ -1,7 +1,7 @@
 -- `reading_walk::open_exports` meets its contract: each way out is a case of `exports_opened`.
 -- Assumes nothing.
 use native.Mathlib.Omega.{arith}
-use Rattle.reading_walk.specs.StepLaws.{exports_open, exports_odd}
+use Rattle.reading_walk.proofs.StepLaws.{exports_open, exports_odd}
 use Rattle.reading_walk.proofs.open_exports.Statement.{statement}
 use Rattle.reading_walk.proofs.open_exports.Tie as tie
 

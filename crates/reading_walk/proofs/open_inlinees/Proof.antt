@@ -2,7 +2,7 @@
 -- Assumes nothing.
 use borrow.Author.Rules.{rules}
 use native.Mathlib.Omega.{arith}
-use Rattle.reading_walk.specs.StepLaws.{inlinees_short, inlinees_open}
+use Rattle.reading_walk.proofs.StepLaws.{inlinees_short, inlinees_open}
 use Rattle.reading_walk.proofs.open_inlinees.Statement.{statement}
 use Rattle.reading_walk.proofs.open_inlinees.Tie as tie
 

@@ -2,7 +2,7 @@
 -- Assumes nothing.
 use borrow.Author.Rules.{rules}
 use native.Mathlib.Omega.{arith}
-use Rattle.reading_walk.specs.StepLaws.{lines_short, lines_open}
+use Rattle.reading_walk.proofs.StepLaws.{lines_short, lines_open}
 use Rattle.reading_walk.proofs.open_lines.Statement.{statement}
 use Rattle.reading_walk.proofs.open_lines.Tie as tie
 

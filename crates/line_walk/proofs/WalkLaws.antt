@@ -46,7 +46,7 @@ use Rattle.line_step.specs.Turn.{LineMove, source_of, entry_in, line_entry_at, w
 use Rattle.line_step.specs.TurnLaws.{entry_inside, OpensIn, next_block_lies}
 use Rattle.line_walk.specs.Meaning.{line, done, Events, entry_then, lines_then, blocks_then, body_then, events_of, Records, settle_one, settle, records_of}
 use Rattle.line_walk.specs.Next.{todo, next_of}
-use Rattle.line_walk.specs.NextLaws.{falls}
+use Rattle.line_walk.proofs.NextLaws.{falls}
 
 -- ---- words at places
 

@@ -23,7 +23,7 @@ use Rattle.order.specs.BuiltLaws.{built_list, built}
 use Rattle.line_step.specs.declared.LineWalk.TheVariants.{New}
 use Rattle.line_walk.specs.Meaning.{line, done, Events, entry_then, behind, lines_then, blocks_then, body_then, events_of, settle_one, settle, records_of, area_records}
 use Rattle.line_walk.specs.Next.{next_of}
-use Rattle.line_walk.specs.WalkLaws.{walk_is}
+use Rattle.line_walk.proofs.WalkLaws.{walk_is}
 
 module _ (rule : ℕ → Sort) (s : List ℕ) (n : ℕ) where
   -- what stands behind the list does not matter

@@ -22,13 +22,13 @@ use Rattle.reading.specs.Reading.{Item, opens, reading}
 use Rattle.plain.specs.Plain.{Last, nothing_yet, plain_of, Plain}
 use Rattle.writer_decides.specs.Calls.{item_kind, obeys, Act, goes, stops, limit, place, of_kind, room, else_not_plain, needs, on_last, wrote, answered, buffer_after}
 use Rattle.round_trip.specs.Secs.{Sec, GoodSec, raws_of, calls_of, last_of}
-use Rattle.round_trip.specs.SecLaws.{reads_join}
+use Rattle.round_trip.proofs.SecLaws.{reads_join}
 use Rattle.round_trip.specs.Run.{State, place_after, done_after, called}
-use Rattle.round_trip.specs.RoundLaws.{Holds, at_is, place_here, call_held}
-use Rattle.round_trip.specs.BackLaws.{plain_back}
+use Rattle.round_trip.proofs.RoundLaws.{Holds, at_is, place_here, call_held}
+use Rattle.round_trip.proofs.BackLaws.{plain_back}
 use Rattle.round_trip.specs.Listed.{PlainAtAnyLength, items_in, kind_after}
-use Rattle.round_trip.specs.ExactLaws.{Fitting, last_after, longer_fits, secs_plain, secs_lists, fits_more, answer_is}
-use Rattle.round_trip.specs.Demand.{crate_knows}
+use Rattle.round_trip.proofs.ExactLaws.{Fitting, last_after, longer_fits, secs_plain, secs_lists, fits_more, answer_is}
+use Rattle.round_trip.proofs.DemandHolds.{crate_knows}
 
 module _ (it : Item) (b : List ℕ) (w : ℕ) where
   none_stops : place b w ≡ none → answered it b w ≡ refused (told why.WrongPlace)

@@ -25,11 +25,11 @@ use Rattle.plain.specs.Plain.{size_of, Last, nothing_yet, plain_of, KnowsPlain}
 use Rattle.writer_decides.specs.Calls.{item_kind, bytes_for, block_rule, checksum_rule, obeys, goes, stops, limit, place, of_kind, room, else_not_plain, needs, on_last, act, patch}
 use Rattle.writer_decides.specs.CallLaws.{room_there, kind_same, needs_is, patch_is, act_is}
 use Rattle.round_trip.specs.Secs.{Sec, lines_of, checksums_of, inlinees_of, imports_of, exports_of, opaque_of, kind_sec, body_sec, raw_sec, calls_sec, Sized, Ascend, floor_after, GoodSec, mark_sec, raws_of, calls_of, last_of}
-use Rattle.round_trip.specs.SecLaws.{reads_join}
+use Rattle.round_trip.proofs.SecLaws.{reads_join}
 use Rattle.round_trip.specs.Run.{State, called, run_calls, empty, written, accepted}
-use Rattle.round_trip.specs.HoldLaws.{join_length, last_snoc, bigger_block, bigger_checksum, bigger_inlinee, bigger_module, bigger_pair, bigger, fresh}
-use Rattle.round_trip.specs.RoundLaws.{Holds, called_goes, at_is, place_here, holds_fresh, holds_bigger, empty_holds}
-use Rattle.round_trip.specs.BackLaws.{plain_back}
+use Rattle.round_trip.proofs.HoldLaws.{join_length, last_snoc, bigger_block, bigger_checksum, bigger_inlinee, bigger_module, bigger_pair, bigger, fresh}
+use Rattle.round_trip.proofs.RoundLaws.{Holds, called_goes, at_is, place_here, holds_fresh, holds_bigger, empty_holds}
+use Rattle.round_trip.proofs.BackLaws.{plain_back}
 
 -- ---- a call is accepted
 

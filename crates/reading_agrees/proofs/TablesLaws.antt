@@ -38,7 +38,7 @@ use Rattle.order.specs.Order.{body_of, line_bodies}
 use Rattle.order.specs.BuiltLaws.{map_map}
 use Rattle.reading.specs.Reading.{Item, open_lines, block, checksum, inlinee, imports, exports, Items, each, lines_items, checksums_items, inlinees_items, imports_items, exports_items, items_of, sub_items, reading}
 use Rattle.reading_agrees.specs.Chapters.{chapters, begins, records, records_in, dropped}
-use Rattle.reading_agrees.specs.ChaptersLaws.{Whole, first_chapter, last_chapter, only_chapters, whole_left, whole_right, spreads}
+use Rattle.reading_agrees.proofs.ChaptersLaws.{Whole, first_chapter, last_chapter, only_chapters, whole_left, whole_right, spreads}
 
 -- ---- what is picked passes the test
 

@@ -21,12 +21,12 @@ use Rattle.plain.specs.Plain.{Last, nothing_yet, plain_from}
 use Rattle.writer_decides.specs.Calls.{item_kind, bytes_for, obeys, Act, goes, stops, limit, place, of_kind, room, else_not_plain, needs, on_last, wrote, answered}
 use Rattle.writer_decides.specs.CallLaws.{needs_is, kind_some}
 use Rattle.round_trip.specs.Secs.{Sec, lines_of, checksums_of, inlinees_of, imports_of, exports_of, opaque_of, kind_sec, body_sec, calls_sec, Sized, Ascend, floor_after, GoodSec, mark_sec, raws_of, calls_of, last_of}
-use Rattle.round_trip.specs.SecLaws.{before_append, then_before, good_reads, plain_from_lem}
-use Rattle.round_trip.specs.HoldLaws.{calls_snoc, join_length, last_snoc, Snoc, snoc_view, each_init, bigger, fresh}
-use Rattle.round_trip.specs.RoundLaws.{before_one}
-use Rattle.round_trip.specs.AgainLaws.{block_obeys, checksum_obeys, extra_obeys}
+use Rattle.round_trip.proofs.SecLaws.{before_append, then_before, good_reads, plain_from_lem}
+use Rattle.round_trip.proofs.HoldLaws.{calls_snoc, join_length, last_snoc, Snoc, snoc_view, each_init, bigger, fresh}
+use Rattle.round_trip.proofs.RoundLaws.{before_one}
+use Rattle.round_trip.proofs.AgainLaws.{block_obeys, checksum_obeys, extra_obeys}
 use Rattle.round_trip.specs.Listed.{PlainAtAnyLength, items_in, kind_after, mark_next, mark_after}
-use Rattle.round_trip.specs.ListedLaws.{area_of, area_lists, listed_before}
+use Rattle.round_trip.proofs.ListedLaws.{area_of, area_lists, listed_before}
 
 -- a call obeys the rules behind a subsection of a kind and a mark
 pub record Fitting (k m : ℕ) (i : Item) : Type 0 where

@@ -13,7 +13,7 @@ use Rattle.line_record.proofs.LimitsLaws.{Limits, entry_limits, close_limits}
 use Rattle.lines.specs.Lines.{Body}
 use Rattle.lines.specs.Slots.{list_of}
 use Rattle.line_walk.specs.Meaning.{line, done, Events, body_then, events_of, settle_one, settle, records_of}
-use Rattle.line_walk.specs.EveryLaws.{OnLine, body_every}
+use Rattle.line_walk.proofs.EveryLaws.{OnLine, body_every}
 
 module _ (how : EndLines) where
   pub body_limits : (b : Body) (l : Events) → Every (OnLine (Limits how)) l → Every (OnLine (Limits how)) (body_then how b l)

@@ -6,8 +6,8 @@ use Rattle.plain.specs.Plain.{plain_of, Plain}
 use Rattle.plain.specs.LastLaws.{not_long}
 use Rattle.round_trip.specs.Listed.{PlainAtAnyLength}
 use Rattle.round_trip.specs.InWords.{PlainInWords}
-use Rattle.round_trip.specs.ToWordsLaws.{to_words}
-use Rattle.round_trip.specs.FromWordsLaws.{from_words}
+use Rattle.round_trip.proofs.ToWordsLaws.{to_words}
+use Rattle.round_trip.proofs.FromWordsLaws.{from_words}
 
 -- THE THEOREM
 pub in_words : (s : List ℕ) → (Plain s → PlainInWords s) × (PlainInWords s → Plain s)

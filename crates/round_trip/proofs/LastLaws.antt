@@ -12,12 +12,12 @@ use Rattle.area.specs.JoinLaws.{parts_whole, join_append}
 use Rattle.reading.specs.Reading.{Item, reading}
 use Rattle.plain.specs.Plain.{Last, nothing_yet, plain_of}
 use Rattle.round_trip.specs.Secs.{Sec, kind_sec, body_sec, raw_sec, mark_sec, raws_of, calls_of, last_of}
-use Rattle.round_trip.specs.SecLaws.{plain_join, reads_join}
-use Rattle.round_trip.specs.HoldLaws.{raws_snoc, last_snoc, Snoc, snoc_view}
-use Rattle.round_trip.specs.BackLaws.{plain_back}
+use Rattle.round_trip.proofs.SecLaws.{plain_join, reads_join}
+use Rattle.round_trip.proofs.HoldLaws.{raws_snoc, last_snoc, Snoc, snoc_view}
+use Rattle.round_trip.proofs.BackLaws.{plain_back}
 use Rattle.round_trip.specs.Listed.{kind_after, mark_after}
-use Rattle.round_trip.specs.ExactLaws.{last_after}
-use Rattle.round_trip.specs.Demand.{crate_knows, plain_short}
+use Rattle.round_trip.proofs.ExactLaws.{last_after}
+use Rattle.round_trip.proofs.DemandHolds.{crate_knows, plain_short}
 
 -- the last subsection of s begins at a place, before which whole subsections stand, and is of a kind
 abbrev pub LastAt : List ℕ → ℕ → ℕ → Type 0

@@ -14,9 +14,9 @@ use Rattle.plain.specs.Plain.{Last, nothing_yet, plain_of, KnowsPlain}
 use Rattle.writer_decides.specs.Calls.{item_kind, bytes_for, obeys, Act, goes, stops, limit, place, needs, act, grown, patch, wrote, kept}
 use Rattle.writer_decides.specs.CallLaws.{place_in, needs_is, patch_is, act_is, kind_some, act_goes, Grows, grow_goes}
 use Rattle.round_trip.specs.Secs.{Sec, kind_sec, body_sec, calls_sec, GoodSec, mark_sec, raws_of, calls_of, last_of}
-use Rattle.round_trip.specs.SecLaws.{plain_join, reads_join}
+use Rattle.round_trip.proofs.SecLaws.{plain_join, reads_join}
 use Rattle.round_trip.specs.Run.{State, place_after, done_after, called, run_calls, empty, written, accepted}
-use Rattle.round_trip.specs.HoldLaws.{calls_snoc, join_length, last_snoc, Snoc, snoc_view, each_init, bigger, fresh, after_fresh, after_bigger}
+use Rattle.round_trip.proofs.HoldLaws.{calls_snoc, join_length, last_snoc, Snoc, snoc_view, each_init, bigger, fresh, after_fresh, after_bigger}
 
 -- what is known of a state: its buffer holds ss up to its place
 pub record Holds (st : State) (ss : List Sec) : Type 0 where

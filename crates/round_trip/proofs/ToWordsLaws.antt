@@ -22,12 +22,12 @@ use Rattle.plain.specs.Plain.{block_filled, plain_block, size_of, tidy, plain_ch
 use Rattle.plain.specs.RecordLaws.{padding_two}
 use Rattle.plain.specs.LastLaws.{not_long}
 use Rattle.round_trip.specs.Secs.{calls_of}
-use Rattle.round_trip.specs.BackLaws.{no_some, marked_some, Marked}
-use Rattle.round_trip.specs.ListedLaws.{KnownKind, Area, area_of, area_reads}
-use Rattle.round_trip.specs.Demand.{crate_knows, plain_short}
+use Rattle.round_trip.proofs.BackLaws.{no_some, marked_some, Marked}
+use Rattle.round_trip.proofs.ListedLaws.{KnownKind, Area, area_of, area_reads}
+use Rattle.round_trip.proofs.DemandHolds.{crate_knows, plain_short}
 use Rattle.round_trip.specs.InWords.{Lists, ListsNext, records_at, have_columns, PaddingZero, ExactlyFilled, PlainInWords}
-use Rattle.round_trip.specs.SpotsLaws.{all_pass}
-use Rattle.round_trip.specs.ItemLaws.{each_lists, GoodItem, secs_items, secs_rise}
+use Rattle.round_trip.proofs.SpotsLaws.{all_pass}
+use Rattle.round_trip.proofs.ItemLaws.{each_lists, GoodItem, secs_items, secs_rise}
 
 before_whole : {B : Type 0} (xs : List B) → ◌≡◌ {A = Reply B Told} (failure (before xs ends)) nothing
 unfolding failure

@@ -32,11 +32,11 @@ use Rattle.reading.specs.Reading.{checksum, inlinee, imports, exports, Items, ea
 use Rattle.plain.specs.Plain.{Last, mark_of, plain_of, Plain, KnowsPlain}
 use Rattle.plain.specs.Plain as plain
 use Rattle.round_trip.specs.Secs.{Ascend}
-use Rattle.round_trip.specs.BackLaws.{Marked, plain_marked, ascends_list}
-use Rattle.round_trip.specs.Demand.{again}
+use Rattle.round_trip.proofs.BackLaws.{Marked, plain_marked, ascends_list}
+use Rattle.round_trip.proofs.DemandHolds.{again}
 use Rattle.reading_agrees.specs.Chapters.{up_to, chapters, begins, records, records_in, dropped}
-use Rattle.reading_agrees.specs.ChaptersLaws.{Whole}
-use Rattle.reading_agrees.specs.TablesLaws.{Passes, first_passes, exports_agree, imports_agree, inlinees_agree, files_agree, lines_pass}
+use Rattle.reading_agrees.proofs.ChaptersLaws.{Whole}
+use Rattle.reading_agrees.proofs.TablesLaws.{Passes, first_passes, exports_agree, imports_agree, inlinees_agree, files_agree, lines_pass}
 use Rattle.plain_answered.specs.PlainAgree.{NotRefused, Answered}
 
 -- ---- a listing that does not fail, and what is picked from it

@@ -21,7 +21,7 @@ use Rattle.order.specs.Order.{in_order}
 use Rattle.line_step.specs.declared.LineWalk.TheVariants.{New}
 use Rattle.line_walk.specs.Meaning.{Event, line, done, Events, entry_then, behind, lines_then, blocks_then, body_then, events_of, Records, settle_one, settle, records_of, area_records}
 use Rattle.line_walk.specs.Next.{next_of}
-use Rattle.line_walk.specs.WalkLaws.{walk_is}
+use Rattle.line_walk.proofs.WalkLaws.{walk_is}
 
 module _ (last : ℕ) where
   -- records, and events, with `last` for each end line

@@ -25,12 +25,12 @@ use Rattle.reading.specs.BodiesLaws.{numbered, reading_bodies}
 use Rattle.plain.specs.Plain.{block_filled, plain_block, size_of, tidy, plain_checksum, ends_whole, wholly, ascends_from, marked, lines_mark, inlinees_mark, is_opaque, mark_of, Last, nothing_yet, on_mark, plain_from, plain_of, Plain}
 use Rattle.plain.specs.RecordLaws.{padding_two, known_opaque}
 use Rattle.round_trip.specs.Secs.{Ascend, floor_after}
-use Rattle.round_trip.specs.SecLaws.{numbered_before, before_numbered, ascends_forth}
-use Rattle.round_trip.specs.BackLaws.{Marked}
-use Rattle.round_trip.specs.ListedLaws.{checksum_holds, not_before}
+use Rattle.round_trip.proofs.SecLaws.{numbered_before, before_numbered, ascends_forth}
+use Rattle.round_trip.proofs.BackLaws.{Marked}
+use Rattle.round_trip.proofs.ListedLaws.{checksum_holds, not_before}
 use Rattle.round_trip.specs.InWords.{Lists, ListsNext, records_at, have_columns, PaddingZero, ExactlyFilled, PlainInWords}
-use Rattle.round_trip.specs.SpotsLaws.{pass_all}
-use Rattle.round_trip.specs.ItemLaws.{GoodItem, each_split, items_good, Rises, rises_left, rises_right, rise_ascends}
+use Rattle.round_trip.proofs.SpotsLaws.{pass_all}
+use Rattle.round_trip.proofs.ItemLaws.{GoodItem, each_split, items_good, Rises, rises_left, rises_right, rise_ascends}
 
 -- ---- listings that end whole
 

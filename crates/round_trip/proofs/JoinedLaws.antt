@@ -8,8 +8,8 @@ use Rattle.reading.specs.Reading.{Item}
 use Rattle.writer_decides.specs.Calls.{limit}
 use Rattle.round_trip.specs.Secs.{Sec, calls_sec, GoodSec, raws_of, calls_of}
 use Rattle.round_trip.specs.Run.{run_calls, empty, written, accepted}
-use Rattle.round_trip.specs.RoundLaws.{at_is, run_held, empty_holds}
-use Rattle.round_trip.specs.AgainLaws.{raws_append, secs_run}
+use Rattle.round_trip.proofs.RoundLaws.{at_is, run_held, empty_holds}
+use Rattle.round_trip.proofs.AgainLaws.{raws_append, secs_run}
 
 -- calls of subsections of good form, whose bytes they write
 pub record Made (its : List Item) (s : List ℕ) : Type 0 where

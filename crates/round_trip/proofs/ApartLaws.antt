@@ -28,8 +28,8 @@ use Rattle.writer_decides.specs.CallLaws.{room_there, room_none, place_past, pla
 use Rattle.round_trip.specs.Secs.{last_of}
 use Rattle.round_trip.specs.Run.{State, place_after, done_after, called, run_calls}
 use Rattle.round_trip.specs.Apart.{Apart, begins_at, rest_from, counted_from, answered_apart, buffer_apart, begins_after, called_apart, run_apart, begun}
-use Rattle.round_trip.specs.EachLaws.{refused_same}
-use Rattle.round_trip.specs.RoundLaws.{plain_here, Held, call_held, empty_holds}
+use Rattle.round_trip.proofs.EachLaws.{refused_same}
+use Rattle.round_trip.proofs.RoundLaws.{plain_here, Held, call_held, empty_holds}
 
 -- ---- a plain area in front of others
 

@@ -17,12 +17,12 @@ use Rattle.reading.specs.Reading.{Items, lines_items, checksums_items, inlinees_
 use Rattle.reading.specs.Reading as reading
 use Rattle.reading_record.specs.Item.{item_of}
 use Rattle.reading_record.specs.Record.{ItemAnswer}
-use Rattle.reading_record.specs.RecordsLaws.{records_from, meant, first_at, shown, records_mean}
+use Rattle.reading_record.proofs.RecordsLaws.{records_from, meant, first_at, shown, records_mean}
 use Rattle.reading_record.specs.declared.ItemWalk.TheVariants as walk
 use Rattle.reading_record.specs.declared.TypedBody.{TypedBody}
 use Rattle.reading_record.specs.declared.TypedBody.TheVariants as typed
 use Rattle.reading_walk.specs.Step.{lines_opened, inlinees_opened, exports_opened, opened, item_step}
-use Rattle.reading_walk.specs.WalkLaws.{opened_items, items_at, from_subs, items_are}
+use Rattle.reading_walk.proofs.WalkLaws.{opened_items, items_at, from_subs, items_are}
 
 module _ (rule : ℕ → Sort) (s : List ℕ) where
   -- ---- a subsection's items are what its body is read as

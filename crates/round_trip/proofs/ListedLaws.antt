@@ -32,8 +32,8 @@ use Rattle.plain.specs.Plain.{strict, block_filled, plain_block, size_of, tidy, 
 use Rattle.plain.specs.WalkLaws.{strict_sound}
 use Rattle.round_trip.specs.Secs.{Sec, lines_of, checksums_of, inlinees_of, imports_of, exports_of, opaque_of, kind_sec, calls_sec, Sized, GoodSec, calls_of}
 use Rattle.round_trip.specs.Listed.{PlainAtAnyLength, items_in}
-use Rattle.round_trip.specs.SecLaws.{each_before, before_append, then_before, good_kind, good_reads, numbered_before, before_numbered}
-use Rattle.round_trip.specs.BackLaws.{no_some, marked_some, whole_list, ascends_list, Marked, from_list}
+use Rattle.round_trip.proofs.SecLaws.{each_before, before_append, then_before, good_kind, good_reads, numbered_before, before_numbered}
+use Rattle.round_trip.proofs.BackLaws.{no_some, marked_some, whole_list, ascends_list, Marked, from_list}
 
 -- ---- a walk that also tests, and the same without
 

@@ -19,7 +19,7 @@ use Rattle.table.specs.Table.{Place, spot_in}
 use Rattle.table.specs.TableLaws.{spot_inside, Inside, in_inside}
 use Rattle.reading_record.specs.Item.{ToldItem}
 use Rattle.reading_record.specs.Record.{ItemAnswer, record_at}
-use Rattle.reading_record.specs.RecordsLaws.{records_from, records_step}
+use Rattle.reading_record.proofs.RecordsLaws.{records_from, records_step}
 use Rattle.reading_record.specs.declared.ItemWalk.{ItemWalk}
 use Rattle.reading_record.specs.declared.ItemWalk.TheVariants as walk
 use Rattle.reading_record.specs.declared.TypedBody.{TypedBody}

@@ -1,0 +1,2 @@
+pub mod ChaptersLaws
+pub mod TablesLaws

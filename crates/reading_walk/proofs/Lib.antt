@@ -1,0 +1,3 @@
+pub mod StepLaws
+pub mod WalkLaws
+pub mod ReadingLaws
