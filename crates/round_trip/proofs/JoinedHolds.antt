@@ -9,7 +9,7 @@ use Rattle.round_trip.specs.Run.{State, written, accepted}
 use Rattle.round_trip.specs.Apart.{run_apart, begun}
 use Rattle.round_trip.proofs.ApartLaws.{plain_front, from_after, begun_kept, apart_alike, apart_run}
 use Rattle.round_trip.proofs.JoinedLaws.{Made, made, none_made, both_made, made_writes}
-use Rattle.round_trip.specs.Joined.{TwoJoined, Piece, calls, buf, calls_in, bytes_in, AllJoined, PlainJoined, SameApart}
+use Rattle.round_trip.specs.Joined.{TwoJoined, Piece, calls_in, bytes_in, AllJoined, PlainJoined, SameApart}
 
 pub two_joined : TwoJoined
 two_joined its its' b b' c l =
