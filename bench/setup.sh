@@ -9,7 +9,7 @@ here=$(cd "$(dirname "$0")" && pwd -P)
 [ $# -eq 1 ] || { echo "usage: setup.sh DIR" >&2; exit 2; }
 "$here/../scripts/needs" bench/setup.sh rt apt-get apt-cache dpkg
 kit=$("$here/../scripts/kit")
-tools=$kit/on/$(uname -m)/toolchain
+tools=$kit/toolchain
 for tool in clang ld.lld; do
     [ -x "$tools/bin/$tool" ] || { echo "bench/setup.sh: the kit at $kit has no $tool for this machine, $(uname -m); nothing is fetched" >&2; exit 2; }
 done

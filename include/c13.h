@@ -322,7 +322,7 @@ uint32_t c13_tables_part(const uint8_t *stream, size_t stream_len, uint32_t symb
  *
  * LONG AREAS. A call tests all that is before its place, so the time of a sequence on one area grows with the square of its length. Subsections do not depend
  * on each other: areas that are written apart, each from place 0, and laid end to end are the area that all the calls write, and each call is answered the
- * same, refused ones too, but that its place counts from its area's start (proved: `all-joined`, `same-apart` of crates/round_trip). So write each
+ * same, refused ones too, but that its place counts from its area's start (proved: `all_joined`, `same_apart` of crates/round_trip). So write each
  * subsection as an area of its own into the free rest of the buffer. Keep `last`, where the last subsection begins, and `place`, which was last answered
  * there, both 0 at first; `end` is the smaller of the buffer's length and 16,777,216:
  *

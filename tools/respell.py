@@ -57,7 +57,7 @@ def kit_names():
     for path in files(('.antt', '.rt')):
         for m in re.finditer(r"use ([^\s{]+)\.\{([^}]*)\}", read(path)):
             parts = m.group(1).split('.')
-            if parts[0] == 'Rattle' and parts[1] in own and not re.search(r'\.(Goals|Given|Tie|Statement)$', m.group(1)):
+            if parts[0] == 'Rattle' and parts[1] in own and not re.search(r'\.proofs\..*\.(Goals|Given|Tie|Statement)$', m.group(1)):
                 continue
             for one in m.group(2).split(','):
                 names[one.strip().split(' as ')[-1].strip()].add(path)
@@ -140,7 +140,7 @@ def main():
         if of_function(path):
             imported = set()
             for m in re.finditer(r"use ([^\s{]+)\.\{([^}]*)\}", text):
-                if not re.search(r'\.(Goals|Given|Tie|Statement)$', m.group(1)):
+                if not re.search(r'\.proofs\..*\.(Goals|Given|Tie|Statement)$', m.group(1)):
                     imported |= {x.strip().split(' as ')[-1].strip() for x in m.group(2).split(',')}
             skip = {n for n in declared(path) if n not in imported}
         skip |= {n for n in rename if path in kit.get(n, ())}

@@ -115,7 +115,7 @@ impl From<Refusal> for WriteError {
 pub struct Writer<'a> {
     buf: &'a mut [u8],
     /// Where the last subsection begins. It is written as an area of its own, so that a call tests no more than that. Areas written apart and laid end to
-    /// end are the area that all the calls write, and each call is answered as if it were lent the whole (`same-apart` of crates/round_trip).
+    /// end are the area that all the calls write, and each call is answered as if it were lent the whole (`same_apart` of crates/round_trip).
     last: usize,
     place: usize,
 }

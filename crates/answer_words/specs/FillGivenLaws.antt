@@ -10,7 +10,7 @@ use Rattle.walk.specs.Cases.{by_cases}
 use Rattle.walk.specs.Listing.{Answer, gives, none, refuses}
 use Rattle.walk.specs.Many.{Many, then_many, as_many, many}
 use Rattle.refusal.specs.Told.{Told}
-use Rattle.answer_words.specs.Given.{given, Gives, statusIn, shortGiven}
+use Rattle.answer_words.specs.Given.{given, Gives, status_in, short_given}
 use Rattle.answer_words.specs.GivenLaws.{gives_put, gives_fits, gives_as, room_changes, room_keeps, room_still}
 use Rattle.answer_words.specs.Fill.{no_room, counted, filled, fill_of}
 use Rattle.answer_words.specs.FillGiven.{count_words, answer_status, many_given, asked_size, fill_given, fill_left}
@@ -80,7 +80,7 @@ module _ {S B : Type 0} (k : ℕ) (over : S → Bool) (g : S → List ℕ) (f : 
   fill_careful sized q z u =
       room_still Answered (asked_size k) o (many_given k over g (counted a)) x (filled f x a) (by a) q (⊎_elim z u)
     where
-      by : (a : Answer S (List B) Told) → asked_size k ≤ length o → Answered (statusIn o (many_given k over g (counted a))) ⊎ (filled f x a ≡ x)
+      by : (a : Answer S (List B) Told) → asked_size k ≤ length o → Answered (status_in o (many_given k over g (counted a))) ⊎ (filled f x a ≡ x)
       by (gives rs w) l =
           let ws = count_words g (length rs) w in
           let n = length-append (g w) (length rs ∷ []) in
@@ -109,6 +109,6 @@ module _ {S B : Type 0} (k : ℕ) (over : S → Bool) (g : S → List ℕ) (f : 
       by none h q = other 0 (gives_fits q (λ e. omega arith)).0 (λ e. omega arith)
       by (refuses t) h q = other 2 (gives_fits q (λ e. omega arith)).0 (λ e. omega arith)
 
-      room : (t : Bool) → Gives o (cond t (many_given k over g (counted a)) shortGiven) 4 left → P left
+      room : (t : Bool) → Gives o (cond t (many_given k over g (counted a)) short_given) 4 left → P left
       room true q = by a h q
       room false q = other 3 (gives_fits q (λ e. omega arith)).0 (λ e. omega arith)

@@ -12,22 +12,22 @@ use Rattle.word.specs.Word.{put, store}
 use Rattle.word.specs.WordLaws.{put_before, put_behind}
 use Rattle.walk.specs.Listing.{Reply, gave, nothing, refused}
 use Rattle.refusal.specs.Told.{Told}
-use Rattle.answer_words.specs.Given.{Given, given, Gives, statusIn, noneGiven, ifChosen, choiceGiven, refusalSize, one, replyGiven, ifRoom, shortGiven}
+use Rattle.answer_words.specs.Given.{Given, given, Gives, status_in, none_given, if_chosen, choice_given, refusal_size, one, reply_given, if_room, short_given}
 
 module _ (o : List ℕ) (g : Given) where
   -- words that fit are put
   pub gives_put : g.at + length g.words ≤ length o → Gives o g g.status (put o g.at g.words)
-  unfolding statusIn store
+  unfolding status_in store
   gives_put h = record { status = rw (le-leb (g.at + length g.words) (length o) h); words = rw (le-leb (g.at + length g.words) (length o) h) }
 
   -- others are not
   pub gives_short : length o < g.at + length g.words → Gives o g 3 o
-  unfolding statusIn store
+  unfolding status_in store
   gives_short h = record { status = rw (lt-leb (g.at + length g.words) (length o) h); words = rw (lt-leb (g.at + length g.words) (length o) h) }
 
 -- any status but 3 is the answer's own, and its words are put
 pub gives_fits : {o left : List ℕ} {g : Given} {r : ℕ} → Gives o g r left → (r ≡ 3 → ⊥) → (r ≡ g.status) × (left ≡ put o g.at g.words)
-unfolding statusIn store
+unfolding status_in store
 gives_fits {o} {left} {g} {r} h z = go (leb (g.at + length g.words) (length o)) h.status h.words
   where
     go : (t : Bool) → r ≡ cond t g.status 3 → left ≡ cond t (put o g.at g.words) o → (r ≡ g.status) × (left ≡ put o g.at g.words)
@@ -58,7 +58,7 @@ gives_one h k = (h.status ∙ sym k.status, h.words ∙ sym k.words)
 pub gives_nothing : (status : ℕ) (o : List ℕ) → Gives o (given status 0 []) status o
 gives_nothing status o = gives_put o (given status 0 []) (omega arith)
 
-pub gives_none : (o : List ℕ) → Gives o noneGiven 0 o
+pub gives_none : (o : List ℕ) → Gives o none_given 0 o
 gives_none o = gives_nothing 0 o
 
 -- what is given of an answer m is given of every n that it equals
@@ -67,11 +67,11 @@ gives_as f {o = o} {left = left} {r = r} e h = subst (λ x. Gives o (f x) r left
 
 -- by a choice c of the caller's, which m names; and where m names none
 module _ {C : Type 0} (f : C → Given) (m : Option C) {o : List ℕ} where
-  pub gives_chosen : (c : C) → some c ≡ m → {left : List ℕ} {r : ℕ} → Gives o (f c) r left → Gives o (ifChosen choiceGiven f m) r left
-  gives_chosen c e h = gives_as (ifChosen choiceGiven f) e h
+  pub gives_chosen : (c : C) → some c ≡ m → {left : List ℕ} {r : ℕ} → Gives o (f c) r left → Gives o (if_chosen choice_given f m) r left
+  gives_chosen c e h = gives_as (if_chosen choice_given f) e h
 
-  pub gives_unchosen : none ≡ m → Gives o (ifChosen choiceGiven f m) 5 o
-  gives_unchosen e = gives_as (ifChosen choiceGiven f) e (gives_nothing 5 o)
+  pub gives_unchosen : none ≡ m → Gives o (if_chosen choice_given f m) 5 o
+  gives_unchosen e = gives_as (if_chosen choice_given f) e (gives_nothing 5 o)
 
 pub gives_status : {o left ws : List ℕ} {at m n r : ℕ} → m ≡ n → Gives o (given m at ws) r left → Gives o (given n at ws) r left
 gives_status {ws = ws} {at = at} e h = gives_as (λ s. given s at ws) e h
@@ -94,19 +94,19 @@ module _ (o : List ℕ) (at : ℕ) (s : List ℕ) (t : List ℕ) (i : ℕ) (e : 
 
 module _ {M : Type 0} (k : ℕ) (o : List ℕ) (g : Given) (m n : M) where
   -- with room it does what it does
-  pub room_changes : {r : ℕ} {left : List ℕ} {x : M} → k ≤ length o → Gives o g r left → x ≡ n → Gives o (ifRoom k o g shortGiven) r left × (x ≡ ifRoom k o n m)
+  pub room_changes : {r : ℕ} {left : List ℕ} {x : M} → k ≤ length o → Gives o g r left → x ≡ n → Gives o (if_room k o g short_given) r left × (x ≡ if_room k o n m)
   room_changes h q e = rw (le-leb k (length o) h) (q, e)
 
   -- without, nothing
-  pub room_keeps : length o < k → Gives o (ifRoom k o g shortGiven) 3 o × (m ≡ ifRoom k o n m)
+  pub room_keeps : length o < k → Gives o (if_room k o g short_given) 3 o × (m ≡ if_room k o n m)
   room_keeps h = rw (lt-leb k (length o) h) (gives_nothing 3 o, refl)
 
 -- THE LAW: with any status but those of an answer such a call changes nothing, if with room it has an answer or leaves m
 pub room_still : {M : Type 0} (Answered : ℕ → Type 0) (k : ℕ) (o : List ℕ) (g : Given) (m n : M) {r : ℕ} {left : List ℕ}
-    → (k ≤ length o → Answered (statusIn o g) ⊎ (n ≡ m)) → Gives o (ifRoom k o g shortGiven) r left → (Answered r → ⊥) → ifRoom k o n m ≡ m
+    → (k ≤ length o → Answered (status_in o g) ⊎ (n ≡ m)) → Gives o (if_room k o g short_given) r left → (Answered r → ⊥) → if_room k o n m ≡ m
 room_still {M} Answered k o g m n {r} h q z = go (leb k (length o)) refl q.status
   where
-    go : (t : Bool) → leb k (length o) ≡ t → r ≡ statusIn o (cond t g shortGiven) → cond t n m ≡ m
+    go : (t : Bool) → leb k (length o) ≡ t → r ≡ status_in o (cond t g short_given) → cond t n m ≡ m
     go true e s = ⊎_elim (λ a. absurd (z (subst⁻¹ Answered s a))) (λ b. b) (h (omega (arith, leb-true k (length o) e)))
     go false e s = refl
 
@@ -118,10 +118,10 @@ Still (refused t) m n = n ≡ m
 
 -- THE LAW for a call of one answer
 pub room_careful : {M : Type 0} (o : List ℕ) (x : Reply ℕ Told) (m n : M) {r : ℕ} {left : List ℕ}
-    → Still x m n → Gives o (ifRoom refusalSize o (replyGiven one x) shortGiven) r left → (r ≡ 1 → ⊥) → ifRoom refusalSize o n m ≡ m
-room_careful o x m n h g z = room_still (λ q. q ≡ 1) refusalSize o (replyGiven one x) m n (by x h) g z
+    → Still x m n → Gives o (if_room refusal_size o (reply_given one x) short_given) r left → (r ≡ 1 → ⊥) → if_room refusal_size o n m ≡ m
+room_careful o x m n h g z = room_still (λ q. q ≡ 1) refusal_size o (reply_given one x) m n (by x h) g z
   where
-    by : (y : Reply ℕ Told) → Still y m n → refusalSize ≤ length o → (statusIn o (replyGiven one y) ≡ 1) ⊎ (n ≡ m)
+    by : (y : Reply ℕ Told) → Still y m n → refusal_size ≤ length o → (status_in o (reply_given one y) ≡ 1) ⊎ (n ≡ m)
     by (gave k) q l = inl (sym (gives_put o (given 1 0 (one k)) (omega arith)).status)
     by nothing q l = inr q
     by (refused t) q l = inr q

@@ -5,7 +5,7 @@
 ghost use Rattle.std.specs.Prelude.{◌≡◌, [], ◌∷◌, get_or};
 ghost use Rattle.word.specs.Word.{store};
 ghost use Rattle.refusal.specs.Told.{told};
-ghost use Rattle.answer_words.specs.Given.{given, Gives, refusalGiven};
+ghost use Rattle.answer_words.specs.Given.{given, Gives, refusal_given};
 ghost use Rattle.answer_words.specs.FillGiven.{answer_status};
 ghost use Rattle.answer_words.specs.TableWords.{walk_in, walk_words, over_table};
 
@@ -94,7 +94,7 @@ pub fn answer_status(last: bool) -> u32
 
 // A refusal, put behind the state of a walk, which stays.
 pub fn put_refusal(out: &mut [u64], state: usize, why: Refusal) -> u32
-    ensures { Gives out.old (refusalGiven state (told why)) result out.new }
+    ensures { Gives out.old (refusal_given state (told why)) result out.new }
 {
     let pair = numbers(why);
     put(out, state, &[pair.0, pair.1], REFUSED)

@@ -5,7 +5,7 @@
 
 ghost use Rattle.std.specs.Prelude.{◌≡◌, length};
 ghost use Rattle.kinds.specs.Kind.{crate_rule};
-ghost use Rattle.answer_words.specs.Given.{Gives, replyGiven};
+ghost use Rattle.answer_words.specs.Given.{Gives, reply_given};
 ghost use Rattle.files.specs.Told.{told_info};
 ghost use Rattle.many_files.specs.Files.{info_words};
 ghost use Rattle.export_files.specs.Calls.{file_given, files_given, files_left, info_given, checksums_given, file_in_given};
@@ -83,7 +83,7 @@ pub fn files(area: &[u8], records: &mut [u32], out: &mut [u64]) -> u32
 
 // What is known of a file. Words: its name, its checksum's kind, and the place and the length of the bytes.
 fn put_info(out: &mut [u64], answer: FileAnswer) -> u32
-    ensures { Gives out.old (replyGiven info_words (told_info answer)) result out.new }
+    ensures { Gives out.old (reply_given info_words (told_info answer)) result out.new }
 {
     match answer {
         FileAnswer::File {

@@ -14,32 +14,32 @@ use Rattle.line_step.specs.declared.LineWalk.{LineWalk}
 use Rattle.line_step.specs.declared.LineWalk.TheVariants.{New, Between, Inside}
 use Rattle.line_walk.specs.Next.{next_of}
 use Rattle.symbol_lines.specs.Symbol.{symbol_walk}
-use Rattle.answer_words.specs.Given.{Given, refusalSize, one, stepGiven, replyGiven, ifRoom, shortGiven, ifChosen, choiceGiven}
+use Rattle.answer_words.specs.Given.{Given, refusal_size, one, step_given, reply_given, if_room, short_given, if_chosen, choice_given}
 use Rattle.line_state_words.specs.LineWords.{state_size, how_named, line_walk_in, line_walk_words, line_words, record_words}
 use Rattle.answer_words.specs.FillGiven.{fill_given, fill_left}
 use Rattle.many_lines.specs.Lines.{lines_of}
 
 -- the order list, with n slots
 abbrev pub order_given : (ℕ → Sort) → List ℕ → ℕ → List ℕ → Given
-order_given rule s n o = ifRoom refusalSize o (replyGiven one (ordered rule s n)) shortGiven
+order_given rule s n o = if_room refusal_size o (reply_given one (ordered rule s n)) short_given
 
 -- the slots v after the call for the order list
 abbrev pub slots_left : (ℕ → Sort) → List ℕ → List ℕ → List ℕ → List ℕ
-slots_left rule s v o = ifRoom refusalSize o (slots_after rule s v) v
+slots_left rule s v o = if_room refusal_size o (slots_after rule s v) v
 
 -- the list of bodies, with n slots, and the slots b after the call for it
 abbrev pub bodies_given : (ℕ → Sort) → List ℕ → ℕ → List ℕ → Given
-bodies_given rule s n o = ifRoom refusalSize o (replyGiven one (body_list rule s n)) shortGiven
+bodies_given rule s n o = if_room refusal_size o (reply_given one (body_list rule s n)) short_given
 
 abbrev pub bodies_left : (ℕ → Sort) → List ℕ → List ℕ → List ℕ → List ℕ
-bodies_left rule s b o = ifRoom refusalSize o (bodies_after rule s b) b
+bodies_left rule s b o = if_room refusal_size o (bodies_after rule s b) b
 
 abbrev pub line_given : (ℕ → Sort) → List ℕ → List ℕ → List ℕ → Given
-line_given rule s v o = ifChosen choiceGiven (λ w. stepGiven state_size line_words (next_of rule s v w)) (line_walk_in o)
+line_given rule s v o = if_chosen choice_given (λ w. step_given state_size line_words (next_of rule s v w)) (line_walk_in o)
 
 -- n names the reading
 abbrev pub symbol_given : (ℕ → Sort) → List ℕ → List ℕ → ℕ → ℕ → ℕ → Given
-symbol_given rule s v section offset n = ifChosen choiceGiven (λ how. replyGiven line_walk_words (symbol_walk how rule s v section offset)) (how_named n)
+symbol_given rule s v section offset n = if_chosen choice_given (λ how. reply_given line_walk_words (symbol_walk how rule s v section offset)) (how_named n)
 
 -- whether no record comes behind a walk: no subsection is left, and no record held
 abbrev pub holds_one : Held → Bool
@@ -56,8 +56,8 @@ over_walk (Inside p t) = false
 
 -- many records, with n words lent for them
 abbrev pub lines_given : (ℕ → Sort) → List ℕ → List ℕ → ℕ → List ℕ → Given
-lines_given rule s v n o = ifChosen choiceGiven (λ w. fill_given state_size over_walk line_walk_words o (lines_of rule s v n w)) (line_walk_in o)
+lines_given rule s v n o = if_chosen choice_given (λ w. fill_given state_size over_walk line_walk_words o (lines_of rule s v n w)) (line_walk_in o)
 
 -- the words x lent for records, after the call for many
 abbrev pub records_left : (ℕ → Sort) → List ℕ → List ℕ → List ℕ → List ℕ → List ℕ
-records_left rule s v x o = ifChosen x (λ w. fill_left state_size record_words o x (lines_of rule s v (length x) w)) (line_walk_in o)
+records_left rule s v x o = if_chosen x (λ w. fill_left state_size record_words o x (lines_of rule s v (length x) w)) (line_walk_in o)

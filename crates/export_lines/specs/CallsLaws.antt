@@ -7,7 +7,7 @@ use Rattle.refusal.specs.Told.{Told}
 use Rattle.kinds.specs.Kind.{Sort}
 use Rattle.order.specs.Order.{order_of, ordered, slots_after}
 use Rattle.body_list.specs.BodyList.{starts_from, body_list, slots_holding, bodies_after}
-use Rattle.answer_words.specs.Given.{Gives, given, ifChosen, choiceGiven}
+use Rattle.answer_words.specs.Given.{Gives, given, if_chosen, choice_given}
 use Rattle.answer_words.specs.GivenLaws.{Still, room_careful, gives_put}
 use Rattle.export_lines.specs.Calls.{order_given, slots_left, bodies_given, bodies_left, holds_one, over_walk, lines_given, records_left}
 use Rattle.word.specs.Word.{put}
@@ -61,8 +61,8 @@ pub lines_careful : (rule : ℕ → Sort) (s v x o : List ℕ) {r : ℕ} {left :
     → records_left rule s v x o ≡ x
 lines_careful rule s v x o {r} {left} = by (line_walk_in o)
   where
-    by : (m : Option LineWalk) → Gives o (ifChosen choiceGiven (λ w. fill_given state_size over_walk line_walk_words o (lines_of rule s v (length x) w)) m) r left
-        → (r ≡ 1 → ⊥) → (r ≡ 4 → ⊥) → ifChosen x (λ w. fill_left state_size record_words o x (lines_of rule s v (length x) w)) m ≡ x
+    by : (m : Option LineWalk) → Gives o (if_chosen choice_given (λ w. fill_given state_size over_walk line_walk_words o (lines_of rule s v (length x) w)) m) r left
+        → (r ≡ 1 → ⊥) → (r ≡ 4 → ⊥) → if_chosen x (λ w. fill_left state_size record_words o x (lines_of rule s v (length x) w)) m ≡ x
     by none g z u = refl
     by (some w) g z u = fill_careful state_size over_walk line_walk_words record_words o x (lines_of rule s v (length x) w) walk_length g z u
 

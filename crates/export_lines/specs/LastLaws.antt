@@ -21,7 +21,7 @@ use Rattle.line_step.specs.declared.LineWalk.{LineWalk}
 use Rattle.line_step.specs.declared.LineWalk.TheVariants.{New, Between, Inside}
 use Rattle.line_walk.specs.Next.{next_of}
 use Rattle.line_walk.specs.NextLaws.{next_is}
-use Rattle.answer_words.specs.Given.{Given, Gives, stepGiven, noneGiven, ifChosen, choiceGiven}
+use Rattle.answer_words.specs.Given.{Given, Gives, step_given, none_given, if_chosen, choice_given}
 use Rattle.answer_words.specs.GivenLaws.{gives_fits}
 use Rattle.answer_words.specs.FillGiven.{count_words, fill_given}
 use Rattle.answer_words.specs.FillGivenLaws.{Behind, fill_behind_each, fill_last}
@@ -81,16 +81,16 @@ module _ (rule : ℕ → Sort) (s v : List ℕ) where
       by (refuses t) e = tt
 
   -- THE LAW: behind an answer of status 4 the walk that is left is at its end: the next call gives none
-  pub lines_last : (x o : List ℕ) {left : List ℕ} → Gives o (lines_given rule s v (length x) o) 4 left → line_given rule s v left ≡ noneGiven
+  pub lines_last : (x o : List ℕ) {left : List ℕ} → Gives o (lines_given rule s v (length x) o) 4 left → line_given rule s v left ≡ none_given
   lines_last x o {left} = by (line_walk_in o)
     where
       line : LineWalk → Given
-      line w = stepGiven state_size line_words (next_of rule s v w)
+      line w = step_given state_size line_words (next_of rule s v w)
 
-      by : (m : Option LineWalk) → Gives o (ifChosen choiceGiven (λ w. fill_given state_size over_walk line_walk_words o (lines_of rule s v (length x) w)) m) 4 left
-          → line_given rule s v left ≡ noneGiven
+      by : (m : Option LineWalk) → Gives o (if_chosen choice_given (λ w. fill_given state_size over_walk line_walk_words o (lines_of rule s v (length x) w)) m) 4 left
+          → line_given rule s v left ≡ none_given
       by option.none g = let q = (gives_fits g (λ e. omega arith)).0 in absurd (omega arith)
       by (some w) g =
-          fill_last state_size over_walk line_walk_words record_words o x (lines_of rule s v (length x) w) (λ l. line_given rule s v l ≡ noneGiven) (next_of rule s v)
-          (λ u n e q. ap (ifChosen choiceGiven line) (over_read u o n e) ∙ ap (stepGiven state_size line_words) q)
+          fill_last state_size over_walk line_walk_words record_words o x (lines_of rule s v (length x) w) (λ l. line_given rule s v l ≡ none_given) (next_of rule s v)
+          (λ u n e q. ap (if_chosen choice_given line) (over_read u o n e) ∙ ap (step_given state_size line_words) q)
           (fill_behind_each (next_of rule s v) (λ t. over_walk t ≡ true → next_of rule s v t ≡ none) each_over record_size (length x) w (omega arith)) g

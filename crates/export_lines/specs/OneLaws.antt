@@ -13,7 +13,7 @@ use Rattle.line_state_words.specs.LineWords.{record_size, state_size, line_walk_
 use Rattle.line_state_words.specs.LineWordsLaws.{record_length}
 use Rattle.line_step.specs.declared.LineWalk.{LineWalk}
 use Rattle.line_walk.specs.Next.{next_of}
-use Rattle.answer_words.specs.Given.{Gives, given, stepGiven}
+use Rattle.answer_words.specs.Given.{Gives, given, step_given}
 use Rattle.answer_words.specs.Fill.{words_of, counted, filled, fill_of}
 use Rattle.many_lines.specs.Lines.{lines_of}
 
@@ -64,10 +64,10 @@ module _ (rule : ℕ → Sort) (s v x : List ℕ) (size : length x ≡ record_si
 
   -- the state t and the words y behind it are those of the step
   pub one_line : (n : ℕ) (t : LineWalk) (y : List ℕ) → gives n t ≡ counted (lines_of rule s v (length x) w) → y ≡ filled record_words x (lines_of rule s v (length x) w)
-      → (o : List ℕ) (r : ℕ) (left : List ℕ) → Gives o (given 1 0 (line_walk_words t ++ y)) r left → Gives o (stepGiven state_size line_words (next_of rule s v w)) r left
+      → (o : List ℕ) (r : ℕ) (left : List ℕ) → Gives o (given 1 0 (line_walk_words t ++ y)) r left → Gives o (step_given state_size line_words (next_of rule s v w)) r left
   one_line n t y e q o r left g = on (next_of rule s v w) refl
     where
-      on : (b : Answer LineWalk LineRecord Told) → b ≡ next_of rule s v w → Gives o (stepGiven state_size line_words b) r left
+      on : (b : Answer LineWalk LineRecord Told) → b ≡ next_of rule s v w → Gives o (step_given state_size line_words b) r left
       on (gives c z) k =
           let b = ap (as_many first) (sym k) in
           let m = many_step (next_of rule s v) 0 w (gives c z) k in

@@ -6,7 +6,7 @@
 
 ghost use Rattle.std.specs.Prelude.{◌≡◌, length, [], ◌∷◌, ◌++◌, ◌≤◌};
 ghost use Rattle.kinds.specs.Kind.{crate_rule};
-ghost use Rattle.answer_words.specs.Given.{Gives, given, stepGiven};
+ghost use Rattle.answer_words.specs.Given.{Gives, given, step_given};
 ghost use Rattle.answer_words.specs.FillGiven.{answer_status, asked_size, fill_given, fill_left};
 ghost use Rattle.export_lines.specs.Calls.{order_given, slots_left, bodies_given, bodies_left, line_given};
 ghost use Rattle.export_lines.specs.Calls.{symbol_given, holds_one, over_walk, lines_given, records_left};
@@ -64,7 +64,7 @@ pub fn body_list(area: &[u8], bodies: &mut [u32], out: &mut [u64]) -> u32
 // The next record of a walk.
 fn line_from(area: &[u8], slots: &[u32], bodies: &[u32], walk: LineWalk, out: &mut [u64]) -> u32
     ensures { Gives out.old
-        (stepGiven state_size line_words (next_of crate_rule area.now slots.now walk))
+        (step_given state_size line_words (next_of crate_rule area.now slots.now walk))
         result out.new }
 {
     let mut row = [0u32; RECORD_WORDS];

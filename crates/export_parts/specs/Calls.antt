@@ -7,7 +7,7 @@ use Rattle.kinds.specs.Kind.{Sort}
 use Rattle.area.specs.Subs.{step_at, Sub}
 use Rattle.strings.specs.Strings.{names_of, name_at}
 use Rattle.modi.specs.Modi.{module_symbols, lines_span, tables_span}
-use Rattle.answer_words.specs.Given.{Given, stepGiven, replyGiven, spanWords}
+use Rattle.answer_words.specs.Given.{Given, step_given, reply_given, span_words}
 
 -- the state of a walk over subsections is a place
 abbrev pub sub_state_size : ℕ
@@ -22,20 +22,20 @@ abbrev pub yes : Unit {0} → List ℕ
 yes u = []
 
 abbrev pub sub_given : (ℕ → Sort) → List ℕ → List ℕ → Given
-sub_given rule s o = stepGiven sub_state_size sub_words (step_at rule s (get_or o 0 0))
+sub_given rule s o = step_given sub_state_size sub_words (step_at rule s (get_or o 0 0))
 
 abbrev pub names_given : List ℕ → Given
-names_given s = replyGiven spanWords (names_of s)
+names_given s = reply_given span_words (names_of s)
 
 abbrev pub name_given : List ℕ → ℕ → Given
-name_given s offset = replyGiven spanWords (name_at s offset)
+name_given s offset = reply_given span_words (name_at s offset)
 
 -- a module's sizes: of its symbols, of its C11 lines and of its area
 abbrev pub symbols_given : List ℕ → ℕ → ℕ → ℕ → Given
-symbols_given s symbols c11 c13 = replyGiven yes (module_symbols (record { symbols = symbols; c11 = c11; c13 = c13 }) s)
+symbols_given s symbols c11 c13 = reply_given yes (module_symbols (record { symbols = symbols; c11 = c11; c13 = c13 }) s)
 
 abbrev pub lines_part_given : List ℕ → ℕ → ℕ → ℕ → Given
-lines_part_given s symbols c11 c13 = replyGiven spanWords (lines_span (record { symbols = symbols; c11 = c11; c13 = c13 }) s)
+lines_part_given s symbols c11 c13 = reply_given span_words (lines_span (record { symbols = symbols; c11 = c11; c13 = c13 }) s)
 
 abbrev pub tables_part_given : List ℕ → ℕ → ℕ → ℕ → Given
-tables_part_given s symbols c11 c13 = replyGiven spanWords (tables_span (record { symbols = symbols; c11 = c11; c13 = c13 }) s)
+tables_part_given s symbols c11 c13 = reply_given span_words (tables_span (record { symbols = symbols; c11 = c11; c13 = c13 }) s)

@@ -8,7 +8,7 @@ use Rattle.kinds.specs.Kind.{Sort}
 use Rattle.table.specs.Collect.{collected, of_nth}
 use Rattle.imports.specs.Imports.{Ref, ModuleAt, scope_of, id_of, if_ref, module_of, module_at}
 use Rattle.imports.specs.Listed.{import_places, if_slots, slots_used, import_list, slots_with, places_after, ref_on, ref_at, resolve_listed}
-use Rattle.answer_words.specs.Given.{Gives, given, refusalGiven, replyGiven}
+use Rattle.answer_words.specs.Given.{Gives, given, refusal_given, reply_given}
 use Rattle.answer_words.specs.GivenLaws.{Still, room_careful, gives_short}
 use Rattle.export_tables.specs.Calls.{ref_words, list_given, places_left, listed_given}
 
@@ -54,7 +54,7 @@ module _ (s v : List ℕ) (index : ℕ) where
   pub listed_short : (o : List ℕ) → length o < 2 → Gives o (listed_given s v index) 3 o
   listed_short o h = by (resolve_listed s v index) answers_listed
     where
-      by : (x : Reply Ref Told) → Answers x → Gives o (replyGiven ref_words x) 3 o
+      by : (x : Reply Ref Told) → Answers x → Gives o (reply_given ref_words x) 3 o
       by (gave r) q = gives_short o (given 1 0 (ref_words r)) (omega arith)
       by nothing q = absurd q
-      by (refused t) q = gives_short o (refusalGiven 0 t) (omega arith)
+      by (refused t) q = gives_short o (refusal_given 0 t) (omega arith)

@@ -6,7 +6,7 @@ ghost use Rattle.std.specs.Prelude.{◌≡◌, [], ◌∷◌, length};
 ghost use Rattle.imports.specs.Told.{told_resolved};
 ghost use Rattle.exports.specs.Told.{told_export, told_lookup};
 ghost use Rattle.kinds.specs.Kind.{crate_rule};
-ghost use Rattle.answer_words.specs.Given.{Gives, one, replyGiven};
+ghost use Rattle.answer_words.specs.Given.{Gives, one, reply_given};
 ghost use Rattle.export_tables.specs.Calls.{ref_words, export_words};
 ghost use Rattle.export_tables.specs.Calls.{word_given, inlinee_given, module_given, ref_given, export_given, count_given, global_given};
 ghost use Rattle.export_tables.specs.Calls.{list_given, places_left, listed_given, body_given, export_at_given, global_in_given};
@@ -92,7 +92,7 @@ pub fn next_import(area: &[u8], out: &mut [u64]) -> u32
 
 // A reference: the name of its module, and its word there.
 fn put_ref(out: &mut [u64], found: Resolved) -> u32
-    ensures { Gives out.old (replyGiven ref_words (told_resolved found)) result out.new }
+    ensures { Gives out.old (reply_given ref_words (told_resolved found)) result out.new }
 {
     match found {
         Resolved::Ref { name, word } => put(out, 0, &[name as u64, word as u64], GIVEN),
@@ -177,7 +177,7 @@ pub fn export_count(area: &[u8], out: &mut [u64]) -> u32
 }
 
 fn put_lookup(out: &mut [u64], found: Lookup) -> u32
-    ensures { Gives out.old (replyGiven one (told_lookup found)) result out.new }
+    ensures { Gives out.old (reply_given one (told_lookup found)) result out.new }
 {
     match found {
         Lookup::Global(global) => put(out, 0, &[global as u64], GIVEN),

@@ -8,12 +8,12 @@ use Rattle.refusal.specs.declared.Refusal.TheVariants as why
 use Rattle.reading.specs.Reading.{Item}
 use Rattle.plain.specs.Plain.{plain_of}
 use Rattle.writer_decides.specs.Calls.{Act, goes, stops, act, patch, wrote, kept, answered, buffer_after}
-use Rattle.answer_words.specs.Given.{Given, Gives, refusalSize, refusalGiven, one, replyGiven}
+use Rattle.answer_words.specs.Given.{Given, Gives, refusal_size, refusal_given, one, reply_given}
 use Rattle.answer_words.specs.GivenLaws.{gives_as, room_changes, room_keeps, Still, room_careful}
 use Rattle.export_write.specs.Calls.{wrote_given, buffer_left, last_given, plain_given}
 
 module _ (s : List ℕ) where
-  pub plain_long : longest < length s → refusalGiven 0 (told why.TooLong) ≡ plain_given s
+  pub plain_long : longest < length s → refusal_given 0 (told why.TooLong) ≡ plain_given s
   unfolding plain_given
   plain_long h = simp tests
 
@@ -22,14 +22,14 @@ module _ (s : List ℕ) where
   plain_short h = simp tests
 
 module _ (it : Item) (b : List ℕ) (w : ℕ) (o : List ℕ) where
-  pub writer_keeps : length o < refusalSize → Gives o (wrote_given it b w o) 3 o × (b ≡ buffer_left it b w o)
+  pub writer_keeps : length o < refusal_size → Gives o (wrote_given it b w o) 3 o × (b ≡ buffer_left it b w o)
   unfolding wrote_given buffer_left
-  writer_keeps h = room_keeps refusalSize o (replyGiven one (answered it b w)) b (buffer_after it b w) h
+  writer_keeps h = room_keeps refusal_size o (reply_given one (answered it b w)) b (buffer_after it b w) h
 
-  pub writer_goes : {x : Reply ℕ Told} {y left : List ℕ} {r : ℕ} → refusalSize ≤ length o → (x ≡ answered it b w) × (y ≡ buffer_after it b w) → Gives o (replyGiven one x) r left
+  pub writer_goes : {x : Reply ℕ Told} {y left : List ℕ} {r : ℕ} → refusal_size ≤ length o → (x ≡ answered it b w) × (y ≡ buffer_after it b w) → Gives o (reply_given one x) r left
       → Gives o (wrote_given it b w o) r left × (y ≡ buffer_left it b w o)
   unfolding wrote_given buffer_left
-  writer_goes h e g = room_changes refusalSize o (replyGiven one (answered it b w)) b (buffer_after it b w) h (gives_as (replyGiven one) e.0 g) e.1
+  writer_goes h e g = room_changes refusal_size o (reply_given one (answered it b w)) b (buffer_after it b w) h (gives_as (reply_given one) e.0 g) e.1
 
   -- THE LAW: with any status but 1 the buffer is as it was
   pub writer_careful : {r : ℕ} {left : List ℕ} → Gives o (wrote_given it b w o) r left → (r ≡ 1 → ⊥) → buffer_left it b w o ≡ b

@@ -7,7 +7,7 @@ ghost use Rattle.std.specs.Prelude.{◌≡◌};
 ghost use Rattle.reading.specs.Reading.{open_checksums, open_inlinees, open_imports, open_exports, opaque};
 ghost use Rattle.writer_decides.specs.Calls.{call_lines, call_block, call_checksum, call_inlinee, call_module, call_pair};
 ghost use Rattle.writer.specs.Told.{told_wrote};
-ghost use Rattle.answer_words.specs.Given.{Gives, one, replyGiven};
+ghost use Rattle.answer_words.specs.Given.{Gives, one, reply_given};
 ghost use Rattle.export_write.specs.Calls.{wrote_given, buffer_left, plain_given};
 
 use answer_words::{GIVEN, NONE, REFUSAL_WORDS, TOO_SHORT, put, put_refusal};
@@ -32,7 +32,7 @@ pub fn plain(area: &[u8], out: &mut [u64]) -> u32
 }
 
 fn put_wrote(out: &mut [u64], wrote: Wrote) -> u32
-    ensures { Gives out.old (replyGiven one (told_wrote wrote)) result out.new }
+    ensures { Gives out.old (reply_given one (told_wrote wrote)) result out.new }
 {
     match wrote {
         Wrote::To(next) => put(out, 0, &[next as u64], GIVEN),

@@ -1,7 +1,7 @@
 -- Which areas are plain, and what a writer has to know of the last subsection of one. Source: document 01, "Writer and plain areas": the full
 -- reading refuses nothing, and no kind is 0x80000000; opaque lengths are divisible by 4; checksum sizes are 0, 16, 20, 32 for the kinds 0 to 3,
 -- their padding zero; the signature of inlinees is 0 or 1; blocks are exactly filled; each export body strictly ascends by local index.
--- Definitions only; a reader must believe them, but for `strict` to `plain_block`, `tidy` to `inlinees_mark`, `mark_of`, `nothing_yet` to `Plain`: `in_words_lem`
+-- Definitions only; a reader must believe them, but for `strict` to `plain_block`, `tidy` to `inlinees_mark`, `mark_of`, `nothing_yet` to `Plain`: `in_words`
 -- (round_trip InWordsLaws), `last_is` (round_trip LastLaws) say what these mean.
 use Rattle.std.specs.Prelude.{ℕ, ◌+◌, ◌%◌, ◌≡◌, List, [], ◌∷◌, Bool, true, false, cond, ◌&&◌, length, drop, get_or, ltb, leb, eqb}
 use Rattle.std.proofs.Math.Option.{Option, none, some}

@@ -1,8 +1,7 @@
 // A walker that holds the area and its place, and answers one subsection at a time (crate: `DebugSubsectionIterator`).
 //
-// Rattle's borrow checker covers no function over a struct that holds a reference, so each of these few is proved by hand: it takes the struct
-// apart and leaves the work to a function on the walk and the slice. `second_sub` stands above them with plain parameters; who calls it, or the
-// functions of `area`, needs no proof by hand.
+// Each function takes the struct apart and leaves the work to a function on the walk and the slice. `second_sub` stands above them with plain
+// parameters.
 #![tactic(auto)]
 
 ghost use Rattle.std.specs.Prelude.{◌≡◌, ◌-◌, length};
@@ -77,7 +76,7 @@ pub fn answer<'a>(q: Stepped<'a>) -> SubStep
     q.taken.step
 }
 
-// From a slice to a reader and back: who calls it needs no walk by hand.
+// From a slice to a reader and back.
 pub fn second_sub(area: &[u8]) -> SubStep
     ensures { told_step result ≡ second area.now }
 {

@@ -4,7 +4,7 @@
 // decides, on the buffer as it is; the call then writes into the part behind the place, or refuses and changes nothing.
 #![tactic(auto)]
 
-ghost use Rattle.std.specs.Prelude.{◌≡◌, ◌++◌, ◌+◌, ◌-◌, ◌*◌, ◌≤◌, ◌<◌, length};
+ghost use Rattle.std.specs.Prelude.{◌≡◌, ◌++◌, ◌+◌, ◌-◌, ◌*◌, ◌≤◌, ◌<◌, length, take, drop};
 ghost use Rattle.word.specs.Word.{le32, put, store, header};
 ghost use Rattle.reading.specs.Reading.{open_checksums, open_inlinees, open_imports, open_exports, opaque};
 ghost use Rattle.body.specs.Words.{word_bytes};
@@ -59,13 +59,21 @@ fn put_words(free: &mut [u8], words: &[u32])
     }
 }
 
+// The bytes at the start of the free ones.
+fn copy(bytes: &[u8], free: &mut [u8])
+    requires { length bytes.now ≤ length free.old }
+    ensures { free.new ≡ take (length bytes.now) bytes.now ++ drop (length bytes.now) free.old }
+{
+    free[..bytes.len()].copy_from_slice(bytes);
+}
+
 // A whole subsection.
 fn put_raw(free: &mut [u8], kind: u32, body: &[u8])
     requires { (8 + length body.now ≤ length free.old) × (length body.now < 4294967296) }
     ensures { free.new ≡ over (header kind (length body.now) ++ body.now) free.old }
 {
     put_two(free, kind, body.len() as u32);
-    bytes::copy(body, &mut free[8..]);
+    copy(body, &mut free[8..]);
 }
 
 fn put_module(free: &mut [u8], name: u32, words: &[u32])
@@ -102,7 +110,7 @@ fn put_checksum(free: &mut [u8], name: u32, kind: u8, bytes: &[u8])
     let n = bytes.len();
     put_u32(free, 0, name);
     put_u16(free, 4, (n + 256 * (kind as usize)) as u16);
-    bytes::copy(bytes, &mut free[6..]);
+    copy(bytes, &mut free[6..]);
     put_u16(free, 6 + n, 0);
 }
 

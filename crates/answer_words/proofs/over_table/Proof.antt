@@ -13,4 +13,4 @@ over_table_spec =
     (λ c. search rules)
     (λ c. search rules)
     (λ c. search rules)
-    (λ c. ap over_table (sym c.before.walk.given.1)))
+    (λ c. ap over_table (sym c.in-In.is)))

@@ -11,21 +11,20 @@ use Rattle.answer_words.specs.GivenLaws.{gives_short, gives_copied, copied_turn}
 use Rattle.answer_words.proofs.put.Statement.{statement}
 use Rattle.answer_words.proofs.put.Tie as tie
 
-abbrev invariant-loop : tie.invariant-loop
+abbrev invariant-loop : tie.invariant-loop-i
 invariant-loop out₀ at words status i₀ out i = (out ≡ paste out₀ at words i) × (i ≤ length words) × (length out ≡ length out₀)
 
-abbrev decreases-loop : tie.decreases-loop
+abbrev decreases-loop : tie.decreases-loop-i
 decreases-loop out₀ at words status i₀ out i = length words - i
 
-loop-holds : tie.Need-loop-init invariant-loop decreases-loop
+loop-holds : tie.Need-loop-i-init invariant-loop decreases-loop
 loop-holds c =
-    let a = c.before.before.args in
+    let a = c.args in
     (paste-zero a.out.now a.at a.words.now, search rules, search rules)
 
-loop-again : tie.Need-loop-preserved invariant-loop decreases-loop
+loop-again : tie.Need-loop-i-preserved invariant-loop decreases-loop
 loop-again c =
-    let h = c.before.before in
-    (copied_turn _ _ _ _ _ h.loop.invariant.0 (omega arith) (omega arith), search rules, simp length-set h.loop.invariant.2)
+    (copied_turn _ _ _ _ _ c.loop-i.invariant.0 (omega arith) (omega arith), search rules, simp length-set c.loop-i.invariant.2)
 
 pub put_spec : {M : Type 1} → statement M
 put_spec =
@@ -46,4 +45,4 @@ put_spec =
     (λ c. search rules)
     loop-again
     (λ c. search rules)
-    (λ c. gives_copied _ _ _ _ c.before.loop.i c.before.loop.invariant.0 _ (omega arith) (omega arith) (omega arith)))
+    (λ c. gives_copied _ _ _ _ c.loop-i.i c.loop-i.invariant.0 _ (omega arith) (omega arith) (omega arith)))

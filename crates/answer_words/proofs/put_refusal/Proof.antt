@@ -9,8 +9,8 @@ use Rattle.answer_words.proofs.put_refusal.Tie as tie
 
 returns : tie.Need-returns
 returns c =
-    let n = c.before.before.before.before.before.numbers.ensures in
-    gives_as (given 2 c.before.before.before.before.before.before.before.args.state) (λ i. n.0 i ∷ n.1 i ∷ []) c.before.before.put.ensures
+    let n = c.numbers-pair.ensures in
+    gives_as (given 2 c.args.state) (λ i. n.0 i ∷ n.1 i ∷ []) c.put.ensures
 
 pub put_refusal_spec : {M : Type 1} → statement M
 put_refusal_spec =

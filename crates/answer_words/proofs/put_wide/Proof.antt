@@ -13,21 +13,20 @@ use Rattle.answer_words.specs.GivenLaws.{gives_short, gives_copied, copied_turn}
 use Rattle.answer_words.proofs.put_wide.Statement.{statement}
 use Rattle.answer_words.proofs.put_wide.Tie as tie
 
-abbrev invariant-loop : tie.invariant-loop
+abbrev invariant-loop : tie.invariant-loop-i
 invariant-loop out₀ at words i₀ out i = (out ≡ paste out₀ at words i) × (i ≤ length words) × (length out ≡ length out₀)
 
-abbrev decreases-loop : tie.decreases-loop
+abbrev decreases-loop : tie.decreases-loop-i
 decreases-loop out₀ at words i₀ out i = length words - i
 
-loop-holds : tie.Need-loop-init invariant-loop decreases-loop
+loop-holds : tie.Need-loop-i-init invariant-loop decreases-loop
 loop-holds c =
-    let a = c.before.before.args in
+    let a = c.args in
     (paste-zero a.out.now a.at a.words.now, search rules, search rules)
 
-loop-again : tie.Need-loop-preserved invariant-loop decreases-loop
+loop-again : tie.Need-loop-i-preserved invariant-loop decreases-loop
 loop-again c =
-    let h = c.before.before in
-    (copied_turn _ _ _ _ _ h.loop.invariant.0 (omega arith) (omega arith), search rules, simp length-set h.loop.invariant.2)
+    (copied_turn _ _ _ _ _ c.loop-i.invariant.0 (omega arith) (omega arith), search rules, simp length-set c.loop-i.invariant.2)
 
 pub put_wide_spec : {M : Type 1} → statement M
 put_wide_spec =
@@ -41,7 +40,7 @@ put_wide_spec =
     loop-holds
     (λ c. search rules)
     (λ c. search rules)
-    (λ c. Fits-32_64 (c.shared-slice-known.given _))
+    (λ c. Fits-32_64 (c.shared_slice_known-1.given _))
     (λ c. search rules)
     (λ c. search rules)
     (λ c. search rules)
@@ -49,4 +48,4 @@ put_wide_spec =
     (λ c. search rules)
     loop-again
     (λ c. search rules)
-    (λ c. (gives_copied _ _ _ _ c.before.loop.i c.before.loop.invariant.0 1 (omega arith) (omega arith) (omega arith)).words))
+    (λ c. (gives_copied _ _ _ _ c.loop-i.i c.loop-i.invariant.0 1 (omega arith) (omega arith) (omega arith)).words))

@@ -14,4 +14,4 @@ state_word_spec =
     (λ c. search rules)
     (λ c. search rules)
     (λ c. search rules)
-    (λ c. sym (get_or-eq_default c.before.args.out.now 0 (omega arith))))
+    (λ c. sym (get_or-eq_default c.args.out.now 0 (omega arith))))

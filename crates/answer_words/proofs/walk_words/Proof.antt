@@ -11,5 +11,5 @@ walk_words_spec =
     (tie.spec
     (λ c. search rules)
     (λ c. search rules)
-    (λ c. walk_is c.enum_told.given.1)
-    (λ c. walk_is c.before.walk.given.1))
+    (λ c. walk_is c.in-New.is)
+    (λ c. walk_is c.in-In.is))

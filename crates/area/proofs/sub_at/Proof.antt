@@ -11,35 +11,31 @@ use Rattle.area.specs.SubsLaws.{subs_is, head_falls, step_gives}
 use Rattle.area.proofs.sub_at.Statement.{statement}
 use Rattle.area.proofs.sub_at.Tie as tie
 
-abbrev invariant-loop : tie.invariant-loop
+abbrev invariant-loop : tie.invariant-loop-kind
 invariant-loop area at p₀ p = subs_from crate_rule area p ≡ subs_from crate_rule area at
 
-abbrev decreases-loop : tie.decreases-loop
+abbrev decreases-loop : tie.decreases-loop-kind
 decreases-loop area at p₀ p = length area - p
 
-returns : tie.Need-returns invariant-loop decreases-loop
+returns : tie.Need-returns-in-Sub invariant-loop decreases-loop
 returns c =
-    let h = c.before.before.before in
-    let e = ap told_head (sym c.before.kind.given.1) ∙ h.head_at.ensures in
-    step_gives _ _ _ _ _ e ∙ ap first_of h.before.loop.invariant
+    let e = ap told_head (sym c.in-Sub.is) ∙ c.head_at.ensures in
+    step_gives _ _ _ _ _ e ∙ ap first_of c.loop-kind.invariant
 
-returns-2 : tie.Need-returns-2 invariant-loop decreases-loop
+returns-2 : tie.Need-returns-in-End invariant-loop decreases-loop
 returns-2 c =
-    let h = c.before.before in
-    ap first_of (subs_is _ _ _ _ (ap told_head (sym c.enum_told.given.1) ∙ h.head_at.ensures) ∙ h.before.loop.invariant)
+    ap first_of (subs_is _ _ _ _ (ap told_head (sym c.in-End.is) ∙ c.head_at.ensures) ∙ c.loop-kind.invariant)
 
-returns-3 : tie.Need-returns-3 invariant-loop decreases-loop
+returns-3 : tie.Need-returns-in-Refused invariant-loop decreases-loop
 returns-3 c =
-    let h = c.before.before.before in
-    ap first_of (subs_is _ _ _ _ (ap told_head (sym c.before.why.given.1) ∙ h.head_at.ensures) ∙ h.before.loop.invariant)
+    ap first_of (subs_is _ _ _ _ (ap told_head (sym c.in-Refused.is) ∙ c.head_at.ensures) ∙ c.loop-kind.invariant)
 
-loop-less : tie.Need-loop-smaller invariant-loop decreases-loop
-loop-less c = head_falls _ _ _ _ (ap told_head (sym c.before.next.given.1) ∙ c.before.before.before.head_at.ensures)
+loop-less : tie.Need-loop-kind-smaller invariant-loop decreases-loop
+loop-less c = head_falls _ _ _ _ (ap told_head (sym c.in-Skip.is) ∙ c.head_at.ensures)
 
-loop-again : tie.Need-loop-preserved invariant-loop decreases-loop
+loop-again : tie.Need-loop-kind-preserved invariant-loop decreases-loop
 loop-again c =
-    let h = c.before.before.before in
-    subs_is _ _ _ _ (ap told_head (sym c.before.next.given.1) ∙ h.head_at.ensures) ∙ h.before.loop.invariant
+    subs_is _ _ _ _ (ap told_head (sym c.in-Skip.is) ∙ c.head_at.ensures) ∙ c.loop-kind.invariant
 
 pub sub_at_spec : {M : Type 1} → statement M
 sub_at_spec =

@@ -8,39 +8,37 @@ use borrow.Author.Rules.{rules}
 use Rattle.body_lines.proofs.block_lines.Statement.{statement}
 use Rattle.body_lines.proofs.block_lines.Tie as tie
 
-line-at-requires : tie.Need-line-at-requires
+line-at-requires : tie.Need-line_at-e-requires
 line-at-requires c κs = search rules
 
-is-marker-requires : tie.Need-is-marker-requires
+is-marker-requires : tie.Need-is_marker-requires
 is-marker-requires c κs = search rules
 
-past-lines-requires : tie.Need-past-lines-requires
+past-lines-requires : tie.Need-past_lines-place-requires
 past-lines-requires c κs = search rules
 
-returns : tie.Need-returns
+returns : tie.Need-returns-then-is_marker
 returns c =
-    let q = c.before.before.before in
-    let r = q.before.before.before.before.requires in
-    (block_put_marker _ _ _ _ _ _ _ r.0 (omega (arith, r.1)) (omega (arith, r.1)) _ _ q.line_at_lem.ensures.1 (sym c.before.before.is-marker.ensures ∙ c.before.if1.true) c.past-lines.ensures, λ e. (omega (arith, r.1), omega (arith, ap (λ (x : Place). x.lines) c.past-lines.ensures, r.1)))
+    let r = c.requires in
+    (block_put_marker _ _ _ _ _ _ _ r.0 (omega (arith, r.1)) (omega (arith, r.1)) _ _ c.line_at-e.ensures.1 (sym c.is_marker.ensures ∙ c.if-is_marker.true) c.past_lines-place.ensures, λ e. (omega (arith, r.1), omega (arith, ap (λ (x : Place). x.lines) c.past_lines-place.ensures, r.1)))
 
-sub-if2 : tie.Need-overflow-sub-if2
+sub-if2 : tie.Need-overflow_sub-h
 sub-if2 c = search rules
 
-returns-2 : tie.Need-returns-2
+returns-2 : tie.Need-returns-then-h-e
 returns-2 c =
-    let r = c.before.before.before.before.before.before.before.before.before.requires in
+    let r = c.requires in
     (block_put_same _ _ _ _ _ _ _ r.0 (omega (arith, r.1)) _, not_false)
 
-first-line-requires : tie.Need-first-line-requires
+first-line-requires : tie.Need-first_line-requires
 first-line-requires c κs =
-    let q = c.before.before.before.before.before.before in
-    let r = q.before.before.before.before.requires in
-    (r.0, (r.1, record { offset = q.line_at_lem.ensures.0; flags = q.line_at_lem.ensures.1; line = sym c.before.before.before.before.before.is-marker.ensures ∙ c.before.before.before.before.if1.false; sum = omega (arith, c.before.if2.false) }))
+    let r = c.requires in
+    (r.0, (r.1, record { offset = c.line_at-e.ensures.0; flags = c.line_at-e.ensures.1; line = sym c.is_marker.ensures ∙ c.if-is_marker.false; sum = omega (arith, c.if-h-e.false) }))
 
-same_length : tie.Need-same-length
+same_length : tie.Need-shape_of-out
 same_length c = search rules
 
-returns-3 : tie.Need-returns-3
+returns-3 : tie.Need-returns
 returns-3 c = search rules
 
 pub block_lines_spec : {M : Type 1} → statement M

@@ -8,7 +8,7 @@ use Rattle.body_lines.proofs.body_lines.Statement.{statement}
 use Rattle.body_lines.proofs.body_lines.Tie as tie
 
 blocks-requires : tie.Need-blocks-requires
-blocks-requires c κs = (c.before.before.fits2.ensures (not-false _ c.before.if2.false), (omega arith, omega arith))
+blocks-requires c κs = (c.fits.ensures c.if-not-fits.false, (omega arith, omega arith))
 
 pub body_lines_spec : {M : Type 1} → statement M
 body_lines_spec =

@@ -8,13 +8,13 @@ use Rattle.body_lines.specs.BodyLinesLaws.{part_word, no_columns_lem}
 use Rattle.body_lines.proofs.column_at.Statement.{statement}
 use Rattle.body_lines.proofs.column_at.Tie as tie
 
-returns : tie.Need-returns
+returns : tie.Need-returns-then-columns
 returns c =
-    let a = c.before.before.before.before.args in
-    ap (column_if a.columns) (c.u32_at_lem.ensures ∙ part_word a.area.now a.at 4 0 a.at (omega arith) (omega arith))
+    let a = c.args in
+    ap (column_if a.columns) (c.u32_at.ensures ∙ part_word a.area.now a.at 4 0 a.at (omega arith) (omega arith))
 
-returns-2 : tie.Need-returns-2
-returns-2 c = no_columns_lem _ _ _ c.if1.false
+returns-2 : tie.Need-returns
+returns-2 c = no_columns_lem _ _ _ c.if-columns.false
 
 pub column_at_spec : {M : Type 1} → statement M
 column_at_spec =

@@ -10,8 +10,8 @@ use Rattle.body_lines.proofs.line_at.Tie as tie
 
 returns : tie.Need-returns
 returns c =
-    let a = c.before.before.before.before.args in
-    (c.before.u32_at_lem.ensures ∙ part_word a.area.now a.at 8 0 a.at (omega arith) (omega arith), c.u32-at2.ensures ∙ part_word a.area.now a.at 8 4 (a.at + 4) (omega arith) (omega arith))
+    let a = c.args in
+    (c.u32_at-offset.ensures ∙ part_word a.area.now a.at 8 0 a.at (omega arith) (omega arith), c.u32_at-flags.ensures ∙ part_word a.area.now a.at 8 4 (a.at + 4) (omega arith) (omega arith))
 
 pub line_at_spec : {M : Type 1} → statement M
 line_at_spec =

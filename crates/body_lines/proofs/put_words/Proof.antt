@@ -8,7 +8,7 @@ use Rattle.body_lines.proofs.put_words.Statement.{statement}
 use Rattle.body_lines.proofs.put_words.Tie as tie
 
 returns : tie.Need-returns
-returns c = put_part _ _ _ _ record_size (record_length c.before.before.before.before.before.args.r) c.before.before.before.before.before.requires c.before.before.put-row.ensures
+returns c = put_part _ _ _ _ record_size (record_length c.args.r) c.requires c.put_row.ensures
 
 pub put_words_spec : {M : Type 1} → statement M
 put_words_spec =

@@ -6,7 +6,7 @@ use Rattle.body_lines.proofs.record_in.Statement.{statement}
 use Rattle.body_lines.proofs.record_in.Tie as tie
 
 returns : tie.Need-returns
-returns c = record_held c.before.before.args.p _ _ _ _ _ c.before.source_of.ensures c.record_of.ensures
+returns c = record_held c.args.p _ _ _ _ _ c.source_of.ensures c.record_of.ensures
 
 pub record_in_spec : {M : Type 1} → statement M
 record_in_spec = tie.close (tie.spec (λ c κs. search rules) (λ c κs. search rules) returns)

@@ -6,11 +6,11 @@ use Rattle.body_list.specs.StepLaws.{held_areas, held_other}
 use Rattle.body_list.proofs.begin_held.Statement.{statement}
 use Rattle.body_list.proofs.begin_held.Tie as tie
 
-returns : tie.Need-returns
-returns c = held_areas _ _ _ _ _ (sym c.before.if1.true ∙ c.before.before.is-areas.ensures) _ c.begin-in.ensures
+returns : tie.Need-returns-then-is_areas
+returns c = held_areas _ _ _ _ _ (sym c.if-is_areas.true ∙ c.is_areas.ensures) _ c.begin_in.ensures
 
-returns-2 : tie.Need-returns-2
-returns-2 c = held_other _ _ _ _ _ (sym c.if1.false ∙ c.before.is-areas.ensures)
+returns-2 : tie.Need-returns
+returns-2 c = held_other _ _ _ _ _ (sym c.if-is_areas.false ∙ c.is_areas.ensures)
 
 pub begin_held_spec : {M : Type 1} → statement M
 begin_held_spec = tie.close (tie.spec (λ c κs. search rules) (λ c κs. search rules) returns returns-2)

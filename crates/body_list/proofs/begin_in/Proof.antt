@@ -6,11 +6,11 @@ use Rattle.body_list.specs.StepLaws.{in_low, in_found, in_missed}
 use Rattle.body_list.proofs.begin_in.Statement.{statement}
 use Rattle.body_list.proofs.begin_in.Tie as tie
 
-returns-2 : tie.Need-returns-2
-returns-2 c = in_found _ _ _ c.before.before.if1.false (sym c.if2.true ∙ c.before.halved.ensures)
+returns-2 : tie.Need-returns-then-halved
+returns-2 c = in_found _ _ _ c.if-body-lt8.false (sym c.if-halved.true ∙ c.halved.ensures)
 
-returns-3 : tie.Need-returns-3
-returns-3 c = in_missed _ _ _ c.before.before.if1.false (sym c.if2.false ∙ c.before.halved.ensures)
+returns-3 : tie.Need-returns
+returns-3 c = in_missed _ _ _ c.if-body-lt8.false (sym c.if-halved.false ∙ c.halved.ensures)
 
 pub begin_in_spec : {M : Type 1} → statement M
-begin_in_spec = tie.close (tie.spec (λ c. in_low _ _ _ c.if1.true) (λ c κs. search rules) returns-2 returns-3)
+begin_in_spec = tie.close (tie.spec (λ c. in_low _ _ _ c.if-body-lt8.true) (λ c κs. search rules) returns-2 returns-3)

@@ -8,28 +8,23 @@ use Rattle.body_list.specs.BodyListLaws.{counted_starts, list_refused, list_shor
 use Rattle.body_list.proofs.body_list.Statement.{statement}
 use Rattle.body_list.proofs.body_list.Tie as tie
 
-returns : tie.Need-returns
+returns : tie.Need-returns-then-bodies-n
 returns c =
-    let m = c.before.before in
-    let a = m.before.before.before.before.before.args in
-    list_short _ _ a.bodies.now _ (ap told_counted (sym m.n.given.1) ∙ m.before.before.count-lines.ensures) (omega arith)
+    let a = c.args in
+    list_short _ _ a.bodies.now _ (ap told_counted (sym c.in-Lines.is) ∙ c.count_lines.ensures) (omega arith)
 
 fill-requires : tie.Need-fill-requires
 fill-requires c κs =
-    let m = c.before.before.before in
-    omega (arith, counted_starts _ _ _ (ap told_counted (sym m.n.given.1) ∙ m.before.before.count-lines.ensures))
+    omega (arith, counted_starts _ _ _ (ap told_counted (sym c.in-Lines.is) ∙ c.count_lines.ensures))
 
-returns-2 : tie.Need-returns-2
+returns-2 : tie.Need-returns-else-bodies-n
 returns-2 c =
-    let f = c.before.before in
-    let m = f.before.before.before.before in
-    let a = m.before.before.before.before.before.args in
-    list_all _ _ a.bodies.now _ (ap told_counted (sym m.n.given.1) ∙ m.before.before.count-lines.ensures) (omega arith) _ f.fill.ensures
+    let a = c.args in
+    list_all _ _ a.bodies.now _ (ap told_counted (sym c.in-Lines.is) ∙ c.count_lines.ensures) (omega arith) _ c.fill.ensures
 
-returns-3 : tie.Need-returns-3
+returns-3 : tie.Need-returns-in-Refused
 returns-3 c =
-    let m = c.before in
-    list_refused _ _ _ _ (ap told_counted (sym m.why.given.1) ∙ m.before.before.count-lines.ensures)
+    list_refused _ _ _ _ (ap told_counted (sym c.in-Refused.is) ∙ c.count_lines.ensures)
 
 pub body_list_spec : {M : Type 1} → statement M
 body_list_spec =

@@ -7,8 +7,8 @@ use Rattle.body_list.specs.StepLaws.{found_missing, found_begin}
 use Rattle.body_list.proofs.find_body.Statement.{statement}
 use Rattle.body_list.proofs.find_body.Tie as tie
 
-returns-2 : tie.Need-returns-2
-returns-2 c = found_begin _ _ _ _ _ _ _ (omega arith) _ _ c.before.begin-of.ensures c.slot-body.ensures
+returns-2 : tie.Need-returns
+returns-2 c = found_begin _ _ _ _ _ _ _ (omega arith) _ _ c.begin_of-begin.ensures c.slot_body-named.ensures
 
 pub find_body_spec : {M : Type 1} → statement M
 find_body_spec =
@@ -17,7 +17,7 @@ find_body_spec =
     (λ c. found_missing _ _ _ _ _ _ _ (omega arith))
     (λ c. search rules)
     (λ c. search rules)
-    (λ c. Fits-32_64 (c.shared-slice-known4.given _))
+    (λ c. Fits-32_64 (c.shared_slice_known-4-1.given _))
     (λ c κs. search rules)
     (λ c κs. search rules)
     returns-2)

@@ -12,24 +12,22 @@ use Rattle.body_list.specs.HalvingLaws.{halved_none, halved_here, halved_back, h
 use Rattle.body_list.proofs.halved.Statement.{statement}
 use Rattle.body_list.proofs.halved.Tie as tie
 
-abbrev invariant-loop : tie.invariant-loop
+abbrev invariant-loop : tie.invariant-loop-from
 invariant-loop bodies body from₀ to₀ from to = (to ≤ length bodies) × (halved body bodies from to ≡ halved body bodies 0 (length bodies))
 
-abbrev decreases-loop : tie.decreases-loop
+abbrev decreases-loop : tie.decreases-loop-from
 decreases-loop bodies body from₀ to₀ from to = to - from
 
-returns : tie.Need-returns invariant-loop decreases-loop
-returns c = halved_here _ _ _ _ c.before.before.loop-test.true c.if1.true ∙ c.before.before.before.loop.invariant.1
+returns : tie.Need-returns-then-at-body invariant-loop decreases-loop
+returns c = halved_here _ _ _ _ c.loop-from-test.true c.if-at-body.true ∙ c.loop-from.invariant.1
 
-loop-again : tie.Need-loop-preserved invariant-loop decreases-loop
+loop-again : tie.Need-loop-from-preserved-then-at-body-2 invariant-loop decreases-loop
 loop-again c =
-    let f = c.before in
-    (omega arith, halved_back _ _ _ _ f.before.before.loop-test.true f.if1.false c.if2.true ∙ f.before.before.before.loop.invariant.1)
+    (omega arith, halved_back _ _ _ _ c.loop-from-test.true c.if-at-body.false c.if-at-body-2.true ∙ c.loop-from.invariant.1)
 
-loop-again-2 : tie.Need-loop-preserved-2 invariant-loop decreases-loop
+loop-again-2 : tie.Need-loop-from-preserved invariant-loop decreases-loop
 loop-again-2 c =
-    let f = c.before in
-    (omega arith, halved_front _ _ _ _ f.before.before.loop-test.true f.if1.false c.if2.false ∙ f.before.before.before.loop.invariant.1)
+    (omega arith, halved_front _ _ _ _ c.loop-from-test.true c.if-at-body.false c.if-at-body-2.false ∙ c.loop-from.invariant.1)
 
 pub halved_spec : {M : Type 1} → statement M
 halved_spec =
@@ -42,11 +40,11 @@ halved_spec =
     (λ c. search rules)
     (λ c. search rules)
     (λ c. search rules)
-    (λ c. Fits-32_64 (c.shared-slice-known.given _))
+    (λ c. Fits-32_64 (c.shared_slice_known-1.given _))
     returns
     (λ c. search rules)
     (λ c. search rules)
     loop-again
     (λ c. search rules)
     loop-again-2
-    (λ c. halved_none _ _ _ _ c.loop-test.false ∙ c.before.loop.invariant.1))
+    (λ c. halved_none _ _ _ _ c.loop-from-test.false ∙ c.loop-from.invariant.1))

@@ -10,8 +10,8 @@ pub holds_spec : {M : Type 1} → statement M
 holds_spec =
     tie.close
     (tie.spec
-    (λ c. holds_past _ _ _ c.if1.true)
+    (λ c. holds_past _ _ _ c.if-bodies-i.true)
     (λ c. search rules)
     (λ c. search rules)
-    (λ c. Fits-32_64 (c.shared-slice-known.given _))
-    (λ c. holds_is _ _ _ c.before.if1.false))
+    (λ c. Fits-32_64 (c.shared_slice_known-1.given _))
+    (λ c. holds_is _ _ _ c.if-bodies-i.false))

@@ -17,60 +17,53 @@ use Rattle.body_list.specs.StepLaws.{holds_within, same_on, same_miss, same_end}
 use Rattle.body_list.proofs.is_areas.Statement.{statement}
 use Rattle.body_list.proofs.is_areas.Tie as tie
 
-abbrev invariant-loop : tie.invariant-loop
+abbrev invariant-loop : tie.invariant-loop-kind
 invariant-loop area bodies n₀ p₀ n p = (same_list (drop n bodies) (starts_from crate_rule area p) ≡ is_areas crate_rule area bodies) × (n ≤ length bodies)
 
-abbrev decreases-loop : tie.decreases-loop
+abbrev decreases-loop : tie.decreases-loop-kind
 decreases-loop area bodies n₀ p₀ n p = length area - p
 
-returns : tie.Need-returns invariant-loop decreases-loop
+returns : tie.Need-returns-then-not-holds invariant-loop decreases-loop
 returns c =
-    let m = c.before.before.before.before in
-    let e = ap told_step (sym m.kind.given.1) ∙ m.before.before.sub_at.ensures in
-    let h = sym c.before.holds.ensures ∙ not-true _ c.if2.true in
-    same_miss _ _ _ _ _ (starts_line _ _ _ _ _ e c.before.before.if1.true) h ∙ m.before.before.before.loop.invariant.0
+    let e = ap told_step (sym c.in-Sub.is) ∙ c.sub_at.ensures in
+    let h = sym c.holds.ensures ∙ c.if-not-holds.true in
+    same_miss _ _ _ _ _ (starts_line _ _ _ _ _ e c.if-kind-eq-LINES.true) h ∙ c.loop-kind.invariant.0
 
-add-n : tie.Need-overflow-add-n invariant-loop decreases-loop
-add-n c = omega (arith, holds_within _ _ _ (sym c.before.holds.ensures ∙ not-false _ c.if2.false))
+add-n : tie.Need-overflow_add-n invariant-loop decreases-loop
+add-n c = omega (arith, holds_within _ _ _ (sym c.holds.ensures ∙ c.if-not-holds.false))
 
-loop-less : tie.Need-loop-smaller invariant-loop decreases-loop
+loop-less : tie.Need-loop-kind-smaller-else-not-holds invariant-loop decreases-loop
 loop-less c =
-    let m = c.before.before.before.before in
-    let e = ap told_step (sym m.kind.given.1) ∙ m.before.before.sub_at.ensures in
+    let e = ap told_step (sym c.in-Sub.is) ∙ c.sub_at.ensures in
     omega (arith, sub_next _ _ _ _ _ e)
 
-loop-again : tie.Need-loop-preserved invariant-loop decreases-loop
+loop-again : tie.Need-loop-kind-preserved-else-not-holds invariant-loop decreases-loop
 loop-again c =
-    let m = c.before.before.before.before in
-    let e = ap told_step (sym m.kind.given.1) ∙ m.before.before.sub_at.ensures in
-    let h = sym c.before.holds.ensures ∙ not-false _ c.if2.false in
-    let g = same_on _ _ _ _ _ (starts_line _ _ _ _ _ e c.before.before.if1.true) h in
-    (g ∙ m.before.before.before.loop.invariant.0, omega (arith, holds_within _ _ _ h))
+    let e = ap told_step (sym c.in-Sub.is) ∙ c.sub_at.ensures in
+    let h = sym c.holds.ensures ∙ c.if-not-holds.false in
+    let g = same_on _ _ _ _ _ (starts_line _ _ _ _ _ e c.if-kind-eq-LINES.true) h in
+    (g ∙ c.loop-kind.invariant.0, omega (arith, holds_within _ _ _ h))
 
-loop-less-2 : tie.Need-loop-smaller-2 invariant-loop decreases-loop
+loop-less-2 : tie.Need-loop-kind-smaller invariant-loop decreases-loop
 loop-less-2 c =
-    let m = c.before.before in
-    let e = ap told_step (sym m.kind.given.1) ∙ m.before.before.sub_at.ensures in
+    let e = ap told_step (sym c.in-Sub.is) ∙ c.sub_at.ensures in
     omega (arith, sub_next _ _ _ _ _ e)
 
-loop-again-2 : tie.Need-loop-preserved-2 invariant-loop decreases-loop
+loop-again-2 : tie.Need-loop-kind-preserved invariant-loop decreases-loop
 loop-again-2 c =
-    let m = c.before.before in
-    let l = m.before.before.before.loop in
-    let e = ap told_step (sym m.kind.given.1) ∙ m.before.before.sub_at.ensures in
-    (ap (same_list _) (starts_other _ _ _ _ _ e c.if1.false) ∙ l.invariant.0, l.invariant.1)
+    let l = c.loop-kind in
+    let e = ap told_step (sym c.in-Sub.is) ∙ c.sub_at.ensures in
+    (ap (same_list _) (starts_other _ _ _ _ _ e c.if-kind-eq-LINES.false) ∙ l.invariant.0, l.invariant.1)
 
-returns-2 : tie.Need-returns-2 invariant-loop decreases-loop
+returns-2 : tie.Need-returns-in-None invariant-loop decreases-loop
 returns-2 c =
-    let h = c.before.before in
-    let l = h.before.loop in
-    same_end 0 _ _ _ (starts_end _ _ _ (ap told_step (sym c.enum_told.given.1) ∙ h.sub_at.ensures)) l.invariant.1 ∙ l.invariant.0
+    let l = c.loop-kind in
+    same_end 0 _ _ _ (starts_end _ _ _ (ap told_step (sym c.in-None.is) ∙ c.sub_at.ensures)) l.invariant.1 ∙ l.invariant.0
 
-returns-3 : tie.Need-returns-3 invariant-loop decreases-loop
+returns-3 : tie.Need-returns-in-Refused invariant-loop decreases-loop
 returns-3 c =
-    let h = c.before.before in
-    let l = h.before.loop in
-    same_end 0 _ _ _ (starts_refused _ _ _ _ (ap told_step (sym c.enum-told2.given.1) ∙ h.sub_at.ensures)) l.invariant.1 ∙ l.invariant.0
+    let l = c.loop-kind in
+    same_end 0 _ _ _ (starts_refused _ _ _ _ (ap told_step (sym c.in-Refused.is) ∙ c.sub_at.ensures)) l.invariant.1 ∙ l.invariant.0
 
 pub is_areas_spec : {M : Type 1} → statement M
 is_areas_spec =

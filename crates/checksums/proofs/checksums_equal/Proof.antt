@@ -16,4 +16,4 @@ checksums_equal_spec =
     (λ c κs. search rules)
     (λ c. sums_other _ _ _ _ (λ z. omega arith) (λ z. omega arith))
     (λ c κs. search rules)
-    (λ c. c.equal-bytes.ensures ∙ sums_bytes _ _ _ _ (λ z. omega arith) (omega arith)))
+    (λ c. c.equal_bytes.ensures ∙ sums_bytes _ _ _ _ (λ z. omega arith) (omega arith)))

@@ -8,15 +8,13 @@ use Rattle.checksums.specs.EntryLaws.{closed_kind, closed_cut, closed_entry}
 use Rattle.checksums.proofs.closed.Statement.{statement}
 use Rattle.checksums.proofs.closed.Tie as tie
 
-returns : tie.Need-returns
+returns : tie.Need-returns-then-body-next
 returns c =
-    let m = c.before.before in
-    closed_cut _ _ _ _ _ _ (ap told_parsed (sym m.kind.given.1) ∙ m.before.before.parse-kind.ensures) (omega arith)
+    closed_cut _ _ _ _ _ _ (ap told_parsed (sym c.in-Kind.is) ∙ c.parse_kind.ensures) (omega arith)
 
-returns-2 : tie.Need-returns-2
+returns-2 : tie.Need-returns-else-body-next
 returns-2 c =
-    let m = c.before.before.before in
-    closed_entry _ _ _ _ _ _ (ap told_parsed (sym m.kind.given.1) ∙ m.before.before.parse-kind.ensures) (omega arith) _ c.kept.ensures
+    closed_entry _ _ _ _ _ _ (ap told_parsed (sym c.in-Kind.is) ∙ c.parse_kind.ensures) (omega arith) _ c.kept.ensures
 
 pub closed_spec : {M : Type 1} → statement M
 closed_spec =
@@ -31,4 +29,4 @@ closed_spec =
     (λ c κs. search rules)
     (λ c. search rules)
     returns-2
-    (λ c. closed_kind _ _ _ _ _ _ (ap told_parsed (sym c.before.why.given.1) ∙ c.before.before.before.parse-kind.ensures)))
+    (λ c. closed_kind _ _ _ _ _ _ (ap told_parsed (sym c.in-Refused.is) ∙ c.parse_kind.ensures)))

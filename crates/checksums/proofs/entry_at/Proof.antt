@@ -7,7 +7,7 @@ use Rattle.checksums.specs.EntryLaws.{entry_past, entry_none, entry_short, entry
 use Rattle.checksums.proofs.entry_at.Statement.{statement}
 use Rattle.checksums.proofs.entry_at.Tie as tie
 
-returns-5 : tie.Need-returns-5
+returns-5 : tie.Need-returns
 returns-5 c = c.closed.ensures ∙ entry_closed _ _ (omega arith) (omega arith) (omega arith) (omega arith) _ _ _ (search rules) (search rules) (search rules)
 
 pub entry_at_spec : {M : Type 1} → statement M

@@ -10,21 +10,19 @@ use Rattle.checksums.specs.EqualLaws.{bytes_longer, bytes_other, bytes_same, byt
 use Rattle.checksums.proofs.equal_bytes.Statement.{statement}
 use Rattle.checksums.proofs.equal_bytes.Tie as tie
 
-abbrev invariant-loop : tie.invariant-loop
+abbrev invariant-loop : tie.invariant-loop-i
 invariant-loop a b i₀ i = (equal_bytes (drop i a) (drop i b) ≡ equal_bytes a b) × (i ≤ length a) × (length a ≡ length b)
 
-abbrev decreases-loop : tie.decreases-loop
+abbrev decreases-loop : tie.decreases-loop-i
 decreases-loop a b i₀ i = length a - i
 
-returns-2 : tie.Need-returns-2 invariant-loop decreases-loop
+returns-2 : tie.Need-returns-then-a-i invariant-loop decreases-loop
 returns-2 c =
-    let l = c.before.before.before.before in
-    bytes_other _ _ l.loop.i l.loop.invariant.0 (omega arith) (omega arith) (λ z. omega arith)
+    bytes_other _ _ c.loop-i.i c.loop-i.invariant.0 (omega arith) (omega arith) (λ z. omega arith)
 
-loop-again : tie.Need-loop-preserved invariant-loop decreases-loop
+loop-again : tie.Need-loop-i-preserved invariant-loop decreases-loop
 loop-again c =
-    let l = c.before.before.before.before in
-    (bytes_same _ _ l.loop.i l.loop.invariant.0 (omega arith) (omega arith) (omega arith), omega arith, omega arith)
+    (bytes_same _ _ c.loop-i.i c.loop-i.invariant.0 (omega arith) (omega arith) (omega arith), omega arith, omega arith)
 
 pub equal_bytes_spec : {M : Type 1} → statement M
 equal_bytes_spec =
@@ -40,4 +38,4 @@ equal_bytes_spec =
     (λ c. search rules)
     (λ c. search rules)
     loop-again
-    (λ c. bytes_end _ _ c.before.loop.i c.before.loop.invariant.0 (omega arith) (omega arith)))
+    (λ c. bytes_end _ _ c.loop-i.i c.loop-i.invariant.0 (omega arith) (omega arith)))

@@ -1,6 +1,7 @@
--- `dump::print`: the slots are those that the order list leaves, and suffice; the size of the last line tells a refusal.
-use Rattle.std.proofs.Common.{ℕ, ◌≡◌, sym, ap, ◌∙◌, ltb}
-use Rattle.std.proofs.Math.ListN.{replicate, length-replicate}
+-- `dump::print` meets its contract: the slots are those that the order list leaves, and suffice; the size of the last line tells a refusal.
+-- Assumes nothing.
+use Rattle.std.proofs.Common.{◌≡◌, ℕ, sym, ap, ◌∙◌, ltb, replicate}
+use Rattle.std.proofs.lemmas.List.{length-replicate}
 use Rattle.walk.specs.Listing.{Listing}
 use Rattle.refusal.specs.Told.{Told}
 use Rattle.kinds.specs.Kind.{crate_rule}
@@ -16,7 +17,6 @@ returns-clause-lines g c =
 
 pub returns-clause-refused : goal.returns-clause-refused
 returns-clause-refused g c =
-    let e = enough crate_rule c.args.area.now (replicate 3277 0) _ c.order_list.ensures.slots_after (sym (length-replicate {A = ℕ} 3277 0)) in
     c.print_lines.ensures.refused
-    ∙ ap (λ (l : Listing Pieces Told). ltb 4 (last_size 0 l)) e
+    ∙ ap (λ (l : Listing Pieces Told). ltb 4 (last_size 0 l)) (enough crate_rule _ (replicate 3277 0) _ c.order_list.ensures.slots_after (sym (length-replicate {A = ℕ} 3277 0)))
     ∙ last_tells crate_rule _

@@ -16,43 +16,39 @@ use Rattle.many_files.specs.Told.{told_files}
 use Rattle.export_files.proofs.files.Statement.{statement}
 use Rattle.export_files.proofs.files.Tie as tie
 
-returns : tie.Need-returns
+returns : tie.Need-returns-then-out-lt-ASKED
 returns c =
-    let at = c.before.before.before.before.args in
+    let at = c.args in
     fill_short table_state_size over_table walk_words file_words at.out.now at.records.now (files_of crate_rule at.area.now (length at.records.now) (walk_in at.out.now)) (omega arith)
 
-returns-2 : tie.Need-returns-2
+returns-2 : tie.Need-returns-in-Files
 returns-2 c =
-    let m = c.before.before.before.before.before.before.before.before.before in
-    let h = m.before.before.before.before in
-    let at = h.before.before.before.before.before.before.before.before.args in
-    let w = h.before.before.walk-in.ensures in
-    let l = h.next-files.ensures in
-    let e = ap told_files (sym m.count.given.1) ∙ l.0 in
-    let status = c.before.before.before.before.before.before.answer-status.ensures ∙ ap answer_status c.before.before.before.before.before.before.before.over-table.ensures in
+    let at = c.args in
+    let w = c.walk_in.ensures in
+    let l = c.next_files.ensures in
+    let e = ap told_files (sym c.in-Files.is) ∙ l.0 in
+    let status = c.answer_status-status.ensures ∙ ap answer_status c.over_table.ensures in
     fill_given_lem table_state_size over_table walk_words file_words at.out.now at.records.now (files_of crate_rule at.area.now (length at.records.now)) (omega arith) w e l.1
     (gives_status status
-    (gives_table one m.count.given.0.0 m.count.given.0.1.0 c.before.before.before.before.before.walk-words.ensures refl c.before.before.put.ensures))
+    (gives_table one c.in-Files.count c.in-Files.next c.walk_words-w.ensures refl c.put.ensures))
 
-returns-3 : tie.Need-returns-3
+returns-3 : tie.Need-returns-in-None
 returns-3 c =
-    let h = c.before.before.before.before in
-    let at = h.before.before.before.before.before.before.before.before.args in
-    let w = h.before.before.walk-in.ensures in
-    let l = h.next-files.ensures in
-    let e = ap told_files (sym c.enum_told.given.1) ∙ l.0 in
+    let at = c.args in
+    let w = c.walk_in.ensures in
+    let l = c.next_files.ensures in
+    let e = ap told_files (sym c.in-None.is) ∙ l.0 in
     fill_given_lem table_state_size over_table walk_words file_words at.out.now at.records.now (files_of crate_rule at.area.now (length at.records.now)) (omega arith) w e l.1
     (gives_none _)
 
-returns-4 : tie.Need-returns-4
+returns-4 : tie.Need-returns-in-Refused
 returns-4 c =
-    let h = c.before.before.before.before.before.before.before.before.before in
-    let at = h.before.before.before.before.before.before.before.before.args in
-    let w = h.before.before.walk-in.ensures in
-    let l = h.next-files.ensures in
-    let e = ap told_files (sym c.before.before.before.before.before.why.given.1) ∙ l.0 in
+    let at = c.args in
+    let w = c.walk_in.ensures in
+    let l = c.next_files.ensures in
+    let e = ap told_files (sym c.in-Refused.is) ∙ l.0 in
     fill_given_lem table_state_size over_table walk_words file_words at.out.now at.records.now (files_of crate_rule at.area.now (length at.records.now)) (omega arith) w e l.1
-    c.before.before.put-refusal.ensures
+    c.put_refusal.ensures
 
 pub files_spec : {M : Type 1} → statement M
 files_spec =

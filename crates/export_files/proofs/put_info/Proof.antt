@@ -3,22 +3,22 @@
 use borrow.Author.Rules.{rules}
 use mathlib.Core.Path.{sym, ap}
 use Rattle.files.specs.Told.{told_info}
-use Rattle.answer_words.specs.Given.{given, replyGiven}
+use Rattle.answer_words.specs.Given.{given, reply_given}
 use Rattle.answer_words.specs.GivenLaws.{gives_as}
 use Rattle.many_files.specs.Files.{info_words}
 use Rattle.many_files.specs.FileWordsLaws.{info_words_lem}
 use Rattle.export_files.proofs.put_info.Statement.{statement}
 use Rattle.export_files.proofs.put_info.Tie as tie
 
-returns : tie.Need-returns
+returns : tie.Need-returns-in-File
 returns c =
-    let e = ap told_info (sym c.before.before.before.before.before.before.before.answer.given.1) in
-    gives_as (replyGiven info_words) e (gives_as (given 1 0) (sym (info_words_lem _ _ _ _ _ c.before.before.before.before.before.number.ensures)) c.before.before.put.ensures)
+    let e = ap told_info (sym c.in-File.is) in
+    gives_as (reply_given info_words) e (gives_as (given 1 0) (sym (info_words_lem _ _ _ _ _ c.number-k.ensures)) c.put.ensures)
 
-returns-2 : tie.Need-returns-2
+returns-2 : tie.Need-returns-in-Refused
 returns-2 c =
-    let e = ap told_info (sym c.before.before.before.before.before.answer2.given.1) in
-    gives_as (replyGiven info_words) e c.before.before.put-refusal.ensures
+    let e = ap told_info (sym c.in-Refused.is) in
+    gives_as (reply_given info_words) e c.put_refusal.ensures
 
 pub put_info_spec : {M : Type 1} → statement M
 put_info_spec =

@@ -5,25 +5,23 @@ use borrow.Author.Rules.{rules}
 use mathlib.Core.Path.{sym, ap, ◌∙◌}
 use native.Mathlib.Omega.{arith}
 use Rattle.lines.specs.Told.{told_counted}
-use Rattle.answer_words.specs.Given.{refusalSize, one, replyGiven}
+use Rattle.answer_words.specs.Given.{refusal_size, one, reply_given}
 use Rattle.answer_words.specs.GivenLaws.{gives_as, room_changes, room_keeps}
 use Rattle.export_lines.proofs.body_list.Statement.{statement}
 use Rattle.export_lines.proofs.body_list.Tie as tie
 
-returns : tie.Need-returns
-returns c = room_keeps refusalSize _ _ _ _ (omega arith)
+returns : tie.Need-returns-then-out-lt-REFUSAL_WORDS
+returns c = room_keeps refusal_size _ _ _ _ (omega arith)
 
-returns-2 : tie.Need-returns-2
+returns-2 : tie.Need-returns-in-Lines
 returns-2 c =
-    let h = c.before.before.before.before.before.before in
-    let l = h.before.before.before.before.body-list.ensures in
-    room_changes refusalSize _ _ _ _ (omega arith) (gives_as (replyGiven one) (ap told_counted (sym h.n.given.1) ∙ l.0) c.before.before.put.ensures) l.1
+    let l = c.body_list.ensures in
+    room_changes refusal_size _ _ _ _ (omega arith) (gives_as (reply_given one) (ap told_counted (sym c.in-Lines.is) ∙ l.0) c.put.ensures) l.1
 
-returns-3 : tie.Need-returns-3
+returns-3 : tie.Need-returns-in-Refused
 returns-3 c =
-    let h = c.before.before.before.before.before in
-    let l = h.before.before.before.before.body-list.ensures in
-    room_changes refusalSize _ _ _ _ (omega arith) (gives_as (replyGiven one) (ap told_counted (sym h.why.given.1) ∙ l.0) c.before.before.put-refusal.ensures) l.1
+    let l = c.body_list.ensures in
+    room_changes refusal_size _ _ _ _ (omega arith) (gives_as (reply_given one) (ap told_counted (sym c.in-Refused.is) ∙ l.0) c.put_refusal.ensures) l.1
 
 pub body_list_spec : {M : Type 1} → statement M
 body_list_spec =

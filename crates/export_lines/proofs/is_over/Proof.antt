@@ -8,15 +8,13 @@ use Rattle.export_lines.specs.CallsLaws.{over_last, over_more}
 use Rattle.export_lines.proofs.is_over.Statement.{statement}
 use Rattle.export_lines.proofs.is_over.Tie as tie
 
-returns : tie.Need-returns
+returns : tie.Need-returns-then-t-eq0
 returns c =
-    let m = c.before.before.before.before in
-    over_last _ _ m.walk.given.0.1.0 m.walk.given.1 c.before.if1.true _ c.holds-one.ensures
+    over_last _ _ c.in-Between.t c.in-Between.is c.if-t-eq0.true _ c.holds_one.ensures
 
-returns-3 : tie.Need-returns-3
+returns-3 : tie.Need-returns-else-t-eq0
 returns-3 c =
-    let m = c.before.before.before in
-    over_more _ _ m.walk.given.0.1.0 m.walk.given.1 c.if1.false
+    over_more _ _ c.in-Between.t c.in-Between.is c.if-t-eq0.false
 
 pub is_over_spec : {M : Type 1} → statement M
 is_over_spec =
@@ -27,6 +25,6 @@ is_over_spec =
     (λ c κs. search rules)
     returns
     (λ c. search rules)
-    (λ c. ap over_walk (sym c.enum_told.given.1))
+    (λ c. ap over_walk (sym c.in-New.is))
     returns-3
-    (λ c. ap over_walk (sym c.enum-told2.given.1)))
+    (λ c. ap over_walk (sym c.in-Inside.is)))

@@ -5,30 +5,27 @@ use mathlib.Core.Path.{refl, sym, ap, ◌∙◌}
 use lib.ListN.{replicate}
 use Rattle.kinds.specs.Kind.{crate_rule}
 use Rattle.line_state_words.specs.LineWords.{record_size, state_size, line_words}
-use Rattle.answer_words.specs.Given.{stepGiven}
+use Rattle.answer_words.specs.Given.{step_given}
 use Rattle.answer_words.specs.GivenLaws.{gives_as, gives_none}
 use Rattle.many_lines.specs.Told.{told_lines}
 use Rattle.export_lines.specs.OneLaws.{one_none, one_refused, one_line}
 use Rattle.export_lines.proofs.line_from.Statement.{statement}
 use Rattle.export_lines.proofs.line_from.Tie as tie
 
-returns : tie.Need-returns
+returns : tie.Need-returns-in-Lines
 returns c =
-    let h = c.before.before.before.before.before.before.before.before.before in
-    let l = h.next-lines.ensures in
-    one_line crate_rule _ _ (replicate record_size 0) refl _ _ _ _ (ap told_lines (sym c.before.before.before.before.before.before.next.given.1) ∙ l.0) l.1 _ _ _ c.before.before.put-line.ensures
+    let l = c.next_lines.ensures in
+    one_line crate_rule _ _ (replicate record_size 0) refl _ _ _ _ (ap told_lines (sym c.in-Lines.is) ∙ l.0) l.1 _ _ _ c.put_line.ensures
 
-returns-2 : tie.Need-returns-2
+returns-2 : tie.Need-returns-in-None
 returns-2 c =
-    let h = c.before.before.before in
-    let l = h.next-lines.ensures in
-    gives_as (stepGiven state_size line_words) (one_none crate_rule _ _ (replicate record_size 0) refl _ (ap told_lines (sym c.enum_told.given.1) ∙ l.0)) (gives_none _)
+    let l = c.next_lines.ensures in
+    gives_as (step_given state_size line_words) (one_none crate_rule _ _ (replicate record_size 0) refl _ (ap told_lines (sym c.in-None.is) ∙ l.0)) (gives_none _)
 
-returns-3 : tie.Need-returns-3
+returns-3 : tie.Need-returns-in-Refused
 returns-3 c =
-    let h = c.before.before.before.before.before.before.before.before in
-    let l = h.next-lines.ensures in
-    gives_as (stepGiven state_size line_words) (one_refused crate_rule _ _ (replicate record_size 0) refl _ _ (ap told_lines (sym c.before.before.before.before.before.why.given.1) ∙ l.0)) c.before.before.put-refusal.ensures
+    let l = c.next_lines.ensures in
+    gives_as (step_given state_size line_words) (one_refused crate_rule _ _ (replicate record_size 0) refl _ _ (ap told_lines (sym c.in-Refused.is) ∙ l.0)) c.put_refusal.ensures
 
 pub line_from_spec : {M : Type 1} → statement M
 line_from_spec =

@@ -7,37 +7,30 @@ use Rattle.symbol_lines.specs.Symbol.{symbol_walk}
 use Rattle.symbol_lines.specs.Told.{told_symbol}
 use Rattle.line_state_words.specs.LineWords.{line_walk_words}
 use Rattle.line_state_words.specs.Told.{told_how}
-use Rattle.answer_words.specs.Given.{replyGiven}
+use Rattle.answer_words.specs.Given.{reply_given}
 use Rattle.answer_words.specs.GivenLaws.{gives_as, gives_chosen, gives_unchosen}
 use Rattle.export_lines.proofs.lines_for_symbol.Statement.{statement}
 use Rattle.export_lines.proofs.lines_for_symbol.Tie as tie
 
-returns : tie.Need-returns
+returns : tie.Need-returns-in_default
 returns c =
-    let h = c.before.before in
-    let a = h.before.before.before.before.before.args in
-    gives_unchosen (λ how. replyGiven line_walk_words (symbol_walk how crate_rule a.area.now a.slots.now a.section a.offset)) _
-    (ap told_how (sym c.enum_told.given.1) ∙ h.how-named.ensures)
+    let a = c.args in
+    gives_unchosen (λ how. reply_given line_walk_words (symbol_walk how crate_rule a.area.now a.slots.now a.section a.offset)) _
+    (ap told_how (sym c.in_default.is) ∙ c.how_named.ensures)
 
-returns-2 : tie.Need-returns-2
+returns-2 : tie.Need-returns-in-Lines
 returns-2 c =
-    let m = c.before.before.before.before.before in
-    let s = m.before.before in
-    let h = s.before.before.before.before in
-    let a = h.before.before.before.before.before.args in
-    let e = ap told_symbol (sym m.walk.given.1) ∙ s.lines-for-symbol.ensures in
-    gives_chosen (λ how. replyGiven line_walk_words (symbol_walk how crate_rule a.area.now a.slots.now a.section a.offset)) _ _
-    (ap told_how (sym s.before.before.how.given.1) ∙ h.how-named.ensures) (gives_as (replyGiven line_walk_words) e c.before.before.put-line-walk.ensures)
+    let a = c.args in
+    let e = ap told_symbol (sym c.in-Lines.is) ∙ c.lines_for_symbol.ensures in
+    gives_chosen (λ how. reply_given line_walk_words (symbol_walk how crate_rule a.area.now a.slots.now a.section a.offset)) _ _
+    (ap told_how (sym c.in-Is.is) ∙ c.how_named.ensures) (gives_as (reply_given line_walk_words) e c.put_line_walk.ensures)
 
-returns-3 : tie.Need-returns-3
+returns-3 : tie.Need-returns-in-Refused
 returns-3 c =
-    let m = c.before.before.before.before.before in
-    let s = m.before.before in
-    let h = s.before.before.before.before in
-    let a = h.before.before.before.before.before.args in
-    let e = ap told_symbol (sym m.why.given.1) ∙ s.lines-for-symbol.ensures in
-    gives_chosen (λ how. replyGiven line_walk_words (symbol_walk how crate_rule a.area.now a.slots.now a.section a.offset)) _ _
-    (ap told_how (sym s.before.before.how.given.1) ∙ h.how-named.ensures) (gives_as (replyGiven line_walk_words) e c.before.before.put-refusal.ensures)
+    let a = c.args in
+    let e = ap told_symbol (sym c.in-Refused.is) ∙ c.lines_for_symbol.ensures in
+    gives_chosen (λ how. reply_given line_walk_words (symbol_walk how crate_rule a.area.now a.slots.now a.section a.offset)) _ _
+    (ap told_how (sym c.in-Is.is) ∙ c.how_named.ensures) (gives_as (reply_given line_walk_words) e c.put_refusal.ensures)
 
 pub lines_for_symbol_spec : {M : Type 1} → statement M
 lines_for_symbol_spec =

@@ -14,37 +14,34 @@ use Rattle.export_lines.specs.Calls.{over_walk}
 use Rattle.export_lines.proofs.lines_from.Statement.{statement}
 use Rattle.export_lines.proofs.lines_from.Tie as tie
 
-returns : tie.Need-returns
+returns : tie.Need-returns-then-out-lt-ASKED
 returns c =
-    let at = c.before.before.before.before.before.before.args in
+    let at = c.args in
     fill_short state_size over_walk line_walk_words record_words at.out.now at.records.now (lines_of crate_rule at.area.now at.slots.now (length at.records.now) at.walk) (omega arith)
 
-returns-2 : tie.Need-returns-2
+returns-2 : tie.Need-returns-in-Lines
 returns-2 c =
-    let h = c.before.before.before.before.before.before.before.before.before in
-    let at = h.before.before.before.before.before.before.before.before.args in
-    let l = h.next-lines.ensures in
-    let e = ap told_lines (sym c.before.before.before.before.before.count.given.1) ∙ l.0 in
+    let at = c.args in
+    let l = c.next_lines.ensures in
+    let e = ap told_lines (sym c.in-Lines.is) ∙ l.0 in
     fill_given_lem state_size over_walk line_walk_words record_words at.out.now at.records.now (lines_of crate_rule at.area.now at.slots.now (length at.records.now)) (omega arith) refl e l.1
-    c.before.before.put-lines.ensures
+    c.put_lines.ensures
 
-returns-3 : tie.Need-returns-3
+returns-3 : tie.Need-returns-in-None
 returns-3 c =
-    let h = c.before.before.before.before in
-    let at = h.before.before.before.before.before.before.before.before.args in
-    let l = h.next-lines.ensures in
-    let e = ap told_lines (sym c.enum_told.given.1) ∙ l.0 in
+    let at = c.args in
+    let l = c.next_lines.ensures in
+    let e = ap told_lines (sym c.in-None.is) ∙ l.0 in
     fill_given_lem state_size over_walk line_walk_words record_words at.out.now at.records.now (lines_of crate_rule at.area.now at.slots.now (length at.records.now)) (omega arith) refl e l.1
     (gives_none _)
 
-returns-4 : tie.Need-returns-4
+returns-4 : tie.Need-returns-in-Refused
 returns-4 c =
-    let h = c.before.before.before.before.before.before.before.before.before in
-    let at = h.before.before.before.before.before.before.before.before.args in
-    let l = h.next-lines.ensures in
-    let e = ap told_lines (sym c.before.before.before.before.before.why.given.1) ∙ l.0 in
+    let at = c.args in
+    let l = c.next_lines.ensures in
+    let e = ap told_lines (sym c.in-Refused.is) ∙ l.0 in
     fill_given_lem state_size over_walk line_walk_words record_words at.out.now at.records.now (lines_of crate_rule at.area.now at.slots.now (length at.records.now)) (omega arith) refl e l.1
-    c.before.before.put-refusal.ensures
+    c.put_refusal.ensures
 
 pub lines_from_spec : {M : Type 1} → statement M
 lines_from_spec =

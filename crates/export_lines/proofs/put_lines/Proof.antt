@@ -11,10 +11,10 @@ use Rattle.export_lines.proofs.put_lines.Tie as tie
 
 returns : tie.Need-returns
 returns c =
-    let at = c.before.before.before.before.before.before.before.before.before.before.before.before.args in
-    let status = c.before.before.before.before.before.before.before.before.before.answer-status.ensures ∙ ap answer_status c.before.before.before.before.before.before.before.before.before.before.is_over_lem.ensures in
+    let at = c.args in
+    let status = c.answer_status-status.ensures ∙ ap answer_status c.is_over.ensures in
     gives_status status
-    (gives_count at.out.now _ _ at.next at.count _ _ _ (omega arith) c.before.before.before.before.before.before.before.put-line-walk.ensures c.before.before.put.ensures)
+    (gives_count at.out.now _ _ at.next at.count _ _ _ (omega arith) c.put_line_walk.ensures c.put.ensures)
 
 pub put_lines_spec : {M : Type 1} → statement M
 put_lines_spec =

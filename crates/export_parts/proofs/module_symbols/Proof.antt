@@ -3,21 +3,21 @@
 use borrow.Author.Rules.{rules}
 use mathlib.Core.Path.{sym, ap, ◌∙◌}
 use Rattle.modi.specs.Told.{told_symbols}
-use Rattle.answer_words.specs.Given.{replyGiven}
+use Rattle.answer_words.specs.Given.{reply_given}
 use Rattle.answer_words.specs.GivenLaws.{gives_as, gives_nothing}
 use Rattle.export_parts.specs.Calls.{yes}
 use Rattle.export_parts.proofs.module_symbols.Statement.{statement}
 use Rattle.export_parts.proofs.module_symbols.Tie as tie
 
-returns : tie.Need-returns
+returns : tie.Need-returns-in-Yes
 returns c =
-    let e = ap told_symbols (sym c.enum_told.given.1) ∙ c.before.before.module-symbols.ensures in
-    gives_as (replyGiven yes) e (gives_nothing _ _)
+    let e = ap told_symbols (sym c.in-Yes.is) ∙ c.module_symbols.ensures in
+    gives_as (reply_given yes) e (gives_nothing _ _)
 
-returns-2 : tie.Need-returns-2
+returns-2 : tie.Need-returns-in-Refused
 returns-2 c =
-    let e = ap told_symbols (sym c.before.before.before.before.before.why.given.1) ∙ c.before.before.before.before.before.before.before.module-symbols.ensures in
-    gives_as (replyGiven yes) e c.before.before.put-refusal.ensures
+    let e = ap told_symbols (sym c.in-Refused.is) ∙ c.module_symbols.ensures in
+    gives_as (reply_given yes) e c.put_refusal.ensures
 
 pub module_symbols_spec : {M : Type 1} → statement M
 module_symbols_spec =

@@ -18,5 +18,5 @@ export_words_spec =
     (λ c. search rules)
     (λ c. search rules)
     (λ c. search rules)
-    (λ c. ap (λ (x : CrossModuleExport). export_words (told_export x)) c.before.export.given.1)
-    (λ c. ap (λ (x : CrossModuleExport). export_words (told_export x)) c.before.export2.given.1))
+    (λ c. ap (λ (x : CrossModuleExport). export_words (told_export x)) c.in-Type.is)
+    (λ c. ap (λ (x : CrossModuleExport). export_words (told_export x)) c.in-Id.is))

@@ -5,27 +5,25 @@ use borrow.Author.Rules.{rules}
 use mathlib.Core.Path.{sym, ap, ◌∙◌}
 use native.Mathlib.Omega.{arith}
 use Rattle.imports.specs.Told.{told_list}
-use Rattle.answer_words.specs.Given.{refusalSize, one, replyGiven}
+use Rattle.answer_words.specs.Given.{refusal_size, one, reply_given}
 use Rattle.answer_words.specs.GivenLaws.{gives_as, room_changes, room_keeps}
 use Rattle.export_tables.proofs.import_list.Statement.{statement}
 use Rattle.export_tables.proofs.import_list.Tie as tie
 
-returns : tie.Need-returns
-returns c = room_keeps refusalSize _ _ _ _ (omega arith)
+returns : tie.Need-returns-then-out-lt-REFUSAL_WORDS
+returns c = room_keeps refusal_size _ _ _ _ (omega arith)
 
-returns-2 : tie.Need-returns-2
+returns-2 : tie.Need-returns-in-Modules
 returns-2 c =
-    let h = c.before.before.before.before.before.before in
-    let l = h.before.before.before.before.import-list.ensures in
-    let e = ap told_list (sym h.n.given.1) ∙ l.0 in
-    room_changes refusalSize _ _ _ _ (omega arith) (gives_as (replyGiven one) e c.before.before.put.ensures) l.1
+    let l = c.import_list.ensures in
+    let e = ap told_list (sym c.in-Modules.is) ∙ l.0 in
+    room_changes refusal_size _ _ _ _ (omega arith) (gives_as (reply_given one) e c.put.ensures) l.1
 
-returns-3 : tie.Need-returns-3
+returns-3 : tie.Need-returns-in-Refused
 returns-3 c =
-    let h = c.before.before.before.before.before in
-    let l = h.before.before.before.before.import-list.ensures in
-    let e = ap told_list (sym h.why.given.1) ∙ l.0 in
-    room_changes refusalSize _ _ _ _ (omega arith) (gives_as (replyGiven one) e c.before.before.put-refusal.ensures) l.1
+    let l = c.import_list.ensures in
+    let e = ap told_list (sym c.in-Refused.is) ∙ l.0 in
+    room_changes refusal_size _ _ _ _ (omega arith) (gives_as (reply_given one) e c.put_refusal.ensures) l.1
 
 pub import_list_spec : {M : Type 1} → statement M
 import_list_spec =

@@ -3,23 +3,21 @@
 use borrow.Author.Rules.{rules}
 use mathlib.Core.Path.{sym, ap}
 use Rattle.exports.specs.Told.{told_lookup}
-use Rattle.answer_words.specs.Given.{one, replyGiven}
+use Rattle.answer_words.specs.Given.{one, reply_given}
 use Rattle.answer_words.specs.GivenLaws.{gives_as, gives_none}
 use Rattle.export_tables.proofs.put_lookup.Statement.{statement}
 use Rattle.export_tables.proofs.put_lookup.Tie as tie
 
-returns : tie.Need-returns
+returns : tie.Need-returns-in-Global
 returns c =
-    let h = c.before.before.before.before.before.before in
-    gives_as (replyGiven one) (ap told_lookup (sym h.found.given.1)) c.before.before.put.ensures
+    gives_as (reply_given one) (ap told_lookup (sym c.in-Global.is)) c.put.ensures
 
-returns-2 : tie.Need-returns-2
-returns-2 c = gives_as (replyGiven one) (ap told_lookup (sym c.enum_told.given.1)) (gives_none _)
+returns-2 : tie.Need-returns-in-None
+returns-2 c = gives_as (reply_given one) (ap told_lookup (sym c.in-None.is)) (gives_none _)
 
-returns-3 : tie.Need-returns-3
+returns-3 : tie.Need-returns-in-Refused
 returns-3 c =
-    let h = c.before.before.before.before.before in
-    gives_as (replyGiven one) (ap told_lookup (sym h.found2.given.1)) c.before.before.put-refusal.ensures
+    gives_as (reply_given one) (ap told_lookup (sym c.in-Refused.is)) c.put_refusal.ensures
 
 pub put_lookup_spec : {M : Type 1} → statement M
 put_lookup_spec =

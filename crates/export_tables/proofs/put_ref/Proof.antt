@@ -3,21 +3,19 @@
 use borrow.Author.Rules.{rules}
 use mathlib.Core.Path.{sym, ap}
 use Rattle.imports.specs.Told.{told_resolved}
-use Rattle.answer_words.specs.Given.{replyGiven}
+use Rattle.answer_words.specs.Given.{reply_given}
 use Rattle.answer_words.specs.GivenLaws.{gives_as}
 use Rattle.export_tables.specs.Calls.{ref_words}
 use Rattle.export_tables.proofs.put_ref.Statement.{statement}
 use Rattle.export_tables.proofs.put_ref.Tie as tie
 
-returns : tie.Need-returns
+returns : tie.Need-returns-in-Ref
 returns c =
-    let h = c.before.before.before.before.before.before in
-    gives_as (replyGiven ref_words) (ap told_resolved (sym h.found.given.1)) c.before.before.put.ensures
+    gives_as (reply_given ref_words) (ap told_resolved (sym c.in-Ref.is)) c.put.ensures
 
-returns-2 : tie.Need-returns-2
+returns-2 : tie.Need-returns-in-Refused
 returns-2 c =
-    let h = c.before.before.before.before.before in
-    gives_as (replyGiven ref_words) (ap told_resolved (sym h.found2.given.1)) c.before.before.put-refusal.ensures
+    gives_as (reply_given ref_words) (ap told_resolved (sym c.in-Refused.is)) c.put_refusal.ensures
 
 pub put_ref_spec : {M : Type 1} → statement M
 put_ref_spec =

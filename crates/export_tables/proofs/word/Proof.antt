@@ -3,25 +3,25 @@
 use borrow.Author.Rules.{rules}
 use mathlib.Core.Path.{sym, ap, ◌∙◌}
 use Rattle.table.specs.Told.{told_word}
-use Rattle.answer_words.specs.Given.{one, replyGiven}
+use Rattle.answer_words.specs.Given.{one, reply_given}
 use Rattle.answer_words.specs.GivenLaws.{gives_as, gives_none}
 use Rattle.export_tables.proofs.word.Statement.{statement}
 use Rattle.export_tables.proofs.word.Tie as tie
 
-returns : tie.Need-returns
+returns : tie.Need-returns-in-Word
 returns c =
-    let e = ap told_word (sym c.before.before.before.before.before.before.word.given.1) ∙ c.before.before.before.before.before.before.before.before.word_in.ensures in
-    gives_as (replyGiven one) e c.before.before.put.ensures
+    let e = ap told_word (sym c.in-Word.is) ∙ c.word_in.ensures in
+    gives_as (reply_given one) e c.put.ensures
 
-returns-2 : tie.Need-returns-2
+returns-2 : tie.Need-returns-in-None
 returns-2 c =
-    let e = ap told_word (sym c.enum_told.given.1) ∙ c.before.before.word_in.ensures in
-    gives_as (replyGiven one) e (gives_none _)
+    let e = ap told_word (sym c.in-None.is) ∙ c.word_in.ensures in
+    gives_as (reply_given one) e (gives_none _)
 
-returns-3 : tie.Need-returns-3
+returns-3 : tie.Need-returns-in-Refused
 returns-3 c =
-    let e = ap told_word (sym c.before.before.before.before.before.why.given.1) ∙ c.before.before.before.before.before.before.before.word_in.ensures in
-    gives_as (replyGiven one) e c.before.before.put-refusal.ensures
+    let e = ap told_word (sym c.in-Refused.is) ∙ c.word_in.ensures in
+    gives_as (reply_given one) e c.put_refusal.ensures
 
 pub word_spec : {M : Type 1} → statement M
 word_spec =

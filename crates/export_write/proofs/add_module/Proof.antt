@@ -15,4 +15,4 @@ add_module_spec =
     (λ c κs. search rules)
     (λ c. search rules)
     (λ c. search rules)
-    (λ c. writer_goes _ _ _ _ (omega arith) c.before.before.before.before.before.add-module.ensures c.before.before.put-wrote.ensures))
+    (λ c. writer_goes _ _ _ _ (omega arith) c.add_module.ensures c.put_wrote.ensures))

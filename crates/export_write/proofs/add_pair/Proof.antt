@@ -15,4 +15,4 @@ add_pair_spec =
     (λ c κs. search rules)
     (λ c. search rules)
     (λ c. search rules)
-    (λ c. writer_goes _ _ _ _ (omega arith) c.before.before.before.before.before.add-pair.ensures c.before.before.put-wrote.ensures))
+    (λ c. writer_goes _ _ _ _ (omega arith) c.add_pair.ensures c.put_wrote.ensures))

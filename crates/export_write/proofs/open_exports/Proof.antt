@@ -15,4 +15,4 @@ open_exports_spec =
     (λ c κs. search rules)
     (λ c. search rules)
     (λ c. search rules)
-    (λ c. writer_goes _ _ _ _ (omega arith) c.before.before.before.before.before.open-exports.ensures c.before.before.put-wrote.ensures))
+    (λ c. writer_goes _ _ _ _ (omega arith) c.open_exports.ensures c.put_wrote.ensures))

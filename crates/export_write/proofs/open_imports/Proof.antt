@@ -15,4 +15,4 @@ open_imports_spec =
     (λ c κs. search rules)
     (λ c. search rules)
     (λ c. search rules)
-    (λ c. writer_goes _ _ _ _ (omega arith) c.before.before.before.before.before.open-imports.ensures c.before.before.put-wrote.ensures))
+    (λ c. writer_goes _ _ _ _ (omega arith) c.open_imports.ensures c.put_wrote.ensures))

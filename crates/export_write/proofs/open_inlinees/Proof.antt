@@ -15,4 +15,4 @@ open_inlinees_spec =
     (λ c κs. search rules)
     (λ c. search rules)
     (λ c. search rules)
-    (λ c. writer_goes _ _ _ _ (omega arith) c.before.before.before.before.before.open-inlinees.ensures c.before.before.put-wrote.ensures))
+    (λ c. writer_goes _ _ _ _ (omega arith) c.open_inlinees.ensures c.put_wrote.ensures))

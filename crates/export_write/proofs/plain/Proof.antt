@@ -11,18 +11,17 @@ use Rattle.export_write.specs.CallsLaws.{plain_long, plain_short}
 use Rattle.export_write.proofs.plain.Statement.{statement}
 use Rattle.export_write.proofs.plain.Tie as tie
 
-returns : tie.Need-returns
-returns c = gives_as (λ (g : Given). g) (plain_long _ (omega arith)) c.before.before.put-refusal.ensures
+returns : tie.Need-returns-then-area-gt-LONGEST
+returns c = gives_as (λ (g : Given). g) (plain_long _ (omega arith)) c.put_refusal.ensures
 
-returns-2 : tie.Need-returns-2
+returns-2 : tie.Need-returns-in-Yes
 returns-2 c =
-    let h = c.before.before.before.before.before.before in
-    let p = ap told_plain (sym h.header.given.1) ∙ h.before.before.is_plain.ensures in
-    gives_as (λ (g : Given). g) (ap last_given p ∙ plain_short _ (omega arith)) c.before.before.put.ensures
+    let p = ap told_plain (sym c.in-Yes.is) ∙ c.is_plain.ensures in
+    gives_as (λ (g : Given). g) (ap last_given p ∙ plain_short _ (omega arith)) c.put.ensures
 
-returns-3 : tie.Need-returns-3
+returns-3 : tie.Need-returns-in-No
 returns-3 c =
-    let p = ap told_plain (sym c.enum_told.given.1) ∙ c.before.before.is_plain.ensures in
+    let p = ap told_plain (sym c.in-No.is) ∙ c.is_plain.ensures in
     gives_as (λ (g : Given). g) (ap last_given p ∙ plain_short _ (omega arith)) (gives_none _)
 
 pub plain_spec : {M : Type 1} → statement M

@@ -3,16 +3,16 @@
 use borrow.Author.Rules.{rules}
 use mathlib.Core.Path.{sym, ap}
 use Rattle.writer.specs.Told.{told_wrote}
-use Rattle.answer_words.specs.Given.{one, replyGiven}
+use Rattle.answer_words.specs.Given.{one, reply_given}
 use Rattle.answer_words.specs.GivenLaws.{gives_as}
 use Rattle.export_write.proofs.put_wrote.Statement.{statement}
 use Rattle.export_write.proofs.put_wrote.Tie as tie
 
-returns : tie.Need-returns
-returns c = gives_as (replyGiven one) (ap told_wrote (sym c.before.before.before.before.before.before.wrote.given.1)) c.before.before.put.ensures
+returns : tie.Need-returns-in-To
+returns c = gives_as (reply_given one) (ap told_wrote (sym c.in-To.is)) c.put.ensures
 
-returns-2 : tie.Need-returns-2
-returns-2 c = gives_as (replyGiven one) (ap told_wrote (sym c.before.before.before.before.before.wrote2.given.1)) c.before.before.put-refusal.ensures
+returns-2 : tie.Need-returns-in-Refused
+returns-2 c = gives_as (reply_given one) (ap told_wrote (sym c.in-Refused.is)) c.put_refusal.ensures
 
 pub put_wrote_spec : {M : Type 1} → statement M
 put_wrote_spec =

@@ -11,26 +11,23 @@ use Rattle.exports.specs.ExportsLaws.{pairs_behind, Rises, rises_none, rises_fir
 use Rattle.exports.proofs.ascending.Statement.{statement}
 use Rattle.exports.proofs.ascending.Tie as tie
 
-abbrev invariant-loop : tie.invariant-loop
+abbrev invariant-loop : tie.invariant-loop-at
 invariant-loop body last₀ at₀ last at = (Rises body last at ≡ ascends (pairs_behind body 0)) × (at ≤ length body)
 
-abbrev decreases-loop : tie.decreases-loop
+abbrev decreases-loop : tie.decreases-loop-at
 decreases-loop body last₀ at₀ last at = length body - at
 
-returns-2 : tie.Need-returns-2 invariant-loop decreases-loop
+returns-2 : tie.Need-returns-then-local-last invariant-loop decreases-loop
 returns-2 c =
-    let u = c.before in
-    rises_not _ _ _ (omega arith) _ u.u32-at2.ensures c.if2.true ∙ u.before.before.loop.invariant.0
+    rises_not _ _ _ (omega arith) _ c.u32_at-local.ensures c.if-local-last.true ∙ c.loop-at.invariant.0
 
-loop-again : tie.Need-loop-preserved invariant-loop decreases-loop
+loop-again : tie.Need-loop-at-preserved invariant-loop decreases-loop
 loop-again c =
-    let u = c.before in
-    (rises_on _ _ _ (omega arith) _ u.u32-at2.ensures (omega arith) ∙ u.before.before.loop.invariant.0, omega arith)
+    (rises_on _ _ _ (omega arith) _ c.u32_at-local.ensures (omega arith) ∙ c.loop-at.invariant.0, omega arith)
 
-returns-3 : tie.Need-returns-3 invariant-loop decreases-loop
+returns-3 : tie.Need-returns invariant-loop decreases-loop
 returns-3 c =
-    let l = c.before in
-    rises_end l.before.before.before.before.args.body.now l.loop.last l.loop.at (omega arith) ∙ l.loop.invariant.0
+    rises_end c.args.body.now c.loop-at.last c.loop-at.at (omega arith) ∙ c.loop-at.invariant.0
 
 pub ascending_spec : {M : Type 1} → statement M
 ascending_spec =
@@ -40,7 +37,7 @@ ascending_spec =
     decreases-loop
     (λ c. rises_none _ (omega arith))
     (λ c κs. search rules)
-    (λ c. (rises_first _ (omega arith) _ c.u32_at_lem.ensures, omega arith))
+    (λ c. (rises_first _ (omega arith) _ c.u32_at-last.ensures, omega arith))
     (λ c. search rules)
     (λ c κs. search rules)
     returns-2

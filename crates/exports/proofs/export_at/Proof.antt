@@ -6,10 +6,9 @@ use Rattle.exports.specs.InBodyLaws.{export_long, export_odd, export_past, expor
 use Rattle.exports.proofs.export_at.Statement.{statement}
 use Rattle.exports.proofs.export_at.Tie as tie
 
-returns-4 : tie.Need-returns-4
+returns-4 : tie.Need-returns
 returns-4 c =
-    let w = c.before.before in
-    export_there _ _ (omega arith) (omega arith) w.before.if3.false _ _ w.word_at.ensures c.before.word-at2.ensures _ c.export-of.ensures
+    export_there _ _ (omega arith) (omega arith) c.if-len-i.false _ _ c.word_at.ensures c.word_at-2.ensures _ c.export_of.ensures
 
 pub export_at_spec : {M : Type 1} → statement M
 export_at_spec =
@@ -17,7 +16,7 @@ export_at_spec =
     (tie.spec
     (λ c. export_long _ _ (omega arith))
     (λ c. export_odd _ _ (omega arith) (omega arith))
-    (λ c. export_past _ _ (omega arith) (omega arith) c.if3.true)
+    (λ c. export_past _ _ (omega arith) (omega arith) c.if-len-i.true)
     (λ c. search rules)
     (λ c κs. search rules)
     (λ c. search rules)

@@ -10,11 +10,10 @@ use Rattle.exports.specs.InBodyLaws.{body_found, body_none, body_refused}
 use Rattle.exports.proofs.export_body.Statement.{statement}
 use Rattle.exports.proofs.export_body.Tie as tie
 
-returns : tie.Need-returns
+returns : tie.Need-returns-in-At
 returns c =
-    let m = c.before.before.before in
-    let e = ap told_found (sym m.start.given.1) ∙ m.before.before.first_of.ensures in
-    c.tested-body.ensures ∙ body_found _ _ _ _ e (add-sub_cancel_left _ _) (first_in_lem _ _ _ _ e)
+    let e = ap told_found (sym c.in-At.is) ∙ c.first_of.ensures in
+    c.tested_body.ensures ∙ body_found _ _ _ _ e (add-sub_cancel_left _ _) (first_in_lem _ _ _ _ e)
 
 pub export_body_spec : {M : Type 1} → statement M
 export_body_spec =
@@ -22,13 +21,13 @@ export_body_spec =
     (tie.spec
     (λ c κs. search rules)
     (λ c. search rules)
-    (λ c. omega (arith, first_in_lem _ _ _ _ (ap told_found (sym c.before.start.given.1) ∙ c.before.before.before.first_of.ensures)))
+    (λ c. omega (arith, first_in_lem _ _ _ _ (ap told_found (sym c.in-At.is) ∙ c.first_of.ensures)))
     (λ c. search rules)
     (λ c. search rules)
-    (λ c. omega (arith, first_in_lem _ _ _ _ (ap told_found (sym c.before.start.given.1) ∙ c.before.before.before.first_of.ensures)))
+    (λ c. omega (arith, first_in_lem _ _ _ _ (ap told_found (sym c.in-At.is) ∙ c.first_of.ensures)))
     (λ c κs. search rules)
     (λ c. search rules)
     (λ c. search rules)
     returns
-    (λ c. body_none _ _ (ap told_found (sym c.enum_told.given.1) ∙ c.before.before.first_of.ensures))
-    (λ c. body_refused _ _ _ (ap told_found (sym c.before.why.given.1) ∙ c.before.before.before.first_of.ensures)))
+    (λ c. body_none _ _ (ap told_found (sym c.in-None.is) ∙ c.first_of.ensures))
+    (λ c. body_refused _ _ _ (ap told_found (sym c.in-Refused.is) ∙ c.first_of.ensures)))

@@ -7,14 +7,17 @@ use mathlib.Core.Path.{sym, ap, ◌∙◌}
 use Rattle.find.specs.Told.{told_found}
 use Rattle.find.specs.FindLaws.{first_in_lem}
 use Rattle.table.specs.CollectLaws.{of_found, of_none, of_refused}
+use mathlib.Core.List.{List}
+use lib.ListN.{length}
+use Rattle.walk.specs.Listing.{gave}
+use Rattle.body.specs.Exports.{Pair, pairs}
 use Rattle.exports.proofs.export_count.Statement.{statement}
 use Rattle.exports.proofs.export_count.Tie as tie
 
-returns : tie.Need-returns
+returns : tie.Need-returns-in-At
 returns c =
-    let m = c.before.before.before in
-    c.count-in.ensures
-    ∙ of_found _ _ _ _ _ _ (ap told_found (sym m.start.given.1) ∙ m.before.before.first_of.ensures) (add-sub_cancel_left _ _)
+    c.count_in.ensures
+    ∙ of_found pairs (λ (bs : List Pair). gave (length bs)) c.args.area.now _ _ _ (ap told_found (sym c.in-At.is) ∙ c.first_of.ensures) (add-sub_cancel_left _ _)
 
 pub export_count_spec : {M : Type 1} → statement M
 export_count_spec =
@@ -22,13 +25,13 @@ export_count_spec =
     (tie.spec
     (λ c κs. search rules)
     (λ c. search rules)
-    (λ c. omega (arith, first_in_lem _ _ _ _ (ap told_found (sym c.before.start.given.1) ∙ c.before.before.before.first_of.ensures)))
+    (λ c. omega (arith, first_in_lem _ _ _ _ (ap told_found (sym c.in-At.is) ∙ c.first_of.ensures)))
     (λ c. search rules)
     (λ c. search rules)
-    (λ c. omega (arith, first_in_lem _ _ _ _ (ap told_found (sym c.before.start.given.1) ∙ c.before.before.before.first_of.ensures)))
+    (λ c. omega (arith, first_in_lem _ _ _ _ (ap told_found (sym c.in-At.is) ∙ c.first_of.ensures)))
     (λ c κs. search rules)
     (λ c. search rules)
     (λ c. search rules)
     returns
-    (λ c. of_none _ _ _ _ (ap told_found (sym c.enum_told.given.1) ∙ c.before.before.first_of.ensures))
-    (λ c. of_refused _ _ _ _ _ (ap told_found (sym c.before.why.given.1) ∙ c.before.before.before.first_of.ensures)))
+    (λ c. of_none pairs (λ (bs : List Pair). gave (length bs)) c.args.area.now _ (ap told_found (sym c.in-None.is) ∙ c.first_of.ensures))
+    (λ c. of_refused pairs (λ (bs : List Pair). gave (length bs)) c.args.area.now _ _ (ap told_found (sym c.in-Refused.is) ∙ c.first_of.ensures)))

@@ -11,26 +11,23 @@ use Rattle.exports.specs.ExportsLaws.{pairs_behind, global_hit, global_miss, glo
 use Rattle.exports.proofs.global_of.Statement.{statement}
 use Rattle.exports.proofs.global_of.Tie as tie
 
-abbrev invariant-loop : tie.invariant-loop
+abbrev invariant-loop : tie.invariant-loop-at
 invariant-loop body local at₀ at = (global_of local (pairs_behind body at) ≡ global_of local (pairs_behind body 0)) × (at ≤ length body)
 
-abbrev decreases-loop : tie.decreases-loop
+abbrev decreases-loop : tie.decreases-loop-at
 decreases-loop body local at₀ at = length body - at
 
-returns : tie.Need-returns invariant-loop decreases-loop
+returns : tie.Need-returns-then-u32_at-local invariant-loop decreases-loop
 returns c =
-    let u = c.before.before in
-    global_hit _ _ _ (omega arith) _ u.u32_at_lem.ensures c.before.if1.true _ c.u32-at2.ensures ∙ u.before.before.loop.invariant.0
+    global_hit _ _ _ (omega arith) _ c.u32_at.ensures c.if-u32_at-local.true _ c.u32_at-then-u32_at-local.ensures ∙ c.loop-at.invariant.0
 
-loop-again : tie.Need-loop-preserved invariant-loop decreases-loop
+loop-again : tie.Need-loop-at-preserved invariant-loop decreases-loop
 loop-again c =
-    let u = c.before in
-    (global_miss _ _ _ (omega arith) _ u.u32_at_lem.ensures c.if1.false ∙ u.before.before.loop.invariant.0, omega arith)
+    (global_miss _ _ _ (omega arith) _ c.u32_at.ensures c.if-u32_at-local.false ∙ c.loop-at.invariant.0, omega arith)
 
-returns-2 : tie.Need-returns-2 invariant-loop decreases-loop
+returns-2 : tie.Need-returns invariant-loop decreases-loop
 returns-2 c =
-    let l = c.before in
-    global_end l.before.before.args.body.now l.before.before.args.local l.loop.at (omega arith) ∙ l.loop.invariant.0
+    global_end c.args.body.now c.args.local c.loop-at.at (omega arith) ∙ c.loop-at.invariant.0
 
 pub global_of_spec : {M : Type 1} → statement M
 global_of_spec =

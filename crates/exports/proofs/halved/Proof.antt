@@ -11,35 +11,32 @@ use Rattle.exports.specs.InBodyLaws.{half_none, half_here, half_back, half_front
 use Rattle.exports.proofs.halved.Statement.{statement}
 use Rattle.exports.proofs.halved.Tie as tie
 
-abbrev invariant-loop : tie.invariant-loop
+abbrev invariant-loop : tie.invariant-loop-from
 invariant-loop body local from₀ to₀ from to =
     (to ≤ length body / 8) × (pair_halved body local from to ≡ pair_halved body local 0 (length body / 8))
 
-abbrev decreases-loop : tie.decreases-loop
+abbrev decreases-loop : tie.decreases-loop-from
 decreases-loop body local from₀ to₀ from to = to - from
 
-returns : tie.Need-returns invariant-loop decreases-loop
+returns : tie.Need-returns-then-found-local invariant-loop decreases-loop
 returns c =
-    let w = c.before.before in
-    let at = w.before.before.loop in
+    let at = c.loop-from in
     let mid = (at.from + at.to) / 2 in
-    half_here _ _ _ _ w.before.loop-test.true mid (omega arith) _ w.word_at.ensures c.before.if1.true _ c.word-at2.ensures
+    half_here _ _ _ _ c.loop-from-test.true mid (omega arith) _ c.word_at-found.ensures c.if-found-local.true _ c.word_at.ensures
     ∙ at.invariant.1
 
-loop-again : tie.Need-loop-preserved invariant-loop decreases-loop
+loop-again : tie.Need-loop-from-preserved-then-found-local-2 invariant-loop decreases-loop
 loop-again c =
-    let w = c.before.before in
-    let at = w.before.before.loop in
+    let at = c.loop-from in
     let mid = (at.from + at.to) / 2 in
-    let e = half_back _ _ _ _ w.before.loop-test.true mid (omega arith) _ w.word_at.ensures c.before.if1.false c.if2.true in
+    let e = half_back _ _ _ _ c.loop-from-test.true mid (omega arith) _ c.word_at-found.ensures c.if-found-local.false c.if-found-local-2.true in
     (omega arith, e ∙ at.invariant.1)
 
-loop-again-2 : tie.Need-loop-preserved-2 invariant-loop decreases-loop
+loop-again-2 : tie.Need-loop-from-preserved invariant-loop decreases-loop
 loop-again-2 c =
-    let w = c.before.before in
-    let at = w.before.before.loop in
+    let at = c.loop-from in
     let mid = (at.from + at.to) / 2 in
-    let e = half_front _ _ _ _ w.before.loop-test.true mid (omega arith) _ w.word_at.ensures c.before.if1.false c.if2.false in
+    let e = half_front _ _ _ _ c.loop-from-test.true mid (omega arith) _ c.word_at-found.ensures c.if-found-local.false c.if-found-local-2.false in
     (omega arith, e ∙ at.invariant.1)
 
 pub halved_spec : {M : Type 1} → statement M
@@ -60,4 +57,4 @@ halved_spec =
     loop-again
     (λ c. omega arith)
     loop-again-2
-    (λ c. half_none _ _ _ _ c.loop-test.false ∙ c.before.loop.invariant.1))
+    (λ c. half_none _ _ _ _ c.loop-from-test.false ∙ c.loop-from.invariant.1))

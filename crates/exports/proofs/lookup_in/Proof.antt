@@ -13,6 +13,6 @@ lookup_in_spec =
     (tie.spec
     (λ c κs. search rules)
     (λ c κs. search rules)
-    (λ c. c.global_of.ensures ∙ lookup_sorted _ _ (omega arith) (sym c.before.if2.true ∙ c.before.before.ascending.ensures))
-    (λ c. lookup_unsorted _ _ (omega arith) (sym c.if2.false ∙ c.before.ascending.ensures))
+    (λ c. c.global_of.ensures ∙ lookup_sorted _ _ (omega arith) (sym c.if-ascending.true ∙ c.ascending.ensures))
+    (λ c. lookup_unsorted _ _ (omega arith) (sym c.if-ascending.false ∙ c.ascending.ensures))
     (λ c. lookup_odd _ _ (omega arith)))

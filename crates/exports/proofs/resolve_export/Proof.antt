@@ -8,14 +8,15 @@ use Rattle.find.specs.Told.{told_found}
 use Rattle.find.specs.FindLaws.{first_in_lem}
 use Rattle.table.specs.CollectLaws.{of_found, of_none, of_refused}
 use Rattle.exports.specs.ExportsLaws.{lookup_none}
+use Rattle.body.specs.Exports.{pairs}
+use Rattle.exports.specs.Exports.{lookup}
 use Rattle.exports.proofs.resolve_export.Statement.{statement}
 use Rattle.exports.proofs.resolve_export.Tie as tie
 
-returns : tie.Need-returns
+returns : tie.Need-returns-in-At
 returns c =
-    let m = c.before.before.before in
-    c.lookup-in.ensures
-    ∙ of_found _ _ _ _ _ _ (ap told_found (sym m.start.given.1) ∙ m.before.before.first_of.ensures) (add-sub_cancel_left _ _)
+    c.lookup_in.ensures
+    ∙ of_found pairs (lookup c.args.local) c.args.area.now _ _ _ (ap told_found (sym c.in-At.is) ∙ c.first_of.ensures) (add-sub_cancel_left _ _)
 
 pub resolve_export_spec : {M : Type 1} → statement M
 resolve_export_spec =
@@ -23,13 +24,13 @@ resolve_export_spec =
     (tie.spec
     (λ c κs. search rules)
     (λ c. search rules)
-    (λ c. omega (arith, first_in_lem _ _ _ _ (ap told_found (sym c.before.start.given.1) ∙ c.before.before.before.first_of.ensures)))
+    (λ c. omega (arith, first_in_lem _ _ _ _ (ap told_found (sym c.in-At.is) ∙ c.first_of.ensures)))
     (λ c. search rules)
     (λ c. search rules)
-    (λ c. omega (arith, first_in_lem _ _ _ _ (ap told_found (sym c.before.start.given.1) ∙ c.before.before.before.first_of.ensures)))
+    (λ c. omega (arith, first_in_lem _ _ _ _ (ap told_found (sym c.in-At.is) ∙ c.first_of.ensures)))
     (λ c κs. search rules)
     (λ c. search rules)
     (λ c. search rules)
     returns
-    (λ c. lookup_none _ ∙ of_none _ _ _ _ (ap told_found (sym c.enum_told.given.1) ∙ c.before.before.first_of.ensures))
-    (λ c. of_refused _ _ _ _ _ (ap told_found (sym c.before.why.given.1) ∙ c.before.before.before.first_of.ensures)))
+    (λ c. lookup_none _ ∙ of_none pairs (lookup c.args.local) c.args.area.now _ (ap told_found (sym c.in-None.is) ∙ c.first_of.ensures))
+    (λ c. of_refused pairs (lookup c.args.local) c.args.area.now _ _ (ap told_found (sym c.in-Refused.is) ∙ c.first_of.ensures)))

@@ -13,5 +13,5 @@ tested_body_spec =
     (tie.spec
     (λ c. tested_odd _ _ (omega arith))
     (λ c κs. search rules)
-    (λ c. tested_sorted _ _ (omega arith) (sym c.if2.true ∙ c.before.ascending.ensures))
-    (λ c. tested_unsorted _ _ (omega arith) (sym c.if2.false ∙ c.before.ascending.ensures)))
+    (λ c. tested_sorted _ _ (omega arith) (sym c.if-ascending.true ∙ c.ascending.ensures))
+    (λ c. tested_unsorted _ _ (omega arith) (sym c.if-ascending.false ∙ c.ascending.ensures)))

@@ -14,4 +14,4 @@ word_at_spec =
     (λ c. search rules)
     (λ c. search rules)
     (λ c κs. search rules)
-    (λ c. word_part _ _ _ c.u32_at_lem.ensures))
+    (λ c. word_part _ _ _ c.u32_at.ensures))

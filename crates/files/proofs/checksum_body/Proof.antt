@@ -7,10 +7,9 @@ use Rattle.files.specs.FilesLaws.{body_passed, body_refused}
 use Rattle.files.proofs.checksum_body.Statement.{statement}
 use Rattle.files.proofs.checksum_body.Tie as tie
 
-returns : tie.Need-returns
+returns : tie.Need-returns-in-Lines
 returns c =
-    let m = c.before in
-    c.last_of.ensures ∙ body_passed _ _ _ (ap told_counted (sym m.enum_told.given.1) ∙ m.before.before.count-lines.ensures)
+    c.last_of.ensures ∙ body_passed _ _ _ (ap told_counted (sym c.in-Lines.is) ∙ c.count_lines.ensures)
 
 pub checksum_body_spec : {M : Type 1} → statement M
 checksum_body_spec =
@@ -21,4 +20,4 @@ checksum_body_spec =
     (λ c κs. search rules)
     (λ c. search rules)
     returns
-    (λ c. body_refused _ _ _ (ap told_counted (sym c.before.why.given.1) ∙ c.before.before.before.count-lines.ensures)))
+    (λ c. body_refused _ _ _ (ap told_counted (sym c.in-Refused.is) ∙ c.count_lines.ensures)))

@@ -7,18 +7,16 @@ use Rattle.files.specs.FilesLaws.{body_in_lem, part_found, part_none, part_refus
 use Rattle.files.proofs.file_at.Statement.{statement}
 use Rattle.files.proofs.file_at.Tie as tie
 
-returns : tie.Need-returns
+returns : tie.Need-returns-in-At
 returns c =
-    let m = c.before.before in
-    c.file-in-part.ensures ∙ file_in_lem _ _ _ _ (part_found _ _ _ (ap told_found (sym m.start.given.1) ∙ m.before.before.checksum-body.ensures))
+    c.file_in_part.ensures ∙ file_in_lem _ _ _ _ (part_found _ _ _ (ap told_found (sym c.in-At.is) ∙ c.checksum_body.ensures))
 
-returns-2 : tie.Need-returns-2
+returns-2 : tie.Need-returns-in-None
 returns-2 c =
-    let m = c.before in
-    c.file-in-part2.ensures ∙ file_in_lem _ _ _ _ (part_none _ _ (ap told_found (sym m.enum_told.given.1) ∙ m.before.before.checksum-body.ensures))
+    c.file_in_part-in-None.ensures ∙ file_in_lem _ _ _ _ (part_none _ _ (ap told_found (sym c.in-None.is) ∙ c.checksum_body.ensures))
 
-returns-3 : tie.Need-returns-3
-returns-3 c = file_refused _ _ _ _ (part_refused _ _ _ (ap told_found (sym c.before.why.given.1) ∙ c.before.before.before.checksum-body.ensures))
+returns-3 : tie.Need-returns-in-Refused
+returns-3 c = file_refused _ _ _ _ (part_refused _ _ _ (ap told_found (sym c.in-Refused.is) ∙ c.checksum_body.ensures))
 
 pub file_at_spec : {M : Type 1} → statement M
 file_at_spec =
@@ -26,7 +24,7 @@ file_at_spec =
     (tie.spec
     (λ c κs. search rules)
     (λ c. search rules)
-    (λ c κs. body_in_lem _ _ _ (ap told_found (sym c.before.start.given.1) ∙ c.before.before.before.checksum-body.ensures))
+    (λ c κs. body_in_lem _ _ _ (ap told_found (sym c.in-At.is) ∙ c.checksum_body.ensures))
     (λ c. search rules)
     (λ c κs. search rules)
     (λ c. search rules)

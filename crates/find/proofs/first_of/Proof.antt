@@ -16,38 +16,31 @@ use Rattle.find.specs.FindLaws.{first_hit, first_miss, first_end, first_refused}
 use Rattle.find.proofs.first_of.Statement.{statement}
 use Rattle.find.proofs.first_of.Tie as tie
 
-abbrev invariant-loop : tie.invariant-loop
+abbrev invariant-loop : tie.invariant-loop-kind
 invariant-loop area wanted p₀ p = map_reply span_of same (first_by (is wanted) (subs_from crate_rule area p)) ≡ map_reply span_of same (first_by (is wanted) (subs_from crate_rule area 0))
 
-abbrev decreases-loop : tie.decreases-loop
+abbrev decreases-loop : tie.decreases-loop-kind
 decreases-loop area wanted p₀ p = length area - p
 
-returns : tie.Need-returns invariant-loop decreases-loop
+returns : tie.Need-returns-then-kind-wanted invariant-loop decreases-loop
 returns c =
-    let m = c.before.before in
-    let l = m.before.before.before in
-    first_hit _ _ _ _ _ _ (ap told_step (sym m.kind.given.1) ∙ m.before.before.sub_at.ensures) (eq-eqb _ _ c.if1.true) ∙ l.loop.invariant
+    first_hit _ _ _ _ _ _ (ap told_step (sym c.in-Sub.is) ∙ c.sub_at.ensures) (eq-eqb _ _ c.if-kind-wanted.true) ∙ c.loop-kind.invariant
 
-loop-less : tie.Need-loop-smaller invariant-loop decreases-loop
+loop-less : tie.Need-loop-kind-smaller invariant-loop decreases-loop
 loop-less c =
-    let m = c.before.before in
-    omega (arith, sub_next _ _ _ _ _ (ap told_step (sym m.kind.given.1) ∙ m.before.before.sub_at.ensures))
+    omega (arith, sub_next _ _ _ _ _ (ap told_step (sym c.in-Sub.is) ∙ c.sub_at.ensures))
 
-loop-again : tie.Need-loop-preserved invariant-loop decreases-loop
+loop-again : tie.Need-loop-kind-preserved invariant-loop decreases-loop
 loop-again c =
-    let m = c.before.before in
-    let l = m.before.before.before in
-    first_miss _ _ _ _ _ _ (ap told_step (sym m.kind.given.1) ∙ m.before.before.sub_at.ensures) (ne_eqb _ _ c.if1.false) ∙ l.loop.invariant
+    first_miss _ _ _ _ _ _ (ap told_step (sym c.in-Sub.is) ∙ c.sub_at.ensures) (ne_eqb _ _ c.if-kind-wanted.false) ∙ c.loop-kind.invariant
 
-returns-2 : tie.Need-returns-2 invariant-loop decreases-loop
+returns-2 : tie.Need-returns-in-None invariant-loop decreases-loop
 returns-2 c =
-    let h = c.before.before in
-    first_end _ _ _ _ (ap told_step (sym c.enum_told.given.1) ∙ h.sub_at.ensures) ∙ h.before.loop.invariant
+    first_end _ _ _ _ (ap told_step (sym c.in-None.is) ∙ c.sub_at.ensures) ∙ c.loop-kind.invariant
 
-returns-3 : tie.Need-returns-3 invariant-loop decreases-loop
+returns-3 : tie.Need-returns-in-Refused invariant-loop decreases-loop
 returns-3 c =
-    let h = c.before.before.before in
-    first_refused _ _ _ _ _ (ap told_step (sym c.before.why.given.1) ∙ h.sub_at.ensures) ∙ h.before.loop.invariant
+    first_refused _ _ _ _ _ (ap told_step (sym c.in-Refused.is) ∙ c.sub_at.ensures) ∙ c.loop-kind.invariant
 
 pub first_of_spec : {M : Type 1} → statement M
 first_of_spec =

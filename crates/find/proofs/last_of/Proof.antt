@@ -15,41 +15,35 @@ use Rattle.find.specs.FindLaws.{Best, last_first, last_hit, last_miss, last_end,
 use Rattle.find.proofs.last_of.Statement.{statement}
 use Rattle.find.proofs.last_of.Tie as tie
 
-abbrev invariant-loop : tie.invariant-loop
+abbrev invariant-loop : tie.invariant-loop-kind
 invariant-loop area wanted best₀ p₀ best p = Best crate_rule area wanted p (told_found best) ≡ last_sub crate_rule wanted area
 
-abbrev decreases-loop : tie.decreases-loop
+abbrev decreases-loop : tie.decreases-loop-kind
 decreases-loop area wanted best₀ p₀ best p = length area - p
 
-loop-less : tie.Need-loop-smaller invariant-loop decreases-loop
+loop-less : tie.Need-loop-kind-smaller-then-kind-wanted invariant-loop decreases-loop
 loop-less c =
-    let m = c.before.before in
-    omega (arith, sub_next _ _ _ _ _ (ap told_step (sym m.kind.given.1) ∙ m.before.before.sub_at.ensures))
+    omega (arith, sub_next _ _ _ _ _ (ap told_step (sym c.in-Sub.is) ∙ c.sub_at.ensures))
 
-loop-again : tie.Need-loop-preserved invariant-loop decreases-loop
+loop-again : tie.Need-loop-kind-preserved-then-kind-wanted invariant-loop decreases-loop
 loop-again c =
-    let m = c.before.before in
-    last_hit _ _ _ _ _ _ _ (ap told_step (sym m.kind.given.1) ∙ m.before.before.sub_at.ensures) c.if1.true ∙ m.before.before.before.loop.invariant
+    last_hit _ _ _ _ _ _ _ (ap told_step (sym c.in-Sub.is) ∙ c.sub_at.ensures) c.if-kind-wanted.true ∙ c.loop-kind.invariant
 
-loop-less-2 : tie.Need-loop-smaller-2 invariant-loop decreases-loop
+loop-less-2 : tie.Need-loop-kind-smaller invariant-loop decreases-loop
 loop-less-2 c =
-    let m = c.before.before in
-    omega (arith, sub_next _ _ _ _ _ (ap told_step (sym m.kind.given.1) ∙ m.before.before.sub_at.ensures))
+    omega (arith, sub_next _ _ _ _ _ (ap told_step (sym c.in-Sub.is) ∙ c.sub_at.ensures))
 
-loop-again-2 : tie.Need-loop-preserved-2 invariant-loop decreases-loop
+loop-again-2 : tie.Need-loop-kind-preserved invariant-loop decreases-loop
 loop-again-2 c =
-    let m = c.before.before in
-    last_miss _ _ _ _ _ _ _ (ap told_step (sym m.kind.given.1) ∙ m.before.before.sub_at.ensures) c.if1.false ∙ m.before.before.before.loop.invariant
+    last_miss _ _ _ _ _ _ _ (ap told_step (sym c.in-Sub.is) ∙ c.sub_at.ensures) c.if-kind-wanted.false ∙ c.loop-kind.invariant
 
-returns : tie.Need-returns invariant-loop decreases-loop
+returns : tie.Need-returns-in-None invariant-loop decreases-loop
 returns c =
-    let h = c.before.before in
-    last_end _ _ _ _ _ (ap told_step (sym c.enum_told.given.1) ∙ h.sub_at.ensures) ∙ h.before.loop.invariant
+    last_end _ _ _ _ _ (ap told_step (sym c.in-None.is) ∙ c.sub_at.ensures) ∙ c.loop-kind.invariant
 
-returns-2 : tie.Need-returns-2 invariant-loop decreases-loop
+returns-2 : tie.Need-returns-in-Refused invariant-loop decreases-loop
 returns-2 c =
-    let h = c.before.before.before in
-    last_refused _ _ _ _ _ _ (ap told_step (sym c.before.why.given.1) ∙ h.sub_at.ensures) ∙ h.before.loop.invariant
+    last_refused _ _ _ _ _ _ (ap told_step (sym c.in-Refused.is) ∙ c.sub_at.ensures) ∙ c.loop-kind.invariant
 
 pub last_of_spec : {M : Type 1} → statement M
 last_of_spec =

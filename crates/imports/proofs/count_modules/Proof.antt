@@ -14,38 +14,33 @@ use Rattle.imports.specs.ListedLaws.{CountFrom, count_first, count_next, count_e
 use Rattle.imports.proofs.count_modules.Statement.{statement}
 use Rattle.imports.proofs.count_modules.Tie as tie
 
-abbrev invariant-loop : tie.invariant-loop
+abbrev invariant-loop : tie.invariant-loop-next
 invariant-loop body n₀ at₀ n at = (CountFrom body n at ≡ listing_count (modules body)) × (n ≤ at) × (at ≤ length body)
 
-abbrev decreases-loop : tie.decreases-loop
+abbrev decreases-loop : tie.decreases-loop-next
 decreases-loop body n₀ at₀ n at = length body - at
 
-add-n : tie.Need-overflow-add-n invariant-loop decreases-loop
+add-n : tie.Need-overflow_add-n invariant-loop decreases-loop
 add-n c =
-    let m = c.before in
-    omega (arith, module_next _ _ _ _ (ap told_module (sym m.next.given.1) ∙ m.before.before.module-at.ensures))
+    omega (arith, module_next _ _ _ _ (ap told_module (sym c.in-Module.is) ∙ c.module_at.ensures))
 
-loop-less : tie.Need-loop-smaller invariant-loop decreases-loop
+loop-less : tie.Need-loop-next-smaller invariant-loop decreases-loop
 loop-less c =
-    let m = c.before in
-    omega (arith, module_next _ _ _ _ (ap told_module (sym m.next.given.1) ∙ m.before.before.module-at.ensures))
+    omega (arith, module_next _ _ _ _ (ap told_module (sym c.in-Module.is) ∙ c.module_at.ensures))
 
-loop-again : tie.Need-loop-preserved invariant-loop decreases-loop
+loop-again : tie.Need-loop-next-preserved invariant-loop decreases-loop
 loop-again c =
-    let f = c.before.before.before in
-    let q = ap told_module (sym c.before.next.given.1) ∙ f.module-at.ensures in
+    let q = ap told_module (sym c.in-Module.is) ∙ c.module_at.ensures in
     let x = module_next _ _ _ _ q in
-    (count_next _ _ _ _ _ q ∙ f.before.loop.invariant.0, omega (arith, x), omega (arith, x))
+    (count_next _ _ _ _ _ q ∙ c.loop-next.invariant.0, omega (arith, x), omega (arith, x))
 
-returns : tie.Need-returns invariant-loop decreases-loop
+returns : tie.Need-returns-in-None invariant-loop decreases-loop
 returns c =
-    let f = c.before.before in
-    count_end _ _ _ (omega arith) (ap told_module (sym c.enum_told.given.1) ∙ f.module-at.ensures) ∙ f.before.loop.invariant.0
+    count_end _ _ _ (omega arith) (ap told_module (sym c.in-None.is) ∙ c.module_at.ensures) ∙ c.loop-next.invariant.0
 
-returns-2 : tie.Need-returns-2 invariant-loop decreases-loop
+returns-2 : tie.Need-returns-in-Refused invariant-loop decreases-loop
 returns-2 c =
-    let f = c.before.before.before in
-    count_refused _ _ _ (omega arith) _ (ap told_module (sym c.before.why.given.1) ∙ f.module-at.ensures) ∙ f.before.loop.invariant.0
+    count_refused _ _ _ (omega arith) _ (ap told_module (sym c.in-Refused.is) ∙ c.module_at.ensures) ∙ c.loop-next.invariant.0
 
 pub count_modules_spec : {M : Type 1} → statement M
 count_modules_spec =

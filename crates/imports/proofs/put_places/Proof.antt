@@ -12,58 +12,51 @@ use Rattle.imports.specs.ListedLaws.{places_from, store_all, stored_all, places_
 use Rattle.imports.proofs.put_places.Statement.{statement}
 use Rattle.imports.proofs.put_places.Tie as tie
 
-abbrev invariant-loop : tie.invariant-loop
+abbrev invariant-loop : tie.invariant-loop-next
 invariant-loop body start places₀ n₀ at₀ places n at =
     (store_all (places_from start body at) n places ≡ store_all (places_from start body 0) 0 places₀)
     × (n + length (places_from start body at) ≤ length places) × (length places ≡ length places₀) × (at ≤ length body)
 
-abbrev decreases-loop : tie.decreases-loop
+abbrev decreases-loop : tie.decreases-loop-next
 decreases-loop body start places₀ n₀ at₀ places n at = length body - at
 
-add-places : tie.Need-overflow-add-places invariant-loop decreases-loop
+add-places : tie.Need-overflow_add-places invariant-loop decreases-loop
 add-places c = omega arith
 
-cast-places : tie.Need-overflow-cast-places invariant-loop decreases-loop
+cast-places : tie.Need-overflow_cast-places invariant-loop decreases-loop
 cast-places c =
-    let m = c.before in
-    omega (arith, module_next _ _ _ _ (ap told_module (sym m.next.given.1) ∙ m.before.before.module-at.ensures))
+    omega (arith, module_next _ _ _ _ (ap told_module (sym c.in-Module.is) ∙ c.module_at.ensures))
 
-slice-write-places : tie.Need-slice-write-places invariant-loop decreases-loop
+slice-write-places : tie.Need-bounds-places-n invariant-loop decreases-loop
 slice-write-places c =
-    let m = c.before in
-    let a = m.before.before.before.before.before.before.args in
-    omega (arith, ap length (places_next a.start _ _ _ _ (ap told_module (sym m.next.given.1) ∙ m.before.before.module-at.ensures)))
+    let a = c.args in
+    omega (arith, ap length (places_next a.start _ _ _ _ (ap told_module (sym c.in-Module.is) ∙ c.module_at.ensures)))
 
-add-n : tie.Need-overflow-add-n invariant-loop decreases-loop
+add-n : tie.Need-overflow_add-n invariant-loop decreases-loop
 add-n c =
-    let m = c.before in
-    let a = m.before.before.before.before.before.before.args in
-    omega (arith, ap length (places_next a.start _ _ _ _ (ap told_module (sym m.next.given.1) ∙ m.before.before.module-at.ensures)))
+    let a = c.args in
+    omega (arith, ap length (places_next a.start _ _ _ _ (ap told_module (sym c.in-Module.is) ∙ c.module_at.ensures)))
 
-loop-less : tie.Need-loop-smaller invariant-loop decreases-loop
+loop-less : tie.Need-loop-next-smaller invariant-loop decreases-loop
 loop-less c =
-    let m = c.before in
-    omega (arith, module_next _ _ _ _ (ap told_module (sym m.next.given.1) ∙ m.before.before.module-at.ensures))
+    omega (arith, module_next _ _ _ _ (ap told_module (sym c.in-Module.is) ∙ c.module_at.ensures))
 
-loop-again : tie.Need-loop-preserved invariant-loop decreases-loop
+loop-again : tie.Need-loop-next-preserved invariant-loop decreases-loop
 loop-again c =
-    let f = c.before.before.before in
-    let q = ap told_module (sym c.before.next.given.1) ∙ f.module-at.ensures in
-    let l = f.before.loop.invariant in
+    let q = ap told_module (sym c.in-Module.is) ∙ c.module_at.ensures in
+    let l = c.loop-next.invariant in
     let s = places_next _ _ _ _ _ q in
     (store_place _ _ _ _ _ _ _ s ∙ l.0, simp length-set (omega (arith, ap length s)), simp length-set l.2, omega (arith, module_next _ _ _ _ q))
 
-returns : tie.Need-returns invariant-loop decreases-loop
+returns : tie.Need-returns-in-None invariant-loop decreases-loop
 returns c =
-    let f = c.before.before in
-    store_end _ _ _ _ _ (places_end _ _ _ (omega arith) (ap told_module (sym c.enum_told.given.1) ∙ f.module-at.ensures)) ∙ f.before.loop.invariant.0
+    store_end _ _ _ _ _ (places_end _ _ _ (omega arith) (ap told_module (sym c.in-None.is) ∙ c.module_at.ensures)) ∙ c.loop-next.invariant.0
     ∙ stored_all _ _ (omega arith)
 
-returns-2 : tie.Need-returns-2 invariant-loop decreases-loop
+returns-2 : tie.Need-returns-in-Refused invariant-loop decreases-loop
 returns-2 c =
-    let f = c.before.before in
-    store_end _ _ _ _ _ (places_refused _ _ _ (omega arith) _ (ap told_module (sym c.enum-told2.given.1) ∙ f.module-at.ensures))
-    ∙ f.before.loop.invariant.0 ∙ stored_all _ _ (omega arith)
+    store_end _ _ _ _ _ (places_refused _ _ _ (omega arith) _ (ap told_module (sym c.in-Refused.is) ∙ c.module_at.ensures))
+    ∙ c.loop-next.invariant.0 ∙ stored_all _ _ (omega arith)
 
 pub put_places_spec : {M : Type 1} → statement M
 put_places_spec =
@@ -82,8 +75,8 @@ put_places_spec =
     loop-less
     loop-again
     (λ c. search rules)
-    (λ c. c.before.before.before.loop.invariant.2)
+    (λ c. c.loop-next.invariant.2)
     returns
     (λ c. search rules)
-    (λ c. c.before.before.before.loop.invariant.2)
+    (λ c. c.loop-next.invariant.2)
     returns-2)

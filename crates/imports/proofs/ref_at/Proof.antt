@@ -7,17 +7,16 @@ use Rattle.imports.specs.ListedLaws.{at_short, at_cut, at_none, at_word}
 use Rattle.imports.proofs.ref_at.Statement.{statement}
 use Rattle.imports.proofs.ref_at.Tie as tie
 
-returns-2 : tie.Need-returns-2
-returns-2 c = at_cut _ _ _ (omega arith) _ c.before.word_at.ensures (omega arith)
+returns-2 : tie.Need-returns-then-area-words-2
+returns-2 c = at_cut _ _ _ (omega arith) _ c.word_at-count.ensures (omega arith)
 
-returns-3 : tie.Need-returns-3
-returns-3 c = at_none _ _ _ (omega arith) _ c.before.before.word_at.ensures (omega arith) c.if3.true
+returns-3 : tie.Need-returns-then-count-id
+returns-3 c = at_none _ _ _ (omega arith) _ c.word_at-count.ensures (omega arith) c.if-count-id.true
 
-returns-4 : tie.Need-returns-4
+returns-4 : tie.Need-returns
 returns-4 c =
-    let t = c.before.before in
-    at_word _ _ _ (omega arith) _ t.before.before.word_at.ensures (omega arith) _ _ _ refl t.if3.false
-    c.before.word-at2.ensures c.word-at3.ensures
+    at_word _ _ _ (omega arith) _ c.word_at-count.ensures (omega arith) _ _ _ refl c.if-count-id.false
+    c.word_at.ensures c.word_at-2.ensures
 
 pub ref_at_spec : {M : Type 1} → statement M
 ref_at_spec =

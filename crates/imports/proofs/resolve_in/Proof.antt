@@ -4,7 +4,6 @@
 use borrow.Author.Rules.{rules}
 use Prim.Native.Nat.{◌-◌, ◌≤◌}
 use mathlib.Core.Path.{◌≡◌, refl, sym, ap, ◌∙◌}
-use mathlib.Core.Logic.{⊎_elim}
 use native.Mathlib.Omega.{arith}
 use lib.ListN.{length}
 use Rattle.walk.specs.Pick.{on_gave}
@@ -15,51 +14,45 @@ use Rattle.imports.specs.Told.{told_module, told_resolved}
 use Rattle.imports.specs.ImportsLaws.{module_next, Sought, sought_first, sought_hit, sought_miss, sought_end, sought_refused}
 use Rattle.imports.proofs.resolve_in.Statement.{statement}
 use Rattle.imports.proofs.resolve_in.Tie as tie
+use Rattle.imports.proofs.resolve_in.Lts.{then-n-scope, else-n-scope}
 
-abbrev invariant-loop : tie.invariant-loop
+abbrev invariant-loop : tie.invariant-loop-name
 invariant-loop body index scope best₀ n₀ at₀ best n at =
     (Sought body index n (told_resolved best) at ≡ on_gave (ref_of index) (collected (modules body))) × (n ≤ at) × (at ≤ length body)
 
-abbrev decreases-loop : tie.decreases-loop
+abbrev decreases-loop : tie.decreases-loop-name
 decreases-loop body index scope best₀ n₀ at₀ best n at = length body - at
 
-word-of-requires : tie.Need-word-of-requires invariant-loop decreases-loop
+word-of-requires : tie.Need-word_of-best-requires invariant-loop decreases-loop
 word-of-requires c κs =
-    let m = c.before.before in
-    omega (arith, module_next _ _ _ _ (ap told_module (sym m.name.given.1) ∙ m.before.before.module-at.ensures))
+    omega (arith, module_next _ _ _ _ (ap told_module (sym c.in-Module.is) ∙ c.module_at.ensures))
 
-add-n : tie.Need-overflow-add-n invariant-loop decreases-loop
+add-n : tie.Need-overflow_add-n invariant-loop decreases-loop
 add-n c =
-    let m = c.before.before in
-    omega (arith, module_next _ _ _ _ (ap told_module (sym m.name.given.1) ∙ m.before.before.module-at.ensures))
+    omega (arith, module_next _ _ _ _ (ap told_module (sym c.in-Module.is) ∙ c.module_at.ensures))
 
-loop-less : tie.Need-loop-smaller invariant-loop decreases-loop
+loop-less : tie.Need-loop-name-smaller invariant-loop decreases-loop
 loop-less c =
-    let m = c.before.before in
-    omega (arith, module_next _ _ _ _ (ap told_module (sym m.name.given.1) ∙ m.before.before.module-at.ensures))
+    omega (arith, module_next _ _ _ _ (ap told_module (sym c.in-Module.is) ∙ c.module_at.ensures))
 
-loop-again : tie.Need-loop-preserved invariant-loop decreases-loop
+loop-again : tie.Need-loop-name-preserved invariant-loop decreases-loop
 loop-again c =
-    let m = c.before.before in
-    let f = m.before.before in
-    let q = ap told_module (sym m.name.given.1) ∙ f.module-at.ensures in
-    let i = f.before.loop.invariant.0 in
+    let q = ap told_module (sym c.in-Module.is) ∙ c.module_at.ensures in
+    let i = c.loop-name.invariant.0 in
     let x = module_next _ _ _ _ q in
-    ⊎_elim
-    (λ w. (sought_hit _ _ _ _ _ _ _ q _ refl w.0.taken _ (ap told_resolved w.2 ∙ w.1.ensures) ∙ i, omega (arith, x), omega (arith, x)))
-    (λ w. (sought_miss _ _ _ _ _ _ _ q _ refl w.0.left _ (ap told_resolved w.1) ∙ i, omega (arith, x), omega (arith, x)))
-    c.if1.branch
+    elim c.if-n-scope.branch [
+      then-n-scope w ↦ (sought_hit _ _ _ _ _ _ _ q _ refl w.if-n-scope.true _ (ap told_resolved w.best-is ∙ w.word_of-best.ensures) ∙ i, omega (arith, x), omega (arith, x))
+      | else-n-scope w ↦ (sought_miss _ _ _ _ _ _ _ q _ refl w.if-n-scope.false _ (ap told_resolved w.best-is) ∙ i, omega (arith, x), omega (arith, x))
+    ]
 
-returns : tie.Need-returns invariant-loop decreases-loop
+returns : tie.Need-returns-in-None invariant-loop decreases-loop
 returns c =
-    let f = c.before.before.before in
     c.checked.ensures
-    ∙ sought_end _ _ _ _ _ (omega arith) (ap told_module (sym c.before.enum_told.given.1) ∙ f.module-at.ensures) ∙ f.before.loop.invariant.0
+    ∙ sought_end _ _ _ _ _ (omega arith) (ap told_module (sym c.in-None.is) ∙ c.module_at.ensures) ∙ c.loop-name.invariant.0
 
-returns-2 : tie.Need-returns-2 invariant-loop decreases-loop
+returns-2 : tie.Need-returns-in-Refused invariant-loop decreases-loop
 returns-2 c =
-    let f = c.before.before.before in
-    sought_refused _ _ _ _ _ (omega arith) _ (ap told_module (sym c.before.why.given.1) ∙ f.module-at.ensures) ∙ f.before.loop.invariant.0
+    sought_refused _ _ _ _ _ (omega arith) _ (ap told_module (sym c.in-Refused.is) ∙ c.module_at.ensures) ∙ c.loop-name.invariant.0
 
 pub resolve_in_spec : {M : Type 1} → statement M
 resolve_in_spec =

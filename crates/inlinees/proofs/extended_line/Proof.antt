@@ -20,4 +20,4 @@ extended_line_spec =
     (λ c. extra_cut _ _ (omega arith) (omega arith))
     (λ c. search rules)
     (λ c κs. search rules)
-    (λ c. c.Line-of.ensures ∙ extra_whole _ _ (omega arith) (omega arith) _ (search rules)))
+    (λ c. c.line_of.ensures ∙ extra_whole _ _ (omega arith) (omega arith) _ (search rules)))

@@ -16,4 +16,4 @@ line_of_spec =
     (λ c κs. search rules)
     (λ c. search rules)
     (λ c. search rules)
-    (λ c. line_words_lem _ _ _ _ _ _ _ _ c.before.before.u32_at_lem.ensures c.before.u32-at2.ensures c.u32-at3.ensures))
+    (λ c. line_words_lem _ _ _ _ _ _ _ _ c.u32_at.ensures c.u32_at-2.ensures c.u32_at-3.ensures))

@@ -7,15 +7,13 @@ use Rattle.inlinees.specs.SourceLineLaws.{line_unsigned, line_past, line_none, l
 use Rattle.inlinees.proofs.source_line_at.Statement.{statement}
 use Rattle.inlinees.proofs.source_line_at.Tie as tie
 
-returns-5 : tie.Need-returns-5
+returns-5 : tie.Need-returns-then-u32_at-eq1
 returns-5 c =
-    let m = c.before.before.before.before.before.before in
-    c.extended-line.ensures ∙ line_extended _ _ (omega arith) _ m.entry_IsPlace.ensures (omega arith) (λ z. omega arith) (omega arith) (omega arith)
+    c.extended_line.ensures ∙ line_extended _ _ (omega arith) _ c.entry_place-p.ensures (omega arith) (λ z. omega arith) (omega arith) (omega arith)
 
-returns-6 : tie.Need-returns-6
+returns-6 : tie.Need-returns
 returns-6 c =
-    let m = c.before.before.before.before.before.before in
-    c.Line-of.ensures ∙ line_plain _ _ (omega arith) _ m.entry_IsPlace.ensures (omega arith) (λ z. omega arith) (omega arith) (λ z. omega arith)
+    c.line_of.ensures ∙ line_plain _ _ (omega arith) _ c.entry_place-p.ensures (omega arith) (λ z. omega arith) (omega arith) (λ z. omega arith)
 
 pub source_line_at_spec : {M : Type 1} → statement M
 source_line_at_spec =
@@ -23,10 +21,10 @@ source_line_at_spec =
     (tie.spec
     (λ c. line_unsigned _ _ (omega arith))
     (λ c κs. search rules)
-    (λ c. line_past _ _ (omega arith) _ c.before.entry_IsPlace.ensures (omega arith))
+    (λ c. line_past _ _ (omega arith) _ c.entry_place-p.ensures (omega arith))
     (λ c. search rules)
-    (λ c. line_none _ _ (omega arith) _ c.before.before.entry_IsPlace.ensures (omega arith) (omega arith))
-    (λ c. line_short _ _ (omega arith) _ c.before.before.before.entry_IsPlace.ensures (omega arith) (λ z. omega arith) (omega arith))
+    (λ c. line_none _ _ (omega arith) _ c.entry_place-p.ensures (omega arith) (omega arith))
+    (λ c. line_short _ _ (omega arith) _ c.entry_place-p.ensures (omega arith) (λ z. omega arith) (omega arith))
     (λ c κs. search rules)
     (λ c κs. search rules)
     returns-5

@@ -10,32 +10,27 @@ use Rattle.line_record.specs.EndLineLaws.{end_is_start, field_small}
 use Rattle.line_record.proofs.end_line.Statement.{statement}
 use Rattle.line_record.proofs.end_line.Tie as tie
 
-end-from-requires : tie.Need-end-from-requires
+end-from-requires : tie.Need-end_from-requires
 end-from-requires c κs =
-    let s = c.before.before.before in
-    (omega (arith, s.start_line_lem.ensures), omega (arith, c.end-field.ensures, field_small s.before.args.flags))
+    (omega (arith, c.start_line-start.ensures), omega (arith, c.end_field.ensures, field_small c.args.flags))
 
-add-result : tie.Need-overflow-add-result
+add-result : tie.Need-overflow_add-result
 add-result c =
-    let s = c.before.before.before in
-    omega (arith, s.start_line_lem.ensures, c.end-field2.ensures, field_small s.before.args.flags)
+    omega (arith, c.start_line-start.ensures, c.end_field-in-Delta.ensures, field_small c.args.flags)
 
-returns : tie.Need-returns
+returns : tie.Need-returns-in-Crate
 returns c =
-    let s = c.before.before in
-    s.start_line_lem.ensures ∙ sym (end_is_start _) ∙ ap (λ (x : EndLines). end_line x s.before.args.flags) (sym c.enum_told.given.1)
+    c.start_line-start.ensures ∙ sym (end_is_start _) ∙ ap (λ (x : EndLines). end_line x c.args.flags) (sym c.in-Crate.is)
 
-returns-2 : tie.Need-returns-2
+returns-2 : tie.Need-returns-in-LowBits
 returns-2 c =
-    let s = c.before.before.before.before in
-    c.end-from.ensures ∙ (λ i. end_from (s.start_line_lem.ensures i) (c.before.end-field.ensures i))
-    ∙ ap (λ (x : EndLines). end_line x s.before.args.flags) (sym c.before.before.enum-told2.given.1)
+    c.end_from.ensures ∙ (λ i. end_from (c.start_line-start.ensures i) (c.end_field.ensures i))
+    ∙ ap (λ (x : EndLines). end_line x c.args.flags) (sym c.in-LowBits.is)
 
-returns-3 : tie.Need-returns-3
+returns-3 : tie.Need-returns-in-Delta
 returns-3 c =
-    let s = c.before.before.before in
-    (λ i. s.start_line_lem.ensures i + c.end-field2.ensures i)
-    ∙ ap (λ (x : EndLines). end_line x s.before.args.flags) (sym c.before.enum-told3.given.1)
+    (λ i. c.start_line-start.ensures i + c.end_field-in-Delta.ensures i)
+    ∙ ap (λ (x : EndLines). end_line x c.args.flags) (sym c.in-Delta.is)
 
 pub end_line_spec : {M : Type 1} → statement M
 end_line_spec =

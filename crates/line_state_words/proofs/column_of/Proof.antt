@@ -10,5 +10,5 @@ column_of_spec =
     tie.close
     (tie.spec
     (λ c. search rules)
-    (λ c. rw (eq-eqb _ _ c.if1.true))
-    (λ c. rw (ne_eqb _ _ c.if1.false)))
+    (λ c. rw (eq-eqb _ _ c.if-tag-eq0.true))
+    (λ c. rw (ne_eqb _ _ c.if-tag-eq0.false)))

@@ -13,5 +13,5 @@ column_words_spec =
     (tie.spec
     (λ c. search rules)
     (λ c. search rules)
-    (λ c. ap (λ l. option_words (told_column l)) c.enum_told.given.1)
-    (λ c. ap (λ l. option_words (told_column l)) c.before.l.given.1))
+    (λ c. ap (λ l. option_words (told_column l)) c.in-None.is)
+    (λ c. ap (λ l. option_words (told_column l)) c.in-At.is))

@@ -5,7 +5,7 @@ use Rattle.line_state_words.proofs.head_in.Statement.{statement}
 use Rattle.line_state_words.proofs.head_in.Tie as tie
 
 returns : tie.Need-returns
-returns c = λ i. record { offset = c.before.before.before.word32.ensures i; section = c.before.before.word16.ensures i; flags = c.before.word162.ensures i; code = c.word322.ensures i }
+returns c = λ i. record { offset = c.word32.ensures i; section = c.word16.ensures i; flags = c.word16-2.ensures i; code = c.word32-2.ensures i }
 
 pub head_in_spec : {M : Type 1} → statement M
 head_in_spec =

@@ -10,6 +10,6 @@ held_in_spec =
     tie.close
     (tie.spec
     (λ c κs. search rules)
-    (λ c. held_nothing _ _ c.before.state-word.ensures c.if1.true)
+    (λ c. held_nothing _ _ c.state_word.ensures c.if-state_word-eq0.true)
     (λ c κs. search rules)
-    (λ c. held_one _ _ c.before.before.state-word.ensures c.before.if1.false _ c.record-in.ensures))
+    (λ c. held_one _ _ c.state_word.ensures c.if-state_word-eq0.false _ c.record_in.ensures))

@@ -8,7 +8,7 @@ pub how_named_spec : {M : Type 1} → statement M
 how_named_spec =
     tie.close
     (tie.spec
-    (λ c. named_crate _ c.if1.true)
-    (λ c. named_low _ c.before.if1.false c.if2.true)
-    (λ c. named_delta _ c.before.before.if1.false c.before.if2.false c.if3.true)
-    (λ c. named_none _ c.before.before.if1.false c.before.if2.false c.if3.false))
+    (λ c. named_crate _ c.if-n-eq0.true)
+    (λ c. named_low _ c.if-n-eq0.false c.if-n-eq1.true)
+    (λ c. named_delta _ c.if-n-eq0.false c.if-n-eq1.false c.if-n-eq2.true)
+    (λ c. named_none _ c.if-n-eq0.false c.if-n-eq1.false c.if-n-eq2.false))

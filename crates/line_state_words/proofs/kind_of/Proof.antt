@@ -8,5 +8,5 @@ pub kind_of_spec : {M : Type 1} → statement M
 kind_of_spec =
     tie.close
     (tie.spec
-    (λ c. rw (eq-eqb _ _ c.if1.true))
-    (λ c. rw (ne_eqb _ _ c.if1.false)))
+    (λ c. rw (eq-eqb _ _ c.if-tag-eq0.true))
+    (λ c. rw (ne_eqb _ _ c.if-tag-eq0.false)))

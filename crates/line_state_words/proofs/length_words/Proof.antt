@@ -13,5 +13,5 @@ length_words_spec =
     (tie.spec
     (λ c. search rules)
     (λ c. search rules)
-    (λ c. ap (λ l. option_words (told_length l)) c.enum_told.given.1)
-    (λ c. ap (λ l. option_words (told_length l)) c.before.l.given.1))
+    (λ c. ap (λ l. option_words (told_length l)) c.in-Unset.is)
+    (λ c. ap (λ l. option_words (told_length l)) c.in-Is.is))

@@ -8,16 +8,13 @@ use Rattle.line_state_words.specs.LineWordsLaws.{walk_named}
 use Rattle.line_state_words.proofs.line_walk_in.Statement.{statement}
 use Rattle.line_state_words.proofs.line_walk_in.Tie as tie
 
-returns : tie.Need-returns
+returns : tie.Need-returns-in-Is
 returns c =
-    let m = c.before.before in
-    let h = m.before.before in
-    ap some c.walk-by.ensures ∙ walk_named _ _ h.before.state-word.ensures _ (ap told_how (sym m.how.given.1) ∙ h.how-named.ensures)
+    ap some c.walk_by.ensures ∙ walk_named _ _ c.state_word.ensures _ (ap told_how (sym c.in-Is.is) ∙ c.how_named.ensures)
 
-returns-2 : tie.Need-returns-2
+returns-2 : tie.Need-returns-in-NoSuchChoice
 returns-2 c =
-    let h = c.before.before in
-    walk_named h.before.before.before.args.out.now _ h.before.state-word.ensures _ (ap told_how (sym c.enum_told.given.1) ∙ h.how-named.ensures)
+    walk_named c.args.out.now _ c.state_word.ensures _ (ap told_how (sym c.in-NoSuchChoice.is) ∙ c.how_named.ensures)
 
 pub line_walk_in_spec : {M : Type 1} → statement M
 line_walk_in_spec =

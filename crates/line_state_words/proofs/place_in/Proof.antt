@@ -6,9 +6,7 @@ use Rattle.line_state_words.proofs.place_in.Tie as tie
 
 returns : tie.Need-returns
 returns c =
-    let a = c.before.before.before in
-    let b = a.before.before.before.before in
-    λ i. record { head = b.head_in.ensures i; how = b.before.before.args.how; body = a.before.before.before.state-word.ensures i; end = a.before.before.state-word2.ensures i; next = a.before.state-word3.ensures i; file = a.word32.ensures i; lines = c.before.before.state-word4.ensures i; line = c.before.state-word5.ensures i; column = c.state-word6.ensures i }
+    λ i. record { head = c.head_in-head.ensures i; how = c.args.how; body = c.state_word.ensures i; end = c.state_word-2.ensures i; next = c.state_word-3.ensures i; file = c.word32.ensures i; lines = c.state_word-4.ensures i; line = c.state_word-5.ensures i; column = c.state_word-6.ensures i }
 
 pub place_in_spec : {M : Type 1} → statement M
 place_in_spec =

@@ -9,20 +9,20 @@ use Rattle.line_state_words.specs.LineWordsLaws.{walk_length, behind_walk}
 use Rattle.line_state_words.proofs.put_line.Statement.{statement}
 use Rattle.line_state_words.proofs.put_line.Tie as tie
 
-returns : tie.Need-returns
+returns : tie.Need-returns-then-out-lt-STATE_WORDS
 returns c =
-    let a = c.before.before.before.args in
+    let a = c.args in
     gives_short _ _ (omega (arith, length-append (line_walk_words a.w) a.row.now, walk_length a.w))
 
-returns-2 : tie.Need-returns-2
+returns-2 : tie.Need-returns-then-out-row
 returns-2 c =
-    let a = c.before.before.before.before.args in
+    let a = c.args in
     gives_short _ _ (omega (arith, length-append (line_walk_words a.w) a.row.now, walk_length a.w))
 
-returns-3 : tie.Need-returns-3
+returns-3 : tie.Need-returns
 returns-3 c =
-    let a = c.before.before.before.before.before.before.before.before.before.before.before.before.args in
-    behind_walk a.out.now _ _ a.w a.row.now (omega arith) c.before.before.before.before.before.before.put-walk.ensures c.before.before.put-wide.ensures
+    let a = c.args in
+    behind_walk a.out.now _ _ a.w a.row.now (omega arith) c.put_walk.ensures c.put_wide.ensures
 
 pub put_line_spec : {M : Type 1} → statement M
 put_line_spec =

@@ -12,42 +12,35 @@ use Rattle.line_state_words.specs.LineWordsLaws.{rest_length}
 use Rattle.line_state_words.proofs.put_parts.Statement.{statement}
 use Rattle.line_state_words.proofs.put_parts.Tie as tie
 
-returns : tie.Need-returns
+returns : tie.Need-returns-in-New
 returns c =
-    let h = c.before.before.before.before.before in
-    gives_is 1 0 _ c.before.before.put.ensures (omega arith)
-    ∙ ap (λ (x : LineWalk). put h.before.before.before.args.out.now 0 (part_words x)) (sym h.enum_told.given.1)
+    gives_is 1 0 _ c.put.ensures (omega arith)
+    ∙ ap (λ (x : LineWalk). put c.args.out.now 0 (part_words x)) (sym c.in-New.is)
 
-returns-2 : tie.Need-returns-2
+returns-2 : tie.Need-returns-in-Between
 returns-2 c =
-    let h = c.before.before.before.before.before.before.before in
-    let g = h.before.before.before in
-    let o = g.before.before.before.args.out.now in
-    let t = g.w.given.0.1.0 in
-    let q = gives_is 1 rest_size no_place c.before.before.put2.ensures (omega arith) in
-    two_pieces o _ _ 0 rest_size (1 ∷ rest_words t) no_place h.put_rest.ensures q (omega (arith, rest_length 1 t)) (omega (arith, rest_length 1 t))
-    ∙ ap (λ (x : LineWalk). put o 0 (part_words x)) (sym g.w.given.1)
+    let o = c.args.out.now in
+    let t = c.in-Between.t in
+    let q = gives_is 1 rest_size no_place c.put-in-Between.ensures (omega arith) in
+    two_pieces o _ _ 0 rest_size (1 ∷ rest_words t) no_place c.put_rest.ensures q (omega (arith, rest_length 1 t)) (omega (arith, rest_length 1 t))
+    ∙ ap (λ (x : LineWalk). put o 0 (part_words x)) (sym c.in-Between.is)
 
-returns-3 : tie.Need-returns-3
+returns-3 : tie.Need-returns-in-Inside
 returns-3 c =
-    let h = c.before.before.before.before.before.before in
-    let g = h.before.before.before in
-    let o = g.before.before.before.args.out.now in
-    let p = g.w2.given.0.0 in
-    let t = g.w2.given.0.1.0 in
-    two_pieces o _ _ 0 rest_size (2 ∷ rest_words t) (place_words p) h.put-rest2.ensures c.before.before.put-place.ensures (omega (arith, rest_length 2 t)) (omega (arith, rest_length 2 t))
-    ∙ ap (λ (x : LineWalk). put o 0 (part_words x)) (sym g.w2.given.1)
+    let o = c.args.out.now in
+    let p = c.in-Inside.p in
+    let t = c.in-Inside.t in
+    two_pieces o _ _ 0 rest_size (2 ∷ rest_words t) (place_words p) c.put_rest-in-Inside.ensures c.put_place.ensures (omega (arith, rest_length 2 t)) (omega (arith, rest_length 2 t))
+    ∙ ap (λ (x : LineWalk). put o 0 (part_words x)) (sym c.in-Inside.is)
 
 pub put_parts_spec : {M : Type 1} → statement M
 put_parts_spec =
     tie.close
     (tie.spec
     (λ c. search rules)
-    (λ c. search rules)
     (λ c κs. search rules)
     (λ c. search rules)
     (λ c κs. search rules)
-    (λ c. search rules)
     (λ c κs. search rules)
     (λ c. search rules)
     (λ c κs. search rules)

@@ -19,4 +19,4 @@ put_place_spec =
     (λ c. search rules)
     (λ c κs. search rules)
     (λ c. search rules)
-    (λ c. gives_is 1 rest_size _ c.before.before.put.ensures (omega arith)))
+    (λ c. gives_is 1 rest_size _ c.put.ensures (omega arith)))

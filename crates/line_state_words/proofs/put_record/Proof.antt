@@ -9,10 +9,9 @@ use Rattle.line_state_words.proofs.put_record.Tie as tie
 
 returns : tie.Need-returns
 returns c =
-    let k = c.before.before.before.before.before.before.before.before.before.before.before.before.before.before.before.before.before in
-    let a = k.before.before.before.before.before.args in
-    c.before.before.put.ensures.words
-    ∙ ap (store a.out.now a.at) (sym (record_words_lem a.r k.before.before.before.length-words.ensures k.before.before.column_words_lem.ensures k.before.column-words2.ensures k.kind-word.ensures))
+    let a = c.args in
+    c.put.ensures.words
+    ∙ ap (store a.out.now a.at) (sym (record_words_lem a.r c.length_words-l.ensures c.column_words-s.ensures c.column_words-e.ensures c.kind_word-k.ensures))
 
 pub put_record_spec : {M : Type 1} → statement M
 put_record_spec =

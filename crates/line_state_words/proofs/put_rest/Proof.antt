@@ -11,10 +11,9 @@ use Rattle.line_state_words.proofs.put_rest.Tie as tie
 
 returns : tie.Need-returns
 returns c =
-    let h = c.before.before.before.before.before.before in
-    let a = h.before.before.before.before.args in
+    let a = c.args in
     let four = a.tag ∷ a.t.slot ∷ a.t.left ∷ a.t.scan ∷ [] in
-    two_pieces a.out.now _ _ 0 held_at four (held_words a.t.held) (gives_is 1 0 four h.put.ensures (omega arith)) c.before.before.put-held.ensures refl (omega arith)
+    two_pieces a.out.now _ _ 0 held_at four (held_words a.t.held) (gives_is 1 0 four c.put.ensures (omega arith)) c.put_held.ensures refl (omega arith)
 
 pub put_rest_spec : {M : Type 1} → statement M
 put_rest_spec =

@@ -9,10 +9,9 @@ use Rattle.line_state_words.proofs.put_row.Tie as tie
 
 returns : tie.Need-returns
 returns c =
-    let k = c.before.before.before.before.before.before in
-    let a = k.before.before.before.before.before.args in
-    c.before.before.put32.ensures
-    ∙ ap (store a.records.now a.at) (sym (record_words_lem a.r k.before.before.before.length-words.ensures k.before.before.column_words_lem.ensures k.before.column-words2.ensures k.kind-word.ensures))
+    let a = c.args in
+    c.put32.ensures
+    ∙ ap (store a.records.now a.at) (sym (record_words_lem a.r c.length_words-l.ensures c.column_words-s.ensures c.column_words-e.ensures c.kind_word-k.ensures))
 
 pub put_row_spec : {M : Type 1} → statement M
 put_row_spec =

@@ -14,15 +14,11 @@ use Rattle.line_state_words.proofs.put_walk.Tie as tie
 
 returns : tie.Need-returns
 returns c =
-    let p = c.before.before in
-    let x = p.before.before in
-    let q = x.before.before.before.before in
-    let y = q.before.before in
-    let a = y.before.before.args in
+    let a = c.args in
     let o = a.out.now in
-    let e = sym x.how-word.ensures ∙ ap how_word y.walk-how.ensures in
+    let e = sym c.how_word.ensures ∙ ap how_word c.walk_how-how.ensures in
     let l = part_length a.w in
-    two_pieces o _ _ 0 how_at (part_words a.w) (x.how-word.result ∷ []) q.put-parts.ensures (gives_is 1 how_at _ p.put.ensures (omega arith)) (omega arith) (omega arith)
+    two_pieces o _ _ 0 how_at (part_words a.w) (c.how_word.result ∷ []) c.put_parts.ensures (gives_is 1 how_at _ c.put.ensures (omega arith)) (omega arith) (omega arith)
     ∙ ap (λ (n : ℕ). put o 0 (part_words a.w ++ (n ∷ []))) e
 
 pub put_walk_spec : {M : Type 1} → statement M

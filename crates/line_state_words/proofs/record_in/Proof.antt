@@ -8,16 +8,11 @@ use Rattle.line_state_words.proofs.record_in.Tie as tie
 
 returns : tie.Need-returns
 returns c =
-    let b = c.before.before.before.before.before in
-    let k = b.before in
-    let e = k.before.before in
-    let s = e.before.before.before in
-    let l = s.before.before.before in
-    let el = l.length-of.ensures ∙ (λ i. length_of (l.before.before.state-word.ensures i) (l.before.state-word2.ensures i)) in
-    let es = s.column-of.ensures ∙ (λ i. column_of (s.before.before.state-word3.ensures i) (s.before.state-word4.ensures i)) in
-    let ee = e.column-of2.ensures ∙ (λ i. column_of (e.before.before.state-word5.ensures i) (e.before.state-word6.ensures i)) in
-    let ek = k.kind-of.ensures ∙ (λ i. kind_in (k.before.state-word7.ensures i)) in
-    λ i. record { section = b.word16.ensures i; offset = c.before.before.before.before.word32.ensures i; length = el i; file = c.before.before.before.word322.ensures i; start_line = c.before.before.word323.ensures i; end_line = c.before.word324.ensures i; column_start = es i; column_end = ee i; kind = ek i; body = c.word325.ensures i }
+    let el = c.length_of-length.ensures ∙ (λ i. length_of (c.state_word.ensures i) (c.state_word-2.ensures i)) in
+    let es = c.column_of-column_start.ensures ∙ (λ i. column_of (c.state_word-3.ensures i) (c.state_word-4.ensures i)) in
+    let ee = c.column_of-column_end.ensures ∙ (λ i. column_of (c.state_word-5.ensures i) (c.state_word-6.ensures i)) in
+    let ek = c.kind_of-kind.ensures ∙ (λ i. kind_in (c.state_word-7.ensures i)) in
+    λ i. record { section = c.word16.ensures i; offset = c.word32.ensures i; length = el i; file = c.word32-2.ensures i; start_line = c.word32-3.ensures i; end_line = c.word32-4.ensures i; column_start = es i; column_end = ee i; kind = ek i; body = c.word32-5.ensures i }
 
 pub record_in_spec : {M : Type 1} → statement M
 record_in_spec =

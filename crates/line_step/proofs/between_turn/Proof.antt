@@ -12,4 +12,4 @@ between_turn_spec =
     (λ c κs. search rules)
     (λ c. c.finish.ensures ∙ between_end _ _ _ _ _ (omega arith))
     (λ c κs. search rules)
-    (λ c. c.sub-turn.ensures ∙ between_sub _ _ _ _ _ (omega arith)))
+    (λ c. c.sub_turn.ensures ∙ between_sub _ _ _ _ _ (omega arith)))

@@ -6,21 +6,18 @@ use Rattle.line_step.specs.TurnLaws.{block_is}
 use Rattle.line_step.proofs.block_turn.Statement.{statement}
 use Rattle.line_step.proofs.block_turn.Tie as tie
 
-returns : tie.Need-returns
+returns : tie.Need-returns-in-In
 returns c =
-    let m = c.before in
-    block_is _ m.before.before.before.before.args.p _ _ (ap told_next_block (sym m.q.given.1) ∙ m.before.before.next-block.ensures)
+    block_is _ c.args.p _ _ (ap told_next_block (sym c.in-In.is) ∙ c.next_block.ensures)
 
-returns-2 : tie.Need-returns-2
+returns-2 : tie.Need-returns-in-Done
 returns-2 c =
-    let m = c.before in
-    c.end-turn.ensures ∙ block_is _ _ _ _ (ap told_next_block (sym m.enum_told.given.1) ∙ m.before.before.next-block.ensures)
+    c.end_turn.ensures ∙ block_is _ c.args.p _ _ (ap told_next_block (sym c.in-Done.is) ∙ c.next_block.ensures)
 
-returns-3 : tie.Need-returns-3
+returns-3 : tie.Need-returns-in-Refused
 returns-3 c =
-    let m = c.before in
-    let a = m.before.before.before.before.args in
-    block_is _ a.p a.t _ (ap told_next_block (sym m.why.given.1) ∙ m.before.before.next-block.ensures)
+    let a = c.args in
+    block_is _ a.p a.t _ (ap told_next_block (sym c.in-Refused.is) ∙ c.next_block.ensures)
 
 pub block_turn_spec : {M : Type 1} → statement M
 block_turn_spec =

@@ -10,5 +10,5 @@ column_place_spec =
     (tie.spec
     (λ c. search rules)
     (λ c. search rules)
-    (λ c. rw c.if1.true)
+    (λ c. rw c.if-columns.true)
     (λ c. search rules))

@@ -5,14 +5,14 @@ use Rattle.line_step.specs.TurnLaws.{end_nothing, end_large, end_close}
 use Rattle.line_step.proofs.end_body.Statement.{statement}
 use Rattle.line_step.proofs.end_body.Tie as tie
 
-returns : tie.Need-returns
-returns c = end_large _ _ _ c.before.before.before.before.held.given.1 (omega arith)
+returns : tie.Need-returns-then-h
+returns c = end_large _ _ _ c.in-One.is (omega arith)
 
-returns-2 : tie.Need-returns-2
-returns-2 c = end_nothing _ _ c.enum_told.given.1
+returns-2 : tie.Need-returns-in-Nothing
+returns-2 c = end_nothing _ _ c.in-Nothing.is
 
-returns-3 : tie.Need-returns-3
-returns-3 c = end_close _ _ _ c.before.before.before.before.before.before.held.given.1 (omega arith) _ c.closed.ensures
+returns-3 : tie.Need-returns-else-h
+returns-3 c = end_close _ _ _ c.in-One.is (omega arith) _ c.closed.ensures
 
 pub end_body_spec : {M : Type 1} → statement M
 end_body_spec =

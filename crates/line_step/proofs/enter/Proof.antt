@@ -6,8 +6,8 @@ use Rattle.line_step.specs.TurnLaws.{enter_outside, enter_short, enter_in}
 use Rattle.line_step.proofs.enter.Statement.{statement}
 use Rattle.line_step.proofs.enter.Tie as tie
 
-returns-4 : tie.Need-returns-4
-returns-4 c = enter_in _ _ _ _ (omega arith) (omega arith) _ _ _ (add-sub_cancel_left _ _) c.before.header_of.ensures c.place_at.ensures
+returns-4 : tie.Need-returns
+returns-4 c = enter_in _ _ _ _ (omega arith) (omega arith) _ _ _ (add-sub_cancel_left _ _) c.header_of-h.ensures c.place_at.ensures
 
 pub enter_spec : {M : Type 1} → statement M
 enter_spec =

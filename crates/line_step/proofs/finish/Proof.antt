@@ -12,5 +12,5 @@ finish_spec =
     (λ c. search rules)
     (λ c. search rules)
     (λ c κs. search rules)
-    (λ c. rw c.enum_told.given.1)
-    (λ c. finish_one _ _ _ _ _ c.before.before.held.given.1 c.with-held.ensures))
+    (λ c. rw c.in-Nothing.is)
+    (λ c. finish_one _ _ _ _ _ c.in-One.is c.with_held.ensures))

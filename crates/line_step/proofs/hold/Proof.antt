@@ -5,8 +5,8 @@ use Rattle.line_step.specs.TurnLaws.{hold_nothing, hold_one}
 use Rattle.line_step.proofs.hold.Statement.{statement}
 use Rattle.line_step.proofs.hold.Tie as tie
 
-returns-2 : tie.Need-returns-2
-returns-2 c = hold_one _ _ c.before.before.before.before.before.args.t _ _ c.before.before.before.before.with-held.ensures _ _ c.before.before.old.given.1 c.closed.ensures
+returns-2 : tie.Need-returns-in-One
+returns-2 c = hold_one _ _ c.args.t _ _ c.with_held.ensures _ _ c.in-One.is c.closed.ensures
 
 pub hold_spec : {M : Type 1} → statement M
 hold_spec =
@@ -16,5 +16,5 @@ hold_spec =
     (λ c. search rules)
     (λ c. search rules)
     (λ c κs. search rules)
-    (λ c. hold_nothing _ _ c.before.before.before.args.t _ _ c.before.before.with-held.ensures c.enum_told.given.1)
+    (λ c. hold_nothing _ _ c.args.t _ _ c.with_held.ensures c.in-Nothing.is)
     returns-2)

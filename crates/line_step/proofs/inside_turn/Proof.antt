@@ -5,14 +5,14 @@ use Rattle.line_step.specs.TurnLaws.{inside_past, inside_behind, inside_block, i
 use Rattle.line_step.proofs.inside_turn.Statement.{statement}
 use Rattle.line_step.proofs.inside_turn.Tie as tie
 
-slice-aggregate-block-turn : tie.Need-slice-aggregate-block-turn
+slice-aggregate-block-turn : tie.Need-slice_bounds-block_turn-end
 slice-aggregate-block-turn c =
-    let a = c.before.before.before.before.before.before.before.args in
+    let a = c.args in
     sym (length-take-le a.p.end a.area.now (omega arith))
 
-slice-aggregate-line-turn : tie.Need-slice-aggregate-line-turn
+slice-aggregate-line-turn : tie.Need-slice_bounds-line_turn-end
 slice-aggregate-line-turn c =
-    let a = c.before.before.before.before.before.before.before.args in
+    let a = c.args in
     sym (length-take-le a.p.end a.area.now (omega arith))
 
 pub inside_turn_spec : {M : Type 1} → statement M
@@ -23,7 +23,7 @@ inside_turn_spec =
     (λ c. inside_behind _ _ _ (omega arith) (omega arith))
     slice-aggregate-block-turn
     (λ c κs. search rules)
-    (λ c. c.block-turn.ensures ∙ inside_block _ _ _ (omega arith) (omega arith) (omega arith))
+    (λ c. c.block_turn.ensures ∙ inside_block _ _ _ (omega arith) (omega arith) (omega arith))
     slice-aggregate-line-turn
     (λ c κs. search rules)
-    (λ c. c.line-turn.ensures ∙ inside_line _ _ _ (omega arith) (omega arith) (omega arith)))
+    (λ c. c.line_turn.ensures ∙ inside_line _ _ _ (omega arith) (omega arith) (omega arith)))

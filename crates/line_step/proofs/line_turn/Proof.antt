@@ -6,22 +6,20 @@ use Rattle.line_step.specs.TurnLaws.{entry_within, past_lines_are, line_line, li
 use Rattle.line_step.proofs.line_turn.Statement.{statement}
 use Rattle.line_step.proofs.line_turn.Tie as tie
 
-returns : tie.Need-returns
+returns : tie.Need-returns-in-Line
 returns c =
-    let m = c.before.before.before in
-    let e = ap told_line_entry (sym m.r.given.1) ∙ m.before.before.entry_at.ensures in
+    let e = ap told_line_entry (sym c.in-Line.is) ∙ c.entry_at.ensures in
     let i = entry_within _ _ _ e in
-    line_line _ _ _ _ (past_lines_are _ 1 (omega arith) (omega arith) _ c.before.past-lines.ensures) _ _ e c.hold.ensures
+    line_line _ _ _ _ (past_lines_are _ 1 (omega arith) (omega arith) _ c.past_lines.ensures) _ _ e c.hold.ensures
 
-returns-2 : tie.Need-returns-2
+returns-2 : tie.Need-returns-in-Marker
 returns-2 c =
-    let m = c.before in
-    let e = ap told_line_entry (sym m.enum_told.given.1) ∙ m.before.before.entry_at.ensures in
+    let e = ap told_line_entry (sym c.in-Marker.is) ∙ c.entry_at.ensures in
     let i = entry_within _ _ _ e in
-    line_marker _ _ _ _ (past_lines_are _ 1 (omega arith) (omega arith) _ c.past-lines2.ensures) e
+    line_marker _ _ _ _ (past_lines_are _ 1 (omega arith) (omega arith) _ c.past_lines-in-Marker.ensures) e
 
-returns-3 : tie.Need-returns-3
-returns-3 c = line_refused _ _ _ _ (ap told_line_entry (sym c.before.why.given.1) ∙ c.before.before.before.entry_at.ensures)
+returns-3 : tie.Need-returns-in-Refused
+returns-3 c = line_refused _ _ _ _ (ap told_line_entry (sym c.in-Refused.is) ∙ c.entry_at.ensures)
 
 pub line_turn_spec : {M : Type 1} → statement M
 line_turn_spec =

@@ -8,10 +8,10 @@ use Rattle.line_step.specs.Turn.{open_of}
 use Rattle.line_step.proofs.open_turn.Statement.{statement}
 use Rattle.line_step.proofs.open_turn.Tie as tie
 
-returns : tie.Need-returns
+returns : tie.Need-returns-in-Lines
 returns c =
-    let how = c.before.before.before.before.before.before.args.how in
-    ap (λ t. pass (Between how t)) c.fresh-rest.ensures ∙ ap (open_of how) (ap told_counted (sym c.before.before.n.given.1) ∙ c.before.before.before.before.count-lines.ensures)
+    let how = c.args.how in
+    ap (λ t. pass (Between how t)) c.fresh_rest.ensures ∙ ap (open_of how) (ap told_counted (sym c.in-Lines.is) ∙ c.count_lines.ensures)
 
 pub open_turn_spec : {M : Type 1} → statement M
 open_turn_spec =
@@ -22,4 +22,4 @@ open_turn_spec =
     (λ c κs. search rules)
     (λ c. search rules)
     returns
-    (λ c. ap (open_of _) (ap told_counted (sym c.before.why.given.1) ∙ c.before.before.before.count-lines.ensures)))
+    (λ c. ap (open_of _) (ap told_counted (sym c.in-Refused.is) ∙ c.count_lines.ensures)))

@@ -6,7 +6,7 @@ use Rattle.line_step.proofs.past_lines.Statement.{statement}
 use Rattle.line_step.proofs.past_lines.Tie as tie
 
 returns : tie.Need-returns
-returns c = past_lines_in c.before.before.before.before.args.p _ _ _ _ c.before.before.less.ensures c.before.wrapping-add-usize.ensures c.wrapping-add-usize2.ensures
+returns c = past_lines_in c.args.p _ _ _ _ c.less.ensures c.wrapping_add_usize.ensures c.wrapping_add_usize-2.ensures
 
 pub past_lines_spec : {M : Type 1} → statement M
 past_lines_spec =

@@ -6,8 +6,8 @@ use Rattle.line_step.proofs.source_of.Tie as tie
 
 returns : tie.Need-returns
 returns c =
-    let p = c.before.before.before.args.p in
-    λ i. record { section = p.head.section; base = p.head.offset; file = p.file; columns = c.before.has-columns.ensures i; how = p.how; body = p.body % 2 ^ 32 }
+    let p = c.args.p in
+    λ i. record { section = p.head.section; base = p.head.offset; file = p.file; columns = c.has_columns-columns.ensures i; how = p.how; body = p.body % 2 ^ 32 }
 
 pub source_of_spec : {M : Type 1} → statement M
 source_of_spec =

@@ -7,17 +7,13 @@ use Rattle.line_step.specs.TurnLaws.{sub_is, sub_entered, sub_cut}
 use Rattle.line_step.proofs.sub_turn.Statement.{statement}
 use Rattle.line_step.proofs.sub_turn.Tie as tie
 
-returns : tie.Need-returns
+returns : tie.Need-returns-in-In
 returns c =
-    let k = c.before.before.before.before in
-    let m = k.before.before in
-    sub_entered _ _ _ _ _ _ _ (omega (arith, m.before.before.before.before.before.well-formed)) (ap told_named (sym m.start.given.1) ∙ m.before.before.slot-body.ensures) _ _ (ap told_entered (sym c.before.before.p.given.1) ∙ k.enter.ensures) c.behind-body.ensures
+    sub_entered _ _ _ _ _ _ _ (omega (arith, c.well_formed)) (ap told_named (sym c.in-Body.is) ∙ c.slot_body.ensures) _ _ (ap told_entered (sym c.in-In.is) ∙ c.enter.ensures) c.behind_body-u.ensures
 
-returns-2 : tie.Need-returns-2
+returns-2 : tie.Need-returns-in-Refused-enter
 returns-2 c =
-    let k = c.before.before.before in
-    let m = k.before.before in
-    sub_cut _ _ _ _ _ _ _ (omega (arith, m.before.before.before.before.before.well-formed)) (ap told_named (sym m.start.given.1) ∙ m.before.before.slot-body.ensures) _ (ap told_entered (sym c.before.why.given.1) ∙ k.enter.ensures)
+    sub_cut _ _ _ _ _ _ _ (omega (arith, c.well_formed)) (ap told_named (sym c.in-Body.is) ∙ c.slot_body.ensures) _ (ap told_entered (sym c.in-Refused-enter.is) ∙ c.enter.ensures)
 
 pub sub_turn_spec : {M : Type 1} → statement M
 sub_turn_spec =
@@ -32,4 +28,4 @@ sub_turn_spec =
     (λ c. search rules)
     returns
     returns-2
-    (λ c. sub_is _ _ _ _ _ _ (ap told_named (sym c.before.why2.given.1) ∙ c.before.before.before.slot-body.ensures)))
+    (λ c. sub_is _ _ _ _ _ _ (ap told_named (sym c.in-Refused.is) ∙ c.slot_body.ensures)))

@@ -10,37 +10,32 @@ use Rattle.line_walk.specs.NextLaws.{next_is, next_falls}
 use Rattle.line_walk.proofs.next_line.Statement.{statement}
 use Rattle.line_walk.proofs.next_line.Tie as tie
 
-abbrev invariant-loop : tie.invariant-loop
+abbrev invariant-loop : tie.invariant-loop-r
 invariant-loop area slots w₀ w = next_of crate_rule area slots w ≡ next_of crate_rule area slots w₀
 
-abbrev decreases-loop : tie.decreases-loop
+abbrev decreases-loop : tie.decreases-loop-r
 decreases-loop area slots w₀ w = todo crate_rule area w
 
-returns : tie.Need-returns invariant-loop decreases-loop
+returns : tie.Need-returns-in-Line invariant-loop decreases-loop
 returns c =
-    let h = c.before.before.before in
-    next_is _ _ _ _ _ (ap told_turn (sym c.before.r.given.1) ∙ h.take-turn.ensures) ∙ h.before.loop.invariant
+    next_is _ _ _ _ _ (ap told_turn (sym c.in-Line.is) ∙ c.take_turn.ensures) ∙ c.loop-r.invariant
 
-loop-less : tie.Need-loop-smaller invariant-loop decreases-loop
+loop-less : tie.Need-loop-r-smaller invariant-loop decreases-loop
 loop-less c =
-    let h = c.before.before.before in
-    let a = h.before.before.before.before.args in
-    next_falls crate_rule a.area.now a.slots.now h.before.loop.w _ (ap told_turn (sym c.before.t.given.1) ∙ h.take-turn.ensures)
+    let a = c.args in
+    next_falls crate_rule a.area.now a.slots.now c.loop-r.w _ (ap told_turn (sym c.in-Pass.is) ∙ c.take_turn.ensures)
 
-loop-again : tie.Need-loop-preserved invariant-loop decreases-loop
+loop-again : tie.Need-loop-r-preserved invariant-loop decreases-loop
 loop-again c =
-    let h = c.before.before.before in
-    next_is _ _ _ _ _ (ap told_turn (sym c.before.t.given.1) ∙ h.take-turn.ensures) ∙ h.before.loop.invariant
+    next_is _ _ _ _ _ (ap told_turn (sym c.in-Pass.is) ∙ c.take_turn.ensures) ∙ c.loop-r.invariant
 
-returns-2 : tie.Need-returns-2 invariant-loop decreases-loop
+returns-2 : tie.Need-returns-in-Over invariant-loop decreases-loop
 returns-2 c =
-    let h = c.before.before in
-    next_is _ _ _ _ _ (ap told_turn (sym c.enum_told.given.1) ∙ h.take-turn.ensures) ∙ h.before.loop.invariant
+    next_is _ _ _ _ _ (ap told_turn (sym c.in-Over.is) ∙ c.take_turn.ensures) ∙ c.loop-r.invariant
 
-returns-3 : tie.Need-returns-3 invariant-loop decreases-loop
+returns-3 : tie.Need-returns-in-Refused invariant-loop decreases-loop
 returns-3 c =
-    let h = c.before.before.before in
-    next_is _ _ _ _ _ (ap told_turn (sym c.before.why.given.1) ∙ h.take-turn.ensures) ∙ h.before.loop.invariant
+    next_is _ _ _ _ _ (ap told_turn (sym c.in-Refused.is) ∙ c.take_turn.ensures) ∙ c.loop-r.invariant
 
 pub next_line_spec : {M : Type 1} → statement M
 next_line_spec =

@@ -6,15 +6,13 @@ use Rattle.lines.specs.BlocksLaws.{block_past, block_end, block_short, block_sma
 use Rattle.lines.proofs.block_at.Statement.{statement}
 use Rattle.lines.proofs.block_at.Tie as tie
 
-returns-6 : tie.Need-returns-6
+returns-6 : tie.Need-returns-then-size-line_bytes
 returns-6 c =
-    let w = c.before.before.before.before in
-    block_many _ _ _ (omega arith) (omega arith) (omega arith) (omega arith) (omega arith) _ _ w.before.u32-at2.ensures c.before.line_bytes_lem.ensures (omega arith)
+    block_many _ _ _ (omega arith) (omega arith) (omega arith) (omega arith) (omega arith) _ _ c.u32_at-count.ensures c.line_bytes.ensures (omega arith)
 
-returns-7 : tie.Need-returns-7
+returns-7 : tie.Need-returns
 returns-7 c =
-    let w = c.before.before.before.before in
-    block_whole _ _ _ (omega arith) (omega arith) (omega arith) (omega arith) (omega arith) _ _ w.before.u32-at2.ensures c.before.line_bytes_lem.ensures (omega arith) _ _ w.before.before.u32_at_lem.ensures w.u32-at3.ensures
+    block_whole _ _ _ (omega arith) (omega arith) (omega arith) (omega arith) (omega arith) _ _ c.u32_at-count.ensures c.line_bytes.ensures (omega arith) _ _ c.u32_at-file.ensures c.u32_at-size.ensures
 
 pub block_at_spec : {M : Type 1} → statement M
 block_at_spec =

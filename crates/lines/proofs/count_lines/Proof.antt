@@ -14,58 +14,50 @@ use Rattle.lines.specs.LinesLaws.{line_other, line_short, line_more, line_end, l
 use Rattle.lines.proofs.count_lines.Statement.{statement}
 use Rattle.lines.proofs.count_lines.Tie as tie
 
-abbrev invariant-loop : tie.invariant-loop
+abbrev invariant-loop : tie.invariant-loop-kind
 invariant-loop area n₀ p₀ n p = (plus n (count_of (lines_from crate_rule area p)) ≡ count_lines crate_rule area) × (n ≤ p)
 
-abbrev decreases-loop : tie.decreases-loop
+abbrev decreases-loop : tie.decreases-loop-kind
 decreases-loop area n₀ p₀ n p = length area - p
 
-returns : tie.Need-returns invariant-loop decreases-loop
+returns : tie.Need-returns-then-len-lt-LINE_HEAD invariant-loop decreases-loop
 returns c =
-    let m = c.before.before.before in
-    let e = ap told_step (sym m.kind.given.1) ∙ m.before.before.sub_at.ensures in
-    count_refused _ _ _ (line_short _ _ _ _ _ e c.before.if1.true c.if2.true) ∙ m.before.before.before.loop.invariant.0
+    let e = ap told_step (sym c.in-Sub.is) ∙ c.sub_at.ensures in
+    count_refused _ _ _ (line_short _ _ _ _ _ e c.if-kind-eq-LINES.true c.if-len-lt-LINE_HEAD.true) ∙ c.loop-kind.invariant.0
 
-add-n : tie.Need-overflow-add-n invariant-loop decreases-loop
+add-n : tie.Need-overflow_add-n invariant-loop decreases-loop
 add-n c =
-    let m = c.before.before.before in
-    let e = ap told_step (sym m.kind.given.1) ∙ m.before.before.sub_at.ensures in
+    let e = ap told_step (sym c.in-Sub.is) ∙ c.sub_at.ensures in
     omega (arith, sub_next _ _ _ _ _ e)
 
-loop-less : tie.Need-loop-smaller invariant-loop decreases-loop
+loop-less : tie.Need-loop-kind-smaller-else-len-lt-LINE_HEAD invariant-loop decreases-loop
 loop-less c =
-    let m = c.before.before.before in
-    let e = ap told_step (sym m.kind.given.1) ∙ m.before.before.sub_at.ensures in
+    let e = ap told_step (sym c.in-Sub.is) ∙ c.sub_at.ensures in
     omega (arith, sub_next _ _ _ _ _ e)
 
-loop-again : tie.Need-loop-preserved invariant-loop decreases-loop
+loop-again : tie.Need-loop-kind-preserved-else-len-lt-LINE_HEAD invariant-loop decreases-loop
 loop-again c =
-    let m = c.before.before.before in
-    let e = ap told_step (sym m.kind.given.1) ∙ m.before.before.sub_at.ensures in
-    (count_more _ _ _ _ (line_more _ _ _ _ _ e c.before.if1.true c.if2.false) ∙ m.before.before.before.loop.invariant.0, omega (arith, sub_next _ _ _ _ _ e))
+    let e = ap told_step (sym c.in-Sub.is) ∙ c.sub_at.ensures in
+    (count_more _ _ _ _ (line_more _ _ _ _ _ e c.if-kind-eq-LINES.true c.if-len-lt-LINE_HEAD.false) ∙ c.loop-kind.invariant.0, omega (arith, sub_next _ _ _ _ _ e))
 
-loop-less-2 : tie.Need-loop-smaller-2 invariant-loop decreases-loop
+loop-less-2 : tie.Need-loop-kind-smaller invariant-loop decreases-loop
 loop-less-2 c =
-    let m = c.before.before in
-    let e = ap told_step (sym m.kind.given.1) ∙ m.before.before.sub_at.ensures in
+    let e = ap told_step (sym c.in-Sub.is) ∙ c.sub_at.ensures in
     omega (arith, sub_next _ _ _ _ _ e)
 
-loop-again-2 : tie.Need-loop-preserved-2 invariant-loop decreases-loop
+loop-again-2 : tie.Need-loop-kind-preserved invariant-loop decreases-loop
 loop-again-2 c =
-    let m = c.before.before in
-    let l = m.before.before.before.loop in
-    let e = ap told_step (sym m.kind.given.1) ∙ m.before.before.sub_at.ensures in
-    (ap (λ k. plus l.n (count_of k)) (line_other _ _ _ _ _ e c.if1.false) ∙ l.invariant.0, omega (arith, sub_next _ _ _ _ _ e))
+    let l = c.loop-kind in
+    let e = ap told_step (sym c.in-Sub.is) ∙ c.sub_at.ensures in
+    (ap (λ k. plus l.n (count_of k)) (line_other _ _ _ _ _ e c.if-kind-eq-LINES.false) ∙ l.invariant.0, omega (arith, sub_next _ _ _ _ _ e))
 
-returns-2 : tie.Need-returns-2 invariant-loop decreases-loop
+returns-2 : tie.Need-returns-in-None invariant-loop decreases-loop
 returns-2 c =
-    let h = c.before.before in
-    count_end _ _ (line_end _ _ _ (ap told_step (sym c.enum_told.given.1) ∙ h.sub_at.ensures)) ∙ h.before.loop.invariant.0
+    count_end _ _ (line_end _ _ _ (ap told_step (sym c.in-None.is) ∙ c.sub_at.ensures)) ∙ c.loop-kind.invariant.0
 
-returns-3 : tie.Need-returns-3 invariant-loop decreases-loop
+returns-3 : tie.Need-returns-in-Refused invariant-loop decreases-loop
 returns-3 c =
-    let h = c.before.before.before in
-    count_refused _ _ _ (line_refused _ _ _ _ (ap told_step (sym c.before.why.given.1) ∙ h.sub_at.ensures)) ∙ h.before.loop.invariant.0
+    count_refused _ _ _ (line_refused _ _ _ _ (ap told_step (sym c.in-Refused.is) ∙ c.sub_at.ensures)) ∙ c.loop-kind.invariant.0
 
 pub count_lines_spec : {M : Type 1} → statement M
 count_lines_spec =

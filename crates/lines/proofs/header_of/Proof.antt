@@ -6,8 +6,7 @@ use Rattle.lines.proofs.header_of.Tie as tie
 
 returns : tie.Need-returns
 returns c =
-    let q = c.before.before.before in
-    λ i. record { offset = q.u32_at_lem.ensures i; section = c.before.before.u16_at_lem.ensures i; flags = c.before.u16-at2.ensures i; code = c.u32-at2.ensures i }
+    λ i. record { offset = c.u32_at-offset.ensures i; section = c.u16_at-section.ensures i; flags = c.u16_at-flags.ensures i; code = c.u32_at-code.ensures i }
 
 pub header_of_spec : {M : Type 1} → statement M
 header_of_spec =

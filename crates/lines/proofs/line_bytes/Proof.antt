@@ -10,6 +10,6 @@ line_bytes_spec =
     tie.close
     (tie.spec
     (λ c. search rules)
-    (λ c. rw c.if1.true (omega arith))
+    (λ c. rw c.if-columns.true (omega arith))
     (λ c. search rules)
-    (λ c. rw c.if1.false (omega arith)))
+    (λ c. rw c.if-columns.false (omega arith)))

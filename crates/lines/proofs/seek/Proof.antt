@@ -15,51 +15,44 @@ use Rattle.lines.specs.SlotsLaws.{seek_hit, seek_other, seek_miss}
 use Rattle.lines.proofs.seek.Statement.{statement}
 use Rattle.lines.proofs.seek.Tie as tie
 
-abbrev invariant-loop : tie.invariant-loop
+abbrev invariant-loop : tie.invariant-loop-kind
 invariant-loop area from body p₀ p = body_from crate_rule area p body ≡ body_from crate_rule area from body
 
-abbrev decreases-loop : tie.decreases-loop
+abbrev decreases-loop : tie.decreases-loop-kind
 decreases-loop area from body p₀ p = length area - p
 
-returns : tie.Need-returns invariant-loop decreases-loop
+returns : tie.Need-returns-then-kind-eq-LINES invariant-loop decreases-loop
 returns c =
-    let m = c.before.before.before in
-    let e = ap told_step (sym m.kind.given.1) ∙ m.before.before.sub_at.ensures in
-    seek_hit _ _ _ _ _ _ e c.before.if1.true c.if2.true ∙ m.before.before.before.loop.invariant
+    let e = ap told_step (sym c.in-Sub.is) ∙ c.sub_at.ensures in
+    seek_hit _ _ _ _ _ _ e c.if-start-body.true c.if-kind-eq-LINES.true ∙ c.loop-kind.invariant
 
-loop-less : tie.Need-loop-smaller invariant-loop decreases-loop
+loop-less : tie.Need-loop-kind-smaller-else-kind-eq-LINES invariant-loop decreases-loop
 loop-less c =
-    let m = c.before.before.before in
-    let e = ap told_step (sym m.kind.given.1) ∙ m.before.before.sub_at.ensures in
+    let e = ap told_step (sym c.in-Sub.is) ∙ c.sub_at.ensures in
     omega (arith, sub_next _ _ _ _ _ e)
 
-loop-again : tie.Need-loop-preserved invariant-loop decreases-loop
+loop-again : tie.Need-loop-kind-preserved-else-kind-eq-LINES invariant-loop decreases-loop
 loop-again c =
-    let m = c.before.before.before in
-    let e = ap told_step (sym m.kind.given.1) ∙ m.before.before.sub_at.ensures in
-    seek_other _ _ _ _ _ _ e c.before.if1.true c.if2.false ∙ m.before.before.before.loop.invariant
+    let e = ap told_step (sym c.in-Sub.is) ∙ c.sub_at.ensures in
+    seek_other _ _ _ _ _ _ e c.if-start-body.true c.if-kind-eq-LINES.false ∙ c.loop-kind.invariant
 
-loop-less-2 : tie.Need-loop-smaller-2 invariant-loop decreases-loop
+loop-less-2 : tie.Need-loop-kind-smaller invariant-loop decreases-loop
 loop-less-2 c =
-    let m = c.before.before in
-    let e = ap told_step (sym m.kind.given.1) ∙ m.before.before.sub_at.ensures in
+    let e = ap told_step (sym c.in-Sub.is) ∙ c.sub_at.ensures in
     omega (arith, sub_next _ _ _ _ _ e)
 
-loop-again-2 : tie.Need-loop-preserved-2 invariant-loop decreases-loop
+loop-again-2 : tie.Need-loop-kind-preserved invariant-loop decreases-loop
 loop-again-2 c =
-    let m = c.before.before in
-    let e = ap told_step (sym m.kind.given.1) ∙ m.before.before.sub_at.ensures in
-    seek_miss _ _ _ _ _ _ e c.if1.false ∙ m.before.before.before.loop.invariant
+    let e = ap told_step (sym c.in-Sub.is) ∙ c.sub_at.ensures in
+    seek_miss _ _ _ _ _ _ e c.if-start-body.false ∙ c.loop-kind.invariant
 
-returns-2 : tie.Need-returns-2 invariant-loop decreases-loop
+returns-2 : tie.Need-returns-in-None invariant-loop decreases-loop
 returns-2 c =
-    let h = c.before.before in
-    first_end _ _ _ _ (ap told_step (sym c.enum_told.given.1) ∙ h.sub_at.ensures) ∙ h.before.loop.invariant
+    first_end _ _ _ _ (ap told_step (sym c.in-None.is) ∙ c.sub_at.ensures) ∙ c.loop-kind.invariant
 
-returns-3 : tie.Need-returns-3 invariant-loop decreases-loop
+returns-3 : tie.Need-returns-in-Refused invariant-loop decreases-loop
 returns-3 c =
-    let h = c.before.before.before in
-    first_refused _ _ _ _ _ (ap told_step (sym c.before.why.given.1) ∙ h.sub_at.ensures) ∙ h.before.loop.invariant
+    first_refused _ _ _ _ _ (ap told_step (sym c.in-Refused.is) ∙ c.sub_at.ensures) ∙ c.loop-kind.invariant
 
 pub seek_spec : {M : Type 1} → statement M
 seek_spec =

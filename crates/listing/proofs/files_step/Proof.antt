@@ -10,27 +10,22 @@ use Rattle.listing.specs.StepLaws.{stage_none, stage_refuses, file_line_lem}
 use Rattle.listing.proofs.files_step.Statement.{statement}
 use Rattle.listing.proofs.files_step.Tie as tie
 
-returns : tie.Need-returns
+returns : tie.Need-returns-in-File
 returns c =
-    let p = c.before.before.before in
-    let m = p.before.before.before in
-    let n = m.before.before.before in
-    let e = ap told_file (sym m.before.index.given.1) ∙ n.next-file.ensures in
-    let k = n.before.before.before in
-    let bytes : Bytes k.before.args.area.now = λ i. omega (arith, k.shared-slice-known.given i) in
-    file_line_lem _ _ _ _ _ _ _ _ _ _ _ e bytes (omega arith) (omega arith) (omega arith) p.before.before.checksum-bytes.ensures.2 p.put_file_lem.ensures
-    c.Line-of.ensures
+    let e = ap told_file (sym c.in-File.is) ∙ c.next_file.ensures in
+    let bytes : Bytes c.args.area.now = λ i. omega (arith, c.shared_slice_known-1.given i) in
+    file_line_lem _ _ _ _ _ _ _ _ _ _ _ e bytes (omega arith) (omega arith) (omega arith) c.checksum_bytes-bytes.ensures.2 c.put_file-place.ensures
+    c.line_of.ensures
 
-returns-2 : tie.Need-returns-2
+returns-2 : tie.Need-returns-in-None
 returns-2 c =
-    let e = ap told_file (sym c.before.before.before.before.enum_told.given.1) ∙ c.before.before.before.before.before.before.next-file.ensures in
-    stage_none _ _ _ _ _ _ _ e c.before.before.lines_step.ensures
+    let e = ap told_file (sym c.in-None.is) ∙ c.next_file.ensures in
+    stage_none _ _ _ _ _ _ _ e c.lines_step.ensures
 
-returns-3 : tie.Need-returns-3
+returns-3 : tie.Need-returns-in-Refused
 returns-3 c =
-    let m = c.before.before.before.before.before in
-    let e = ap told_file (sym m.before.why.given.1) ∙ m.before.before.before.next-file.ensures in
-    stage_refuses _ _ _ _ _ _ _ _ _ e (omega arith) (short_fits (refused_fits m.before.why.given.0.0)) c.before.before.before.Put-refused.ensures c.line-of2.ensures
+    let e = ap told_file (sym c.in-Refused.is) ∙ c.next_file.ensures in
+    stage_refuses _ _ _ _ _ _ _ _ _ e (omega arith) (short_fits (refused_fits c.in-Refused.why)) c.put_refused.ensures c.line_of-in-Refused.ensures
 
 pub files_step_spec : {M : Type 1} → statement M
 files_step_spec =

@@ -10,14 +10,14 @@ use Rattle.listing.specs.StepLaws.{line_shown_lem, head_long, head_short}
 use Rattle.listing.proofs.head_step.Statement.{statement}
 use Rattle.listing.proofs.head_step.Tie as tie
 
-returns : tie.Need-returns
+returns : tie.Need-returns-then-area-gt-MOST
 returns c =
-    line_shown_lem _ _ _ _ _ _ (omega arith) (short_fits (refused_fits why.TooLong)) c.before.before.before.Put-refused.ensures c.Line-of.ensures
+    line_shown_lem _ _ _ _ _ _ (omega arith) (short_fits (refused_fits why.TooLong)) c.put_refused.ensures c.line_of.ensures
     ∙ ap (line_shown _) (head_long _ (omega arith))
 
-returns-2 : tie.Need-returns-2
+returns-2 : tie.Need-returns
 returns-2 c =
-    line_shown_lem _ _ _ _ _ _ (omega arith) (short_fits (head_fits _ (omega arith))) c.before.before.before.put-head.ensures c.line-of2.ensures
+    line_shown_lem _ _ _ _ _ _ (omega arith) (short_fits (head_fits _ (omega arith))) c.put_head.ensures c.line_of-2.ensures
     ∙ ap (line_shown _) (head_short _ (omega arith))
 
 pub head_step_spec : {M : Type 1} → statement M

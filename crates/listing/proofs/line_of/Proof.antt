@@ -14,5 +14,5 @@ line_of_spec =
     (tie.spec
     (λ c. search rules)
     (λ c. search rules)
-    (λ c. ap (λ (x : Place). line_answer (told_place x) c.before.before.before.args.next) (sym c.before.place.given.1))
-    (λ c. ap (λ (x : Place). line_answer (told_place x) c.before.before.before.args.next) (sym c.before.place2.given.1)))
+    (λ c. ap (λ (x : Place). line_answer (told_place x) c.args.next) (sym c.in-At.is))
+    (λ c. ap (λ (x : Place). line_answer (told_place x) c.args.next) (sym c.in-Refused.is)))

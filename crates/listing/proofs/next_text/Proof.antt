@@ -9,25 +9,21 @@ use Rattle.listing.specs.StepLaws.{step_none, step_is, none_shown}
 use Rattle.listing.proofs.next_text.Statement.{statement}
 use Rattle.listing.proofs.next_text.Tie as tie
 
-returns-2 : tie.Need-returns-2
+returns-2 : tie.Need-returns-in-Head
 returns-2 c =
-    let m = c.before.before.before.before in
-    step_is _ _ _ _ _ (omega arith) c.before.before.head_step.ensures (ap (step_of crate_rule _ _) (sym m.enum_told.given.1))
+    step_is _ _ _ _ _ (omega arith) c.head_step.ensures (ap (step_of crate_rule _ _) (sym c.in-Head.is))
 
-returns-3 : tie.Need-returns-3
+returns-3 : tie.Need-returns-in-Subs
 returns-3 c =
-    let m = c.before.before.before.before in
-    step_is _ _ _ _ _ (omega arith) c.before.before.subs_step_lem.ensures (ap (step_of crate_rule _ _) (sym m.before.walk.given.1))
+    step_is _ _ _ _ _ (omega arith) c.subs_step.ensures (ap (step_of crate_rule _ _) (sym c.in-Subs.is))
 
-returns-4 : tie.Need-returns-4
+returns-4 : tie.Need-returns-in-Files
 returns-4 c =
-    let m = c.before.before.before.before in
-    step_is _ _ _ _ _ (omega arith) c.before.before.files_step_lem.ensures (ap (step_of crate_rule _ _) (sym m.before.walk2.given.1))
+    step_is _ _ _ _ _ (omega arith) c.files_step.ensures (ap (step_of crate_rule _ _) (sym c.in-Files.is))
 
-returns-5 : tie.Need-returns-5
+returns-5 : tie.Need-returns-in-Lines
 returns-5 c =
-    let m = c.before.before.before.before in
-    step_is _ _ _ _ _ (omega arith) c.before.before.lines_step.ensures (ap (step_of crate_rule _ _) (sym m.before.walk3.given.1))
+    step_is _ _ _ _ _ (omega arith) c.lines_step.ensures (ap (step_of crate_rule _ _) (sym c.in-Lines.is))
 
 pub next_text_spec : {M : Type 1} → statement M
 next_text_spec =
@@ -51,4 +47,4 @@ next_text_spec =
     returns-4
     (λ c. search rules)
     returns-5
-    (λ c. step_is _ _ _ _ _ (omega arith) (none_shown _) (ap (step_of crate_rule _ _) (sym c.enum-told2.given.1))))
+    (λ c. step_is _ _ _ _ _ (omega arith) (none_shown _) (ap (step_of crate_rule _ _) (sym c.in-Done.is))))

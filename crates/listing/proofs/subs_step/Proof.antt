@@ -9,22 +9,20 @@ use Rattle.listing.specs.StepLaws.{stage_gives, stage_none, stage_refuses}
 use Rattle.listing.proofs.subs_step.Statement.{statement}
 use Rattle.listing.proofs.subs_step.Tie as tie
 
-returns : tie.Need-returns
+returns : tie.Need-returns-in-Sub
 returns c =
-    let m = c.before.before.before.before.before in
-    let e = ap told_step (sym m.before.kind.given.1) ∙ m.before.before.before.sub_at.ensures in
-    stage_gives _ _ _ _ _ _ _ _ _ _ e (omega arith) (short_fits (sub_fits _ _ (omega arith) (omega arith))) c.before.before.before.put-sub.ensures c.Line-of.ensures
+    let e = ap told_step (sym c.in-Sub.is) ∙ c.sub_at.ensures in
+    stage_gives _ _ _ _ _ _ _ _ _ _ e (omega arith) (short_fits (sub_fits _ _ (omega arith) (omega arith))) c.put_sub.ensures c.line_of.ensures
 
-returns-2 : tie.Need-returns-2
+returns-2 : tie.Need-returns-in-None
 returns-2 c =
-    let e = ap told_step (sym c.before.before.before.before.enum_told.given.1) ∙ c.before.before.before.before.before.before.sub_at.ensures in
-    stage_none _ _ _ _ _ _ _ e c.before.before.files_step_lem.ensures
+    let e = ap told_step (sym c.in-None.is) ∙ c.sub_at.ensures in
+    stage_none _ _ _ _ _ _ _ e c.files_step.ensures
 
-returns-3 : tie.Need-returns-3
+returns-3 : tie.Need-returns-in-Refused
 returns-3 c =
-    let m = c.before.before.before.before.before in
-    let e = ap told_step (sym m.before.why.given.1) ∙ m.before.before.before.sub_at.ensures in
-    stage_refuses _ _ _ _ _ _ _ _ _ e (omega arith) (short_fits (refused_fits m.before.why.given.0.0)) c.before.before.before.Put-refused.ensures c.line-of2.ensures
+    let e = ap told_step (sym c.in-Refused.is) ∙ c.sub_at.ensures in
+    stage_refuses _ _ _ _ _ _ _ _ _ e (omega arith) (short_fits (refused_fits c.in-Refused.why)) c.put_refused.ensures c.line_of-in-Refused.ensures
 
 pub subs_step_spec : {M : Type 1} → statement M
 subs_step_spec =

@@ -17,60 +17,54 @@ use Rattle.many_files.specs.FilesLaws.{Put, put_file_lem, put_ended}
 use Rattle.many_files.proofs.fill.Statement.{statement}
 use Rattle.many_files.proofs.fill.Tie as tie
 
-abbrev invariant-loop : tie.invariant-loop
+abbrev invariant-loop : tie.invariant-loop-n
 invariant-loop area out₀ room n₀ w₀ out n w = Put crate_rule area w₀ out₀ n w out × (room ≡ length out₀ / file_size)
 
-abbrev decreases-loop : tie.decreases-loop
+abbrev decreases-loop : tie.decreases-loop-n
 decreases-loop area out₀ room n₀ w₀ out n w = room - n
 
-loop-holds : tie.Need-loop-init invariant-loop decreases-loop
+loop-holds : tie.Need-loop-n-init invariant-loop decreases-loop
 loop-holds c = (fill_start file_size file_words file_length (file_step crate_rule _) _ _, refl)
 
-add-put32 : tie.Need-overflow-add-put32 invariant-loop decreases-loop
-add-put32 c = let l = c.before.before.before.before.before.before.loop in omega (arith, l.invariant.0.size, l.invariant.1)
+add-put32 : tie.Need-overflow_add-at invariant-loop decreases-loop
+add-put32 c = let l = c.loop-n in omega (arith, l.invariant.0.size, l.invariant.1)
 
-part-put32-end : tie.Need-slice-bounds-put32-end invariant-loop decreases-loop
-part-put32-end c = let l = c.before.before.before.before.before.before.loop in omega (arith, l.invariant.0.size, l.invariant.1)
+part-put32-end : tie.Need-slice_bounds-put32-end invariant-loop decreases-loop
+part-put32-end c = let l = c.loop-n in omega (arith, l.invariant.0.size, l.invariant.1)
 
-cast-t28 : tie.Need-overflow-cast-t28 invariant-loop decreases-loop
+cast-t28 : tie.Need-overflow_cast-start invariant-loop decreases-loop
 cast-t28 c =
-    let m = c.before.before.before in
-    omega (arith, file_leads _ _ _ _ _ (ap told_file (sym m.index.given.1) ∙ m.before.before.next-file.ensures))
+    omega (arith, file_leads _ _ _ _ _ (ap told_file (sym c.in-File.is) ∙ c.next_file.ensures))
 
-cast-t29 : tie.Need-overflow-cast-t29 invariant-loop decreases-loop
+cast-t29 : tie.Need-overflow_cast-len invariant-loop decreases-loop
 cast-t29 c =
-    let m = c.before.before.before in
-    omega (arith, file_leads _ _ _ _ _ (ap told_file (sym m.index.given.1) ∙ m.before.before.next-file.ensures))
+    omega (arith, file_leads _ _ _ _ _ (ap told_file (sym c.in-File.is) ∙ c.next_file.ensures))
 
-add-n : tie.Need-overflow-add-n invariant-loop decreases-loop
+add-n : tie.Need-overflow_add-n invariant-loop decreases-loop
 add-n c = search rules
 
-loop-less : tie.Need-loop-smaller invariant-loop decreases-loop
+loop-less : tie.Need-loop-n-smaller invariant-loop decreases-loop
 loop-less c = omega arith
 
-loop-again : tie.Need-loop-preserved invariant-loop decreases-loop
+loop-again : tie.Need-loop-n-preserved invariant-loop decreases-loop
 loop-again c =
-    let m = c.before.before.before.before.before.before.before in
-    let h = m.before.before in
-    let l = h.before.before.loop in
-    let e = ap told_file (sym m.index.given.1) ∙ h.next-file.ensures in
-    let ws = file_words_lem _ _ _ _ _ c.before.before.before.before.before.number.ensures _ in
-    (put_file_lem crate_rule _ _ _ l.invariant.0 _ _ e (omega arith) ws c.before.before.put32.ensures, l.invariant.1)
+    let l = c.loop-n in
+    let e = ap told_file (sym c.in-File.is) ∙ c.next_file.ensures in
+    let ws = file_words_lem _ _ _ _ _ c.number-k.ensures _ in
+    (put_file_lem crate_rule _ _ _ l.invariant.0 _ _ e (omega arith) ws c.put32.ensures, l.invariant.1)
 
-returns : tie.Need-returns invariant-loop decreases-loop
+returns : tie.Need-returns-in-None invariant-loop decreases-loop
 returns c =
-    let h = c.before.before.before in
-    let e = ap told_file (sym c.before.enum_told.given.1) ∙ h.next-file.ensures in
-    put_ended crate_rule _ _ _ h.before.before.loop.invariant.0 (omega arith) none e tt c.ended.ensures
+    let e = ap told_file (sym c.in-None.is) ∙ c.next_file.ensures in
+    put_ended crate_rule _ _ _ c.loop-n.invariant.0 (omega arith) none e tt c.ended.ensures
 
-returns-2 : tie.Need-returns-2 invariant-loop decreases-loop
+returns-2 : tie.Need-returns-in-Refused invariant-loop decreases-loop
 returns-2 c =
-    let h = c.before.before.before.before in
-    let e = ap told_file (sym c.before.before.why.given.1) ∙ h.next-file.ensures in
-    put_ended crate_rule _ _ _ h.before.before.loop.invariant.0 (omega arith) (refuses _) e tt c.ended2.ensures
+    let e = ap told_file (sym c.in-Refused.is) ∙ c.next_file.ensures in
+    put_ended crate_rule _ _ _ c.loop-n.invariant.0 (omega arith) (refuses _) e tt c.ended-in-Refused.ensures
 
-returns-3 : tie.Need-returns-3 invariant-loop decreases-loop
-returns-3 c = fill_full file_size file_words file_length (file_step crate_rule _) _ _ c.before.loop.invariant.0 (omega arith) (omega arith) (omega arith)
+returns-3 : tie.Need-returns invariant-loop decreases-loop
+returns-3 c = fill_full file_size file_words file_length (file_step crate_rule _) _ _ c.loop-n.invariant.0 (omega arith) (omega arith) (omega arith)
 
 pub fill_spec : {M : Type 1} → statement M
 fill_spec =

@@ -11,10 +11,10 @@ use Rattle.many_files.specs.FileWordsLaws.{file_length}
 use Rattle.many_files.proofs.next_files.Statement.{statement}
 use Rattle.many_files.proofs.next_files.Tie as tie
 
-returns : tie.Need-returns
+returns : tie.Need-returns-then-out-lt-FILE_WORDS
 returns c =
-    let a = c.before.before.before.before.before.args in
-    let q = fill_no_room file_size file_words file_length (file_step crate_rule _) _ a.out.now (omega arith) _ c.before.next-file.ensures in
+    let a = c.args in
+    let q = fill_no_room file_size file_words file_length (file_step crate_rule _) _ a.out.now (omega arith) _ c.next_file.ensures in
     (c.no_room.ensures ∙ q.0, q.1)
 
 pub next_files_spec : {M : Type 1} → statement M

@@ -9,19 +9,17 @@ use Rattle.many_lines.specs.BodiesLaws.{bodies_behind, bodies_at, comes_first}
 use Rattle.many_lines.proofs.bodies_from.Statement.{statement}
 use Rattle.many_lines.proofs.bodies_from.Tie as tie
 
-bodies-on-requires : tie.Need-bodies-on-requires
+bodies-on-requires : tie.Need-bodies_on-requires
 bodies-on-requires c κs =
-    let a = c.before.before.before.before.before.before.before.before.before in
-    let h : StandOf crate_rule _ a.args.slots.now _ _ _ = subst (StandingIs crate_rule _ a.args.slots.now _ _) c.before.before.from.given.1 (c.before.before.before.before.Stand-of.ensures.each a.args.slots.now) in
-    (h.short, omega (arith, h.count, a.requires))
+    let h : StandOf crate_rule _ c.args.slots.now _ _ _ = subst (StandingIs crate_rule _ c.args.slots.now _ _) c.in-At.is (c.stand_of.ensures.each c.args.slots.now) in
+    (h.short, omega (arith, h.count, c.requires))
 
-returns : tie.Need-returns
+returns : tie.Need-returns-in-At
 returns c =
-    let a = c.before.before.before.before.before.before.before.before.before.before.before.before in
-    let h : StandOf crate_rule _ a.args.slots.now _ _ _ = subst (StandingIs crate_rule _ a.args.slots.now _ _) c.before.before.before.before.before.from.given.1 (c.before.before.before.before.before.before.before.Stand-of.ensures.each a.args.slots.now) in
-    bodies_behind crate_rule _ _ _ _ _ _ _ _ h a.requires c.before.before.bodies-on.ensures
+    let h : StandOf crate_rule _ c.args.slots.now _ _ _ = subst (StandingIs crate_rule _ c.args.slots.now _ _) c.in-At.is (c.stand_of.ensures.each c.args.slots.now) in
+    bodies_behind crate_rule _ _ _ _ _ _ _ _ h c.requires c.bodies_on.ensures
 
-returns-2 : tie.Need-returns-2
+returns-2 : tie.Need-returns-in-No
 returns-2 c = bodies_at crate_rule _ _ _ _ _ _ _ _ _ (comes_first crate_rule _ _ _ _ _) c.stuck.ensures
 
 pub bodies_from_spec : {M : Type 1} → statement M

@@ -16,74 +16,70 @@ use Rattle.many_lines.specs.BodiesLaws.{knows_nothing, knows_at, to_go, go_first
 use Rattle.many_lines.proofs.bodies_on.Statement.{statement}
 use Rattle.many_lines.proofs.bodies_on.Tie as tie
 
-abbrev invariant-loop : tie.invariant-loop
+abbrev invariant-loop : tie.invariant-loop-inside
 invariant-loop area slots bodies out₀ n₀ known₀ inside₀ p₀ t₀ out n known inside p t =
     Comes crate_rule area slots n₀ (walk_at inside₀ p₀ t₀) out₀ n (walk_at inside p t) out
     × Knows crate_rule area bodies known t.scan × (n < length out₀ / record_size) × (length area ≤ longest)
 
-abbrev decreases-loop : tie.decreases-loop
+abbrev decreases-loop : tie.decreases-loop-inside
 decreases-loop area slots bodies out₀ n₀ known₀ inside₀ p₀ t₀ out n known inside p t = to_go inside t.left
 
-loop-holds : tie.Need-loop-init invariant-loop decreases-loop
+loop-holds : tie.Need-loop-inside-init invariant-loop decreases-loop
 loop-holds c =
-    let p = c.before.before.before.before.before.before.requires in
+    let p = c.requires in
     (comes_first crate_rule _ _ _ _ _, knows_nothing crate_rule _ _ _, p.1, p.0)
 
-returns : tie.Need-returns invariant-loop decreases-loop
+returns : tie.Need-returns-then-x invariant-loop decreases-loop
 returns c =
-    let k = c.before.before.before.before.before in
-    let l = k.before.before.before.loop in
-    let h = comes_at crate_rule _ _ _ _ _ _ true k.before.before.if1.true l.n l.p l.t l.out l.invariant.0 in
-    let g = comes_body crate_rule _ _ _ _ _ l.n l.out l.p l.t _ _ _ h k.body-on.ensures c.before.with-held.ensures in
-    bodies_stuck crate_rule _ _ _ _ _ _ _ _ (comes_at crate_rule _ _ _ _ _ _ true c.if2.true _ _ _ _ g)
+    let l = c.loop-inside in
+    let h = comes_at crate_rule _ _ _ _ _ _ true c.if-inside.true l.n l.p l.t l.out l.invariant.0 in
+    let g = comes_body crate_rule _ _ _ _ _ l.n l.out l.p l.t _ _ _ h c.body_on-x.ensures c.with_held-t.ensures in
+    bodies_stuck crate_rule _ _ _ _ _ _ _ _ (comes_at crate_rule _ _ _ _ _ _ true c.if-x.true _ _ _ _ g)
 
-loop-less : tie.Need-loop-smaller invariant-loop decreases-loop
+loop-less : tie.Need-loop-inside-smaller-then-inside invariant-loop decreases-loop
 loop-less c =
-    let l = c.before.before.before.before.before.before.before.before.loop in
-    let a : ◌≡◌ {A = ℕ} _ _ = ap (λ (x : Rest). x.left) c.before.with-held.ensures in
-    go_first _ _ _ c.before.before.before.before.before.before.before.if1.true (omega arith)
+    let l = c.loop-inside in
+    let a : ◌≡◌ {A = ℕ} _ _ = ap (λ (x : Rest). x.left) c.with_held-t.ensures in
+    go_first _ _ _ c.if-inside.true (omega arith)
 
-loop-again : tie.Need-loop-preserved invariant-loop decreases-loop
+loop-again : tie.Need-loop-inside-preserved-then-inside invariant-loop decreases-loop
 loop-again c =
-    let k = c.before.before.before.before.before in
-    let l = k.before.before.before.loop in
-    let w = c.before.with-held.ensures in
-    let z = k.body-on.ensures.room c.if2.false in
-    let h = comes_at crate_rule _ _ _ _ _ _ true k.before.before.if1.true l.n l.p l.t l.out l.invariant.0 in
-    let g = comes_body crate_rule _ _ _ _ _ l.n l.out l.p l.t _ _ _ h k.body-on.ensures w in
+    let l = c.loop-inside in
+    let w = c.with_held-t.ensures in
+    let z = c.body_on-x.ensures.room c.if-x.false in
+    let h = comes_at crate_rule _ _ _ _ _ _ true c.if-inside.true l.n l.p l.t l.out l.invariant.0 in
+    let g = comes_body crate_rule _ _ _ _ _ l.n l.out l.p l.t _ _ _ h c.body_on-x.ensures w in
     let s : ◌≡◌ {A = ℕ} _ _ = ap (λ (x : Rest). x.scan) w in
-    (comes_at crate_rule _ _ _ _ _ _ false c.if2.false _ _ _ _ g, knows_at crate_rule _ _ _ _ _ s l.invariant.1, omega (arith, z, l.invariant.0.size), l.invariant.3)
+    (comes_at crate_rule _ _ _ _ _ _ false c.if-x.false _ _ _ _ g, knows_at crate_rule _ _ _ _ _ s l.invariant.1, omega (arith, z, l.invariant.0.size), l.invariant.3)
 
-last-record-requires : tie.Need-last-record-requires invariant-loop decreases-loop
-last-record-requires c κs = let l = c.before.before.before.before.loop in omega (arith, l.invariant.2, l.invariant.0.size)
+last-record-requires : tie.Need-last_record-requires invariant-loop decreases-loop
+last-record-requires c κs = let l = c.loop-inside in omega (arith, l.invariant.2, l.invariant.0.size)
 
-returns-2 : tie.Need-returns-2 invariant-loop decreases-loop
+returns-2 : tie.Need-returns-then-t-eq0 invariant-loop decreases-loop
 returns-2 c =
-    let l = c.before.before.before.before.before.before.before.loop in
-    let h = comes_at crate_rule _ _ _ _ _ _ false c.before.before.before.before.before.before.if1.false l.n l.p l.t l.out l.invariant.0 in
-    bodies_finish crate_rule _ _ _ _ _ l.n l.p.how l.t l.out _ _ h l.invariant.2 l.invariant.3 c.before.before.before.before.if3.true (omega (arith, l.invariant.2, l.invariant.0.size)) c.before.before.last-record.ensures
+    let l = c.loop-inside in
+    let h = comes_at crate_rule _ _ _ _ _ _ false c.if-inside.false l.n l.p l.t l.out l.invariant.0 in
+    bodies_finish crate_rule _ _ _ _ _ l.n l.p.how l.t l.out _ _ h l.invariant.2 l.invariant.3 c.if-t-eq0.true (omega (arith, l.invariant.2, l.invariant.0.size)) c.last_record.ensures
 
-next-body-requires : tie.Need-next-body-requires invariant-loop decreases-loop
-next-body-requires c κs = let l = c.before.before.before.loop in (l.invariant.1, (l.invariant.3, omega (arith, c.if3.false)))
+next-body-requires : tie.Need-next_body-requires invariant-loop decreases-loop
+next-body-requires c κs = let l = c.loop-inside in (l.invariant.1, (l.invariant.3, omega (arith, c.if-t-eq0.false)))
 
-returns-3 : tie.Need-returns-3 invariant-loop decreases-loop
+returns-3 : tie.Need-returns-in_default invariant-loop decreases-loop
 returns-3 c =
-    let l = c.before.before.before.before.before.before.before.loop in
+    let l = c.loop-inside in
     bodies_at crate_rule _ _ _ _ _ _ _ _ _
-    (comes_at crate_rule _ _ _ _ _ _ false c.before.before.before.before.before.before.if1.false l.n l.p l.t l.out l.invariant.0) c.stuck.ensures
+    (comes_at crate_rule _ _ _ _ _ _ false c.if-inside.false l.n l.p l.t l.out l.invariant.0) c.stuck.ensures
 
-loop-less-2 : tie.Need-loop-smaller-2 invariant-loop decreases-loop
+loop-less-2 : tie.Need-loop-inside-smaller invariant-loop decreases-loop
 loop-less-2 c =
-    let k = c.before.before.before in
-    let z = subst (OnwardIs crate_rule _ _ _ _ _) c.before.q.given.1 k.next-body.ensures in
-    go_turn _ _ _ k.before.before.before.if1.false z.2 true
+    let z = subst (OnwardIs crate_rule _ _ _ _ _) c.in-In.is c.next_body.ensures in
+    go_turn _ _ _ c.if-inside.false z.2 true
 
-loop-again-2 : tie.Need-loop-preserved-2 invariant-loop decreases-loop
+loop-again-2 : tie.Need-loop-inside-preserved invariant-loop decreases-loop
 loop-again-2 c =
-    let k = c.before.before.before in
-    let l = k.before.before.before.before.loop in
-    let z = subst (OnwardIs crate_rule _ _ _ _ _) c.before.q.given.1 k.next-body.ensures in
-    let h = comes_at crate_rule _ _ _ _ _ _ false k.before.before.before.if1.false l.n l.p l.t l.out l.invariant.0 in
+    let l = c.loop-inside in
+    let z = subst (OnwardIs crate_rule _ _ _ _ _) c.in-In.is c.next_body.ensures in
+    let h = comes_at crate_rule _ _ _ _ _ _ false c.if-inside.false l.n l.p l.t l.out l.invariant.0 in
     (comes_pass crate_rule _ _ _ _ _ _ _ _ _ h l.invariant.2 z.0, z.1, l.invariant.2, l.invariant.3)
 
 pub bodies_on_spec : {M : Type 1} → statement M

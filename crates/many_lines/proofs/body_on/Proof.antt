@@ -8,16 +8,15 @@ use Rattle.many_lines.specs.BodiesLaws.{passed_stays, passed_stuck, passed_end}
 use Rattle.many_lines.proofs.body_on.Statement.{statement}
 use Rattle.many_lines.proofs.body_on.Tie as tie
 
-returns : tie.Need-returns
-returns c = passed_stuck crate_rule _ _ _ _ _ _ _ c.before.before.before.body-lines.ensures c.if1.true
+returns : tie.Need-returns-then-x
+returns c = passed_stuck crate_rule _ _ _ _ _ _ _ c.body_lines-x.ensures c.if-x.true
 
-returns-2 : tie.Need-returns-2
+returns-2 : tie.Need-returns-in-On
 returns-2 c =
-    let e = c.before.before.before in
-    passed_end crate_rule _ _ _ _ _ _ _ e.before.before.before.before.before.body-lines.ensures e.before.before.if1.false _ (ap told_end_body (sym c.before.closing.given.1) ∙ e.end_Body.ensures)
+    passed_end crate_rule _ _ _ _ _ _ _ c.body_lines-x.ensures c.if-x.false _ (ap told_end_body (sym c.in-On.is) ∙ c.end_body.ensures)
 
-returns-3 : tie.Need-returns-3
-returns-3 c = passed_stays crate_rule _ _ _ _ _ _ _ c.before.before.before.before.before.before.before.body-lines.ensures
+returns-3 : tie.Need-returns-in-Refused
+returns-3 c = passed_stays crate_rule _ _ _ _ _ _ _ c.body_lines-x.ensures
 
 pub body_on_spec : {M : Type 1} → statement M
 body_on_spec =

@@ -7,20 +7,20 @@ use Rattle.many_lines.specs.BodiesLaws.{filled_full, filled_over, filled_on}
 use Rattle.many_lines.proofs.fill.Statement.{statement}
 use Rattle.many_lines.proofs.fill.Tie as tie
 
-returns : tie.Need-returns
-returns c = record { is = filled_over crate_rule _ _ _ _ c.before.before.before.before.before.before.before.before.before.requires _ _ c.before.before.before.bodies_from_lem.ensures c.if1.true }
+returns : tie.Need-returns-then-x
+returns c = record { is = filled_over crate_rule _ _ _ _ c.requires _ _ c.bodies_from-x.ensures c.if-x.true }
 
-returns-2 : tie.Need-returns-2
+returns-2 : tie.Need-returns-then-room-count
 returns-2 c =
-    let p = c.before.before.before.before.before.before.before.before.before.before.requires in
-    let h = c.before.before.before.before.bodies_from_lem.ensures in
+    let p = c.requires in
+    let h = c.bodies_from-x.ensures in
     record { is = filled_full crate_rule _ _ _ _ p _ _ _ (filled_on crate_rule _ _ _ _ p _ _ h) (omega arith) }
 
-returns-3 : tie.Need-returns-3
+returns-3 : tie.Need-returns
 returns-3 c =
-    let p = c.before.before.before.before.before.before.before.before.before.before.before.before.before.before.requires in
-    let h = c.before.before.before.before.before.before.before.before.bodies_from_lem.ensures in
-    record { is = c.before.before.slower.ensures.filled _ (omega (arith, h.size)) p (filled_on crate_rule _ _ _ _ p _ _ h) }
+    let p = c.requires in
+    let h = c.bodies_from-x.ensures in
+    record { is = c.slower.ensures.filled _ (omega (arith, h.size)) p (filled_on crate_rule _ _ _ _ p _ _ h) }
 
 pub fill_spec : {M : Type 1} → statement M
 fill_spec =

@@ -6,11 +6,11 @@ use Rattle.many_lines.specs.BodiesLaws.{last_none, last_one}
 use Rattle.many_lines.proofs.last_record.Statement.{statement}
 use Rattle.many_lines.proofs.last_record.Tie as tie
 
-returns : tie.Need-returns
-returns c = last_none _ _ _ _ c.enum_told.given.1
+returns : tie.Need-returns-in-Nothing
+returns c = last_none _ _ _ _ c.in-Nothing.is
 
-returns-2 : tie.Need-returns-2
-returns-2 c = last_one _ _ c.before.before.before.before.before.before.before.before.before.args.t _ _ _ _ c.before.before.before.before.before.before.held.given.1 c.with-held.ensures c.before.before.before.put_one.ensures
+returns-2 : tie.Need-returns-in-One
+returns-2 c = last_one _ _ c.args.t _ _ _ _ c.in-One.is c.with_held-u.ensures c.put_one.ensures
 
 pub last_record_spec : {M : Type 1} → statement M
 last_record_spec =

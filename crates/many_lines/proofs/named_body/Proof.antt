@@ -12,21 +12,19 @@ use Rattle.many_lines.specs.BodiesLaws.{crate_lines, look_slot, located_as}
 use Rattle.many_lines.proofs.named_body.Statement.{statement}
 use Rattle.many_lines.proofs.named_body.Tie as tie
 
-returns : tie.Need-returns
-returns c = located_as _ _ _ _ _ _ _ _ c.before.before.before.before.requires (slot_missing _ _ _ _ _ (omega arith))
+returns : tie.Need-returns-then-slots-slot
+returns c = located_as _ _ _ _ _ _ _ _ c.requires (slot_missing _ _ _ _ _ (omega arith))
 
-returns-2 : tie.Need-returns-2
+returns-2 : tie.Need-returns-in-At
 returns-2 c =
-    let k = c.before.before.before in
-    let h : Look _ _ _ _ = subst (LookedIs _ _ _) c.before.len.given.1 k.first-look.ensures in
-    located_as crate_rule _ _ _ _ _ _ _ k.before.before.before.before.before.before.requires (look_slot crate_rule crate_lines _ _ _ _ h _ _ (omega arith) refl)
+    let h : Look _ _ _ _ = subst (LookedIs _ _ _) c.in-At.is c.first_look.ensures in
+    located_as crate_rule _ _ _ _ _ _ _ c.requires (look_slot crate_rule crate_lines _ _ _ _ h _ _ (omega arith) refl)
 
-returns-3 : tie.Need-returns-3
+returns-3 : tie.Need-returns-in-No
 returns-3 c =
-    let a = c.before.before.before.before.before.before.before.before.before in
     record {
-      named = located_right crate_rule _ _ _ _ _ _ a.requires.so c.find-body.result c.find-body.ensures;
-      known = λ x q. record { so = located_known crate_rule _ _ _ _ _ _ a.requires.so c.find-body.result c.find-body.ensures x q };
+      named = located_right crate_rule _ _ _ _ _ _ c.requires.so c.find_body.result c.find_body.ensures;
+      known = λ x q. record { so = located_known crate_rule _ _ _ _ _ _ c.requires.so c.find_body.result c.find_body.ensures x q };
     }
 
 pub named_body_spec : {M : Type 1} → statement M
@@ -36,7 +34,7 @@ named_body_spec =
     returns
     (λ c. search rules)
     (λ c. search rules)
-    (λ c. Fits-32_64 (c.shared-slice-known4.given _))
+    (λ c. Fits-32_64 (c.shared_slice_known-4-1.given _))
     (λ c κs. search rules)
     (λ c. search rules)
     (λ c. search rules)

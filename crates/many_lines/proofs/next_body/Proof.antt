@@ -12,20 +12,17 @@ use Rattle.many_lines.specs.BodiesLaws.{knows_at, pass_in, in_less, in_scan}
 use Rattle.many_lines.proofs.next_body.Statement.{statement}
 use Rattle.many_lines.proofs.next_body.Tie as tie
 
-returns : tie.Need-returns
+returns : tie.Need-returns-in-In
 returns c =
-    let k = c.before.before.before.before in
-    let m = k.before.before in
-    let a = m.before.before.before.before.before.before in
-    let l = m.before.before.named-body.ensures in
-    let e = ap told_named (sym m.named.given.1) ∙ l.named in
-    let eq = ap told_entered (sym c.before.before.p.given.1) ∙ k.enter.ensures in
-    let f = a.requires.1 in
-    let z : a.args.t.left ≡ 0 → ⊥ = λ y. omega arith in
-    let g : length a.args.slots.now < 2 ^ 64 = omega (arith, a.well-formed) in (
-      pass_in crate_rule _ _ _ _ f.0 z g _ _ e _ eq _ c.behind-body.ensures,
-      knows_at crate_rule _ _ _ _ _ (in_scan crate_rule _ _ _ _ f.0 z g _ _ e _ eq _ c.behind-body.ensures) (l.known _ (ap told_named (sym m.named.given.1))),
-      in_less crate_rule _ _ _ _ f.0 z g _ _ e _ eq _ c.behind-body.ensures,
+    let l = c.named_body-found.ensures in
+    let e = ap told_named (sym c.in-Body.is) ∙ l.named in
+    let eq = ap told_entered (sym c.in-In.is) ∙ c.enter.ensures in
+    let f = c.requires.1 in
+    let z : c.args.t.left ≡ 0 → ⊥ = λ y. omega arith in
+    let g : length c.args.slots.now < 2 ^ 64 = omega (arith, c.well_formed) in (
+      pass_in crate_rule _ _ _ _ f.0 z g _ _ e _ eq _ c.behind_body-u.ensures,
+      knows_at crate_rule _ _ _ _ _ (in_scan crate_rule _ _ _ _ f.0 z g _ _ e _ eq _ c.behind_body-u.ensures) (l.known _ (ap told_named (sym c.in-Body.is))),
+      in_less crate_rule _ _ _ _ f.0 z g _ _ e _ eq _ c.behind_body-u.ensures,
     )
 
 pub next_body_spec : {M : Type 1} → statement M

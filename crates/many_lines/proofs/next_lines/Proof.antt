@@ -8,8 +8,8 @@ use Rattle.many_lines.specs.BodiesLaws.{lines_short}
 use Rattle.many_lines.proofs.next_lines.Statement.{statement}
 use Rattle.many_lines.proofs.next_lines.Tie as tie
 
-returns : tie.Need-returns
-returns c = lines_short crate_rule _ _ _ _ (omega arith) _ _ _ c.no_room.result c.before.before.fill.ensures refl c.no_room.ensures
+returns : tie.Need-returns-then-out-lt-RECORD_WORDS
+returns c = lines_short crate_rule _ _ _ _ (omega arith) _ _ _ c.no_room.result c.fill.ensures refl c.no_room.ensures
 
 pub next_lines_spec : {M : Type 1} → statement M
 next_lines_spec =
@@ -21,4 +21,4 @@ next_lines_spec =
     returns
     (λ c κs. search rules)
     (λ c. search rules)
-    (λ c. c.before.before.fill2.ensures.is))
+    (λ c. c.fill-2.ensures.is))

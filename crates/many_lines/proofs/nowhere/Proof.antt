@@ -13,7 +13,6 @@ pub nowhere_spec : {M : Type 1} → statement M
 nowhere_spec =
     tie.close
     (tie.spec
-    (λ c. search rules)
     (λ c κs. search rules)
     (λ c κs. search rules)
     returns)

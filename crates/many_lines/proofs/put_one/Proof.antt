@@ -8,7 +8,7 @@ use Rattle.many_lines.proofs.put_one.Statement.{statement}
 use Rattle.many_lines.proofs.put_one.Tie as tie
 
 returns : tie.Need-returns
-returns c = put_part _ _ _ _ record_size (record_length c.before.before.before.before.before.args.r) c.before.before.before.before.before.requires c.before.before.put-row.ensures
+returns c = put_part _ _ _ _ record_size (record_length c.args.r) c.requires c.put_row.ensures
 
 pub put_one_spec : {M : Type 1} → statement M
 put_one_spec =

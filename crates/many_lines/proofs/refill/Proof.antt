@@ -8,7 +8,7 @@ use Rattle.many_lines.proofs.refill.Statement.{statement}
 use Rattle.many_lines.proofs.refill.Tie as tie
 
 returns : tie.Need-returns
-returns c = refilled crate_rule _ _ _ _ c.before.before.before.before.before.before.before.before.before.before.before.before.requires _ _ _ _ c.before.before.before.before.before.before.bodies_from_lem.ensures c.before.before.turns.ensures
+returns c = refilled crate_rule _ _ _ _ c.requires _ _ _ _ c.bodies_from-from.ensures c.turns-x.ensures
 
 pub refill_spec : {M : Type 1} → statement M
 refill_spec = tie.close (tie.spec (λ c κs. search rules) (λ c κs. search rules) (λ c. search rules) returns)

@@ -9,34 +9,34 @@ use Rattle.many_lines.specs.BodiesLaws.{take_fits, answers_none, answers_exact, 
 use Rattle.many_lines.proofs.slower.Statement.{statement}
 use Rattle.many_lines.proofs.slower.Tie as tie
 
-returns : tie.Need-returns
-returns c = answers_none crate_rule _ _ _ _ _ _ _ _ c.before.before.before.before.turns.ensures c.before.if1.true _ c.told.ensures
+returns : tie.Need-returns-then-n-eq0
+returns c = answers_none crate_rule _ _ _ _ _ _ _ _ c.turns-x.ensures c.if-n-eq0.true _ c.told.ensures
 
-returns-2 : tie.Need-returns-2
-returns-2 c = answers_exact crate_rule _ _ _ _ _ _ _ _ c.before.before.before.before.turns.ensures c.before.if1.false c.if2.true
+returns-2 : tie.Need-returns-then-x
+returns-2 c = answers_exact crate_rule _ _ _ _ _ _ _ _ c.turns-x.ensures c.if-n-eq0.false c.if-x.true
 
-mul-refill : tie.Need-overflow-mul-refill
+mul-refill : tie.Need-overflow_mul-n
 mul-refill c =
-    let h = c.before.before.before.before.turns.ensures in
-    omega (arith, h.inexact c.if2.false, h.size)
+    let h = c.turns-x.ensures in
+    omega (arith, h.inexact c.if-x.false, h.size)
 
-slice-relend-prefix-refill : tie.Need-slice-relend-prefix-refill
+slice-relend-prefix-refill : tie.Need-slice_bounds-refill-end
 slice-relend-prefix-refill c =
-    let h = c.before.before.before.before.turns.ensures in
-    omega (arith, h.inexact c.if2.false, h.size)
+    let h = c.turns-x.ensures in
+    omega (arith, h.inexact c.if-x.false, h.size)
 
-slice-aggregate-refill : tie.Need-slice-aggregate-refill
+slice-aggregate-refill : tie.Need-slice_bounds-refill-end-2
 slice-aggregate-refill c =
-    let h = c.before.before.before.before.before.turns.ensures in
-    sym (length-take-le _ _ (omega (arith, h.inexact c.before.if2.false, h.size)))
+    let h = c.turns-x.ensures in
+    sym (length-take-le _ _ (omega (arith, h.inexact c.if-x.false, h.size)))
 
-refill-requires : tie.Need-refill-requires
+refill-requires : tie.Need-refill-next-requires
 refill-requires c κs =
-    let h = c.before.before.before.before.before.turns.ensures in
-    take_fits _ _ c.before.before.if1.false (omega (arith, h.inexact c.before.if2.false, h.size))
+    let h = c.turns-x.ensures in
+    take_fits _ _ c.if-n-eq0.false (omega (arith, h.inexact c.if-x.false, h.size))
 
-returns-3 : tie.Need-returns-3
-returns-3 c = answers_again crate_rule _ _ _ _ _ _ _ _ c.before.before.before.before.before.before.before.before.turns.ensures c.before.before.before.before.before.if1.false c.before.before.before.before.if2.false _ _ c.before.before.refill.ensures
+returns-3 : tie.Need-returns
+returns-3 c = answers_again crate_rule _ _ _ _ _ _ _ _ c.turns-x.ensures c.if-n-eq0.false c.if-x.false _ _ c.refill-next.ensures
 
 pub slower_spec : {M : Type 1} → statement M
 slower_spec =

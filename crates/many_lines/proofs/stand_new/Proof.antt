@@ -8,10 +8,9 @@ use Rattle.many_lines.specs.BodiesLaws.{stand_new_lem}
 use Rattle.many_lines.proofs.stand_new.Statement.{statement}
 use Rattle.many_lines.proofs.stand_new.Tie as tie
 
-returns : tie.Need-returns
+returns : tie.Need-returns-in-Lines
 returns c =
-    let k = c.before.before.before in
-    record { each = λ v. stand_new_lem crate_rule _ v _ _ _ _ _ c.nowhere.ensures (ap told_counted (sym k.left.given.1) ∙ k.before.before.count-lines.ensures) c.before.fresh-rest.ensures }
+    record { each = λ v. stand_new_lem crate_rule _ v _ _ _ _ _ c.nowhere-place.ensures (ap told_counted (sym c.in-Lines.is) ∙ c.count_lines.ensures) c.fresh_rest-rest.ensures }
 
 pub stand_new_spec : {M : Type 1} → statement M
 stand_new_spec =

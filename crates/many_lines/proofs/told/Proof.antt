@@ -13,5 +13,5 @@ told_spec =
     (tie.spec
     (λ c. search rules)
     (λ c. search rules)
-    (λ c. ap (λ x. counted (no_room (told_end x))) (sym c.enum_told.given.1))
-    (λ c. ap (λ x. counted (no_room (told_end x))) (sym c.before.end.given.1)))
+    (λ c. ap (λ x. counted (no_room (told_end x))) (sym c.in-None.is))
+    (λ c. ap (λ x. counted (no_room (told_end x))) (sym c.in-Refused.is)))

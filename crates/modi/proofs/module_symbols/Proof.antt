@@ -16,5 +16,5 @@ module_symbols_spec =
     (λ c. symbols_none _ _ (omega arith) (omega arith) (omega arith))
     (λ c. symbols_short _ _ (omega arith) (omega arith) (omega arith) (omega arith))
     (λ c κs. search rules)
-    (λ c. symbols_yes _ _ (omega arith) (omega arith) (omega arith) (omega arith) _ c.before.u32_at_lem.ensures c.if5.true)
-    (λ c. symbols_other _ _ (omega arith) (omega arith) (omega arith) (omega arith) _ c.before.u32_at_lem.ensures c.if5.false))
+    (λ c. symbols_yes _ _ (omega arith) (omega arith) (omega arith) (omega arith) _ c.u32_at.ensures c.if-u32_at-eq-CV_SIGNATURE_C13.true)
+    (λ c. symbols_other _ _ (omega arith) (omega arith) (omega arith) (omega arith) _ c.u32_at.ensures c.if-u32_at-eq-CV_SIGNATURE_C13.false))

@@ -11,6 +11,6 @@ part_of_spec =
     (λ c. search rules)
     (λ c. search rules)
     (λ c. search rules)
-    (λ c. rw c.before.area.given.1)
+    (λ c. rw c.in-At.is)
     (λ c. search rules)
-    (λ c. rw c.before.area2.given.1))
+    (λ c. rw c.in-Refused.is))

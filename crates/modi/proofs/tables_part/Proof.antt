@@ -12,4 +12,4 @@ tables_part_spec =
     (tie.spec
     (λ c κs. search rules)
     (λ c κs. search rules)
-    (λ c. c.part_of.ensures ∙ tables_of_lem _ _ _ c.before.module-area.ensures))
+    (λ c. c.part_of.ensures ∙ tables_of_lem _ _ _ c.module_area.ensures))

@@ -7,20 +7,16 @@ use Rattle.order.specs.OrderLaws.{order_refused, order_all}
 use Rattle.order.proofs.order_list.Statement.{statement}
 use Rattle.order.proofs.order_list.Tie as tie
 
-returns : tie.Need-returns
+returns : tie.Need-returns-in-Lines
 returns c =
-    let m = c.before.before.before.before.before in
-    let b = m.before.before.before.before in
-    let a = b.before.before.before.before.args in
-    let e = ap told_counted (sym m.n.given.1) ∙ b.body-list.ensures.0 in
-    order_all _ _ a.slots.now _ b.body-list.ensures.1 _ e _ c.before.before.sort-first.ensures
+    let a = c.args in
+    let e = ap told_counted (sym c.in-Lines.is) ∙ c.body_list.ensures.0 in
+    order_all _ _ a.slots.now _ c.body_list.ensures.1 _ e _ c.sort_first.ensures
 
-returns-2 : tie.Need-returns-2
+returns-2 : tie.Need-returns-in-Refused
 returns-2 c =
-    let m = c.before in
-    let b = m.before.before.before.before in
-    let a = b.before.before.before.before.args in
-    order_refused _ _ a.slots.now _ b.body-list.ensures.1 _ (ap told_counted (sym m.why.given.1) ∙ b.body-list.ensures.0)
+    let a = c.args in
+    order_refused _ _ a.slots.now _ c.body_list.ensures.1 _ (ap told_counted (sym c.in-Refused.is) ∙ c.body_list.ensures.0)
 
 pub order_list_spec : {M : Type 1} → statement M
 order_list_spec =

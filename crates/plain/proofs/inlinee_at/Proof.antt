@@ -6,32 +6,32 @@ use Rattle.plain.specs.RecordLaws.{inlinee_short, inlinee_bare, inlinee_low, inl
 use Rattle.plain.proofs.inlinee_at.Statement.{statement}
 use Rattle.plain.proofs.inlinee_at.Tie as tie
 
-returns-2 : tie.Need-returns-2
+returns-2 : tie.Need-returns-then-left-lt16
 returns-2 c =
-    let a = c.before.before.before.before.args in
-    inlinee_low a.extended a.body.now a.i (omega arith) (omega arith) c.before.if2.true (omega arith)
+    let a = c.args in
+    inlinee_low a.extended a.body.now a.i (omega arith) (omega arith) c.if-extended.true (omega arith)
 
-returns-3 : tie.Need-returns-3
+returns-3 : tie.Need-returns-then-left-n
 returns-3 c =
-    let a = c.before.before.before.before.before.before.args in
-    inlinee_cut a.extended a.body.now a.i (omega arith) (omega arith) c.before.before.before.if2.true (omega arith) _ c.before.u32_at_lem.ensures c.if4.true
+    let a = c.args in
+    inlinee_cut a.extended a.body.now a.i (omega arith) (omega arith) c.if-extended.true (omega arith) _ c.u32_at-n.ensures c.if-left-n.true
 
-returns-4 : tie.Need-returns-4
+returns-4 : tie.Need-returns-then-extended
 returns-4 c =
-    let a = c.before.before.before.before.before.before.args in
-    inlinee_goes a.extended a.body.now a.i (omega arith) (omega arith) c.before.before.before.if2.true (omega arith) _ c.before.u32_at_lem.ensures c.if4.false
+    let a = c.args in
+    inlinee_goes a.extended a.body.now a.i (omega arith) (omega arith) c.if-extended.true (omega arith) _ c.u32_at-n.ensures c.if-left-n.false
 
-returns-5 : tie.Need-returns-5
+returns-5 : tie.Need-returns
 returns-5 c =
-    let a = c.before.before.before.args in
-    inlinee_bare a.extended a.body.now a.i (omega arith) (omega arith) c.if2.false
+    let a = c.args in
+    inlinee_bare a.extended a.body.now a.i (omega arith) (omega arith) c.if-extended.false
 
 pub inlinee_at_spec : {M : Type 1} → statement M
 inlinee_at_spec =
     tie.close
     (tie.spec
     (λ c. search rules)
-    (λ c. inlinee_short c.before.before.args.extended c.before.before.args.body.now c.before.before.args.i (omega arith) (omega arith))
+    (λ c. inlinee_short c.args.extended c.args.body.now c.args.i (omega arith) (omega arith))
     returns-2
     (λ c. search rules)
     (λ c κs. search rules)

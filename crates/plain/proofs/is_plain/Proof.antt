@@ -12,43 +12,40 @@ use Rattle.plain.specs.PlainLaws.{Scanned, plain_long, plain_first, plain_end, p
 use Rattle.plain.proofs.is_plain.Statement.{statement}
 use Rattle.plain.proofs.is_plain.Tie as tie
 
-abbrev invariant-loop : tie.invariant-loop
+abbrev invariant-loop : tie.invariant-loop-at
 invariant-loop area at₀ header₀ kind₀ mark₀ at header kind mark = (at ≤ length area) × Scanned area at (record { header = header; kind = kind; mark = mark })
 
-abbrev decreases-loop : tie.decreases-loop
+abbrev decreases-loop : tie.decreases-loop-at
 decreases-loop area at₀ header₀ kind₀ mark₀ at header kind mark = length area - at
 
-returns-2 : tie.Need-returns-2 invariant-loop decreases-loop
+returns-2 : tie.Need-returns-then-left-lt8 invariant-loop decreases-loop
 returns-2 c =
-    let l = c.before.before.loop in
-    plain_short _ l.at _ l.invariant.1 (omega arith) c.if2.true
+    let l = c.loop-at in
+    plain_short _ l.at _ l.invariant.1 (omega arith) c.if-left-lt8.true
 
-returns-3 : tie.Need-returns-3 invariant-loop decreases-loop
+returns-3 : tie.Need-returns-then-left-n invariant-loop decreases-loop
 returns-3 c =
-    let u = c.before in
-    let l = u.before.before.before.before.loop in
-    plain_cut _ l.at _ l.invariant.1 (omega arith) (omega arith) _ _ u.before.u32_at_lem.ensures u.u32-at2.ensures c.if3.true
+    let l = c.loop-at in
+    plain_cut _ l.at _ l.invariant.1 (omega arith) (omega arith) _ _ c.u32_at-k.ensures c.u32_at-n.ensures c.if-left-n.true
 
-returns-4 : tie.Need-returns-4 invariant-loop decreases-loop
+returns-4 : tie.Need-returns-in_default invariant-loop decreases-loop
 returns-4 c =
-    let u = c.before.before.before.before.before in
-    let l = u.before.before.before.before.loop in
-    plain_bad _ l.at _ l.invariant.1 (omega arith) (omega arith) _ _ u.before.u32_at_lem.ensures u.u32-at2.ensures c.before.before.before.before.if3.false
-    _ _ (add-sub_cancel_left _ _) c.before.before.mark_of.ensures (ap told_mark c.enum_told.given.1)
+    let l = c.loop-at in
+    plain_bad _ l.at _ l.invariant.1 (omega arith) (omega arith) _ _ c.u32_at-k.ensures c.u32_at-n.ensures c.if-left-n.false
+    _ _ (add-sub_cancel_left _ _) c.mark_of.ensures (ap told_mark c.in_default.is)
 
-loop-again : tie.Need-loop-preserved invariant-loop decreases-loop
+loop-again : tie.Need-loop-at-preserved invariant-loop decreases-loop
 loop-again c =
-    let u = c.before.before.before.before.before.before in
-    let l = u.before.before.before.before.loop in (
+    let l = c.loop-at in (
       omega arith,
-      plain_next _ l.at _ l.invariant.1 (omega arith) (omega arith) _ _ u.before.u32_at_lem.ensures u.u32-at2.ensures c.before.before.before.before.before.if3.false
-          _ _ (add-sub_cancel_left _ _) c.before.before.before.mark_of.ensures _ (ap told_mark c.before.m.given.1),
+      plain_next _ l.at _ l.invariant.1 (omega arith) (omega arith) _ _ c.u32_at-k.ensures c.u32_at-n.ensures c.if-left-n.false
+          _ _ (add-sub_cancel_left _ _) c.mark_of.ensures _ (ap told_mark c.in-Fine.is),
     )
 
-returns-5 : tie.Need-returns-5 invariant-loop decreases-loop
+returns-5 : tie.Need-returns invariant-loop decreases-loop
 returns-5 c =
-    let l = c.before.loop in
-    plain_end _ l.at _ l.invariant.1 c.loop-test.false
+    let l = c.loop-at in
+    plain_end _ l.at _ l.invariant.1 c.loop-at-test.false
 
 pub is_plain_spec : {M : Type 1} → statement M
 is_plain_spec =
@@ -56,8 +53,8 @@ is_plain_spec =
     (tie.spec
     invariant-loop
     decreases-loop
-    (λ c. plain_long _ c.if1.true)
-    (λ c. (omega arith, plain_first _ c.if1.false))
+    (λ c. plain_long _ c.if-area-gt-LONGEST.true)
+    (λ c. (omega arith, plain_first _ c.if-area-gt-LONGEST.false))
     (λ c. search rules)
     returns-2
     (λ c κs. search rules)

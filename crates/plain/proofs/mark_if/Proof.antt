@@ -10,5 +10,5 @@ pub mark_if_spec : {M : Type 1} → statement M
 mark_if_spec =
     tie.close
     (tie.spec
-    (λ c. ap (λ (t : Bool). marked t c.before.args.mark) (sym c.if1.true))
-    (λ c. ap (λ (t : Bool). marked t c.before.args.mark) (sym c.if1.false)))
+    (λ c. ap (λ (t : Bool). marked t c.args.mark) (sym c.if-fine.true))
+    (λ c. ap (λ (t : Bool). marked t c.args.mark) (sym c.if-fine.false)))

@@ -9,26 +9,24 @@ use Rattle.plain.specs.ScanLaws.{wholly_of, scans}
 use Rattle.plain.proofs.whole.Statement.{statement}
 use Rattle.plain.proofs.whole.Tie as tie
 
-abbrev invariant-loop : tie.invariant-loop
+abbrev invariant-loop : tie.invariant-loop-i
 invariant-loop body records i₀ i = (i ≤ length body) × (wholly_of records (drop i body) ≡ wholly_of records body)
 
-abbrev decreases-loop : tie.decreases-loop
+abbrev decreases-loop : tie.decreases-loop-i
 decreases-loop body records i₀ i = length body - i
 
-returns : tie.Need-returns invariant-loop decreases-loop
+returns : tie.Need-returns-then-n-eq0 invariant-loop decreases-loop
 returns c =
-    let l = c.before.before.before in
-    let a = l.before.before.args in
-    (scans a.records a.body.now l.loop.i).stuck _ c.before.before.loop-test.true c.before.record-at.ensures c.if1.true ∙ l.loop.invariant.1
+    let a = c.args in
+    (scans a.records a.body.now c.loop-i.i).stuck _ c.loop-i-test.true c.record_at-n.ensures c.if-n-eq0.true ∙ c.loop-i.invariant.1
 
-loop-again : tie.Need-loop-preserved invariant-loop decreases-loop
+loop-again : tie.Need-loop-i-preserved invariant-loop decreases-loop
 loop-again c =
-    let l = c.before.before.before in
-    let a = l.before.before.args in
-    let e = c.before.record-at.ensures in
-    let w = scans a.records a.body.now l.loop.i in
+    let a = c.args in
+    let e = c.record_at-n.ensures in
+    let w = scans a.records a.body.now c.loop-i.i in
     let h = w.inside _ e in
-    (omega arith, w.next _ e c.if1.false ∙ l.loop.invariant.1)
+    (omega arith, w.next _ e c.if-n-eq0.false ∙ c.loop-i.invariant.1)
 
 pub whole_spec : {M : Type 1} → statement M
 whole_spec =
@@ -39,7 +37,7 @@ whole_spec =
     (λ c. (omega arith, refl))
     (λ c κs. search rules)
     returns
-    (λ c. omega (arith, (scans c.before.before.before.before.before.args.records c.before.before.before.before.before.args.body.now c.before.before.before.loop.i).inside _ c.before.record-at.ensures))
-    (λ c. omega (arith, (scans c.before.before.before.before.before.args.records c.before.before.before.before.before.args.body.now c.before.before.before.loop.i).inside _ c.before.record-at.ensures))
+    (λ c. omega (arith, (scans c.args.records c.args.body.now c.loop-i.i).inside _ c.record_at-n.ensures))
+    (λ c. omega (arith, (scans c.args.records c.args.body.now c.loop-i.i).inside _ c.record_at-n.ensures))
     loop-again
-    (λ c. (scans c.before.before.before.args.records c.before.before.before.args.body.now c.before.loop.i).end c.loop-test.false ∙ c.before.loop.invariant.1))
+    (λ c. (scans c.args.records c.args.body.now c.loop-i.i).end c.loop-i-test.false ∙ c.loop-i.invariant.1))

@@ -9,25 +9,16 @@ use Rattle.printed.proofs.file_pieces.Tie as tie
 returns : tie.Need-returns
 unfolding ascii
 returns c =
-    let p5 = c.before.before in
-    let p4 = p5.before.before.before.before.before in
-    let p3 = p4.before.before.before.before in
-    let p2 = p3.before.before.before.before.before in
-    let p1 = p2.before.before.before.before.before in
-    and_one _ _ _ _ _ (and_one _ _ _ _ _ (and_one _ _ _ _ _ (and_all _ _ _ _ _ p1.put_count.ensures p2.put-count2.ensures) p3.put-bytes.ensures) p4.put_word.ensures) p5.put-bytes2.ensures
+    and_one _ _ _ _ _ (and_one _ _ _ _ _ (and_one _ _ _ _ _ (and_all _ _ _ _ _ c.put_count-a.ensures c.put_count-b.ensures) c.put_bytes-c.ensures) c.put_word-d.ensures) c.put_bytes.ensures
 
 pub file_pieces_spec : {M : Type 1} → statement M
 file_pieces_spec =
     tie.close
     (tie.spec
-    (λ c. search rules)
-    (λ c κs. search rules)
-    (λ c. search rules)
-    (λ c κs. search rules)
-    (λ c. search rules)
     (λ c κs. search rules)
     (λ c κs. search rules)
-    (λ c. search rules)
+    (λ c κs. search rules)
+    (λ c κs. search rules)
     (λ c κs. search rules)
     (λ c. search rules)
     returns)

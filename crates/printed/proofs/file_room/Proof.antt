@@ -10,14 +10,13 @@ use Rattle.text.specs.PageLaws.{room_less}
 use Rattle.printed.proofs.file_room.Statement.{statement}
 use Rattle.printed.proofs.file_room.Tie as tie
 
-returns : tie.Need-returns
+returns : tie.Need-returns-then-len-text
 returns c = c.room.ensures ∙ room_less _ _ _ _ (omega arith) (omega arith)
 
-returns-2 : tie.Need-returns-2
+returns-2 : tie.Need-returns
 returns-2 c =
-    let t = c.before.before in
-    let a = t.before.args in
-    c.room2.ensures ∙ ap (λ (k : ℕ). room_at a.len (a.head + (k + 1)) (told_place a.place)) t.text_size_lem.ensures
+    let a = c.args in
+    c.room-2.ensures ∙ ap (λ (k : ℕ). room_at a.len (a.head + (k + 1)) (told_place a.place)) c.text_size-text.ensures
 
 pub file_room_spec : {M : Type 1} → statement M
 file_room_spec =

@@ -8,15 +8,13 @@ use Rattle.printed.proofs.head_pieces.Tie as tie
 
 returns : tie.Need-returns
 unfolding ascii
-returns c = and_one _ _ _ _ _ c.before.before.before.before.before.before.before.put_count.ensures c.before.before.put-bytes.ensures
+returns c = and_one _ _ _ _ _ c.put_count-p.ensures c.put_bytes.ensures
 
 pub head_pieces_spec : {M : Type 1} → statement M
 head_pieces_spec =
     tie.close
     (tie.spec
-    (λ c. search rules)
     (λ c κs. search rules)
-    (λ c. search rules)
     (λ c κs. search rules)
     (λ c. search rules)
     returns)

@@ -10,13 +10,9 @@ use Rattle.printed.proofs.put_address.Tie as tie
 returns : tie.Need-returns
 unfolding ascii
 returns c =
-    let p5 = c.before.before in
-    let p4 = p5.before.before.before.before in
-    let p3 = p4.before.before.before.before.before in
-    let p2 = p3.before.before.before.before.before in
-    let p1 = p2.before.before.before.before.before in (
-      and_one _ _ _ _ _ (and_one _ _ _ _ _ (and_one _ _ _ _ _ (and_one _ _ _ _ _ p1.put_count.ensures p2.put-bytes.ensures) p3.put-hex.ensures) p4.put-bytes2.ensures) p5.put_length_lem.ensures.0,
-      (omega arith, omega arith, p5.put_length_lem.ensures.1),
+    (
+      and_one _ _ _ _ _ (and_one _ _ _ _ _ (and_one _ _ _ _ _ (and_one _ _ _ _ _ c.put_count-a.ensures c.put_bytes-b.ensures) c.put_hex-c.ensures) c.put_bytes-d.ensures) c.put_length.ensures.0,
+      (omega arith, omega arith, c.put_length.ensures.1),
     )
 
 pub put_address_spec : {M : Type 1} → statement M
@@ -24,13 +20,10 @@ put_address_spec =
     tie.close
     (tie.spec
     (λ c. search rules)
-    (λ c. search rules)
+    (λ c κs. search rules)
     (λ c κs. search rules)
     (λ c. search rules)
     (λ c κs. search rules)
-    (λ c. search rules)
-    (λ c κs. search rules)
-    (λ c. search rules)
     (λ c κs. search rules)
     (λ c κs. search rules)
     (λ c. search rules)

@@ -12,4 +12,4 @@ put_count_spec =
     (λ c κs. search rules)
     (λ c κs. search rules)
     (λ c. search rules)
-    (λ c. and_one _ _ _ _ _ (just _ _ _ c.before.before.before.before.before.before.put-bytes.ensures) c.before.before.put-decimal.ensures))
+    (λ c. and_one _ _ _ _ _ (just _ _ _ c.put_bytes-p.ensures) c.put_decimal.ensures))

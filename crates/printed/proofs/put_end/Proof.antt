@@ -7,13 +7,12 @@ use Rattle.printed.proofs.put_end.Tie as tie
 
 returns : tie.Need-returns
 unfolding ascii
-returns c = c.before.before.put-bytes.ensures
+returns c = c.put_bytes.ensures
 
 pub put_end_spec : {M : Type 1} → statement M
 put_end_spec =
     tie.close
     (tie.spec
-    (λ c. search rules)
     (λ c κs. search rules)
     (λ c. search rules)
     returns)

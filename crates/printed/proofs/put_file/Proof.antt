@@ -14,45 +14,34 @@ use Rattle.printed.specs.PrintedLaws.{file_head_fits, made_is, made_within, made
 use Rattle.printed.proofs.put_file.Statement.{statement}
 use Rattle.printed.proofs.put_file.Tie as tie
 
-array-share-prefix-line : tie.Need-array-share-prefix-line
+array-share-prefix-line : tie.Need-slice_bounds-line-end
 array-share-prefix-line c =
-    let m = c.before.before in
-    let o = m.before.before.before in
-    let a = o.before.before.before.before.args in
-    made_within _ _ _ (file_head_fits a.at a.name (told_kind a.kind) (omega arith) (omega arith)) o.file-pieces.ensures _ (ap told_place m.n.given.1)
+    let a = c.args in
+    made_within _ _ _ (file_head_fits a.at a.name (told_kind a.kind) (omega arith) (omega arith)) c.file_pieces.ensures _ (ap told_place c.in-At.is)
 
-slice-aggregate-put-around : tie.Need-slice-aggregate-put-around
+slice-aggregate-put-around : tie.Need-slice_bounds-put_around-end
 slice-aggregate-put-around c =
-    let m = c.before.before.before in
-    let o = m.before.before.before in
-    let a = o.before.before.before.before.args in
-    sym (length-take-le _ _ (made_within _ _ _ (file_head_fits a.at a.name (told_kind a.kind) (omega arith) (omega arith)) o.file-pieces.ensures _ (ap told_place m.n.given.1)))
+    let a = c.args in
+    sym (length-take-le _ _ (made_within _ _ _ (file_head_fits a.at a.name (told_kind a.kind) (omega arith) (omega arith)) c.file_pieces.ensures _ (ap told_place c.in-At.is)))
 
-put-around-requires : tie.Need-put-around-requires
+put-around-requires : tie.Need-put_around-requires
 put-around-requires c κs =
-    let m = c.before.before.before in
-    let o = m.before.before.before in
-    let a = o.before.before.before.before.args in
+    let a = c.args in
     let f = file_head_fits a.at a.name (told_kind a.kind) (omega arith) (omega arith) in
-    let l = made_line _ _ _ f o.file-pieces.ensures _ (ap told_place m.n.given.1) in
+    let l = made_line _ _ _ f c.file_pieces.ensures _ (ap told_place c.in-At.is) in
     omega (arith, ap length l)
 
-returns : tie.Need-returns
+returns : tie.Need-returns-in-At
 returns c =
-    let p = c.before.before in
-    let m = p.before.before.before.before in
-    let o = m.before.before.before in
-    let a = o.before.before.before.before.args in
-    let l = made_line _ _ _ (file_head_fits a.at a.name (told_kind a.kind) (omega arith) (omega arith)) o.file-pieces.ensures _ (ap told_place m.n.given.1) in
-    p.put-around.ensures ∙ ap (λ (xs : List ℕ). piece_written xs (page a.buf.now (told_place a.place))) (file_parts a.at a.name (told_kind a.kind) _ a.bytes.now l)
+    let a = c.args in
+    let l = made_line _ _ _ (file_head_fits a.at a.name (told_kind a.kind) (omega arith) (omega arith)) c.file_pieces.ensures _ (ap told_place c.in-At.is) in
+    c.put_around.ensures ∙ ap (λ (xs : List ℕ). piece_written xs (page a.buf.now (told_place a.place))) (file_parts a.at a.name (told_kind a.kind) _ a.bytes.now l)
 
-returns-2 : tie.Need-returns-2
+returns-2 : tie.Need-returns-in-Refused
 returns-2 c =
-    let m = c.before in
-    let o = m.before.before.before in
-    let a = o.before.before.before.before.args in
-    let k = (made_is _ _ _ (file_head_fits a.at a.name (told_kind a.kind) (omega arith) (omega arith)) o.file-pieces.ensures).0 in
-    let e = ap told_place m.why.given.1 in
+    let a = c.args in
+    let k = (made_is _ _ _ (file_head_fits a.at a.name (told_kind a.kind) (omega arith) (omega arith)) c.file_pieces.ensures).0 in
+    let e = ap told_place c.in-Refused.is in
     let z : ◌≡◌ {A = ℕ} 0 1 = cc in
     absurd (omega arith)
 

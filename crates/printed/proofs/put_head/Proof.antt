@@ -6,14 +6,12 @@ use Rattle.printed.specs.PrintedLaws.{head_fits, made_within, line_put}
 use Rattle.printed.proofs.put_head.Statement.{statement}
 use Rattle.printed.proofs.put_head.Tie as tie
 
-put-line-requires : tie.Need-put-line-requires
-put-line-requires c κs = let m = c.before.before.before in made_within _ _ _ (head_fits _ (omega arith)) m.head-pieces.ensures
+put-line-requires : tie.Need-put_line-requires
+put-line-requires c κs = made_within _ _ _ (head_fits _ (omega arith)) c.head_pieces-made.ensures
 
 returns : tie.Need-returns
 returns c =
-    let l = c.before.before in
-    let m = l.before.before.before.before in
-    line_put _ _ _ (head_fits _ (omega arith)) m.head-pieces.ensures _ _ l.put-line.ensures
+    line_put _ _ _ (head_fits _ (omega arith)) c.head_pieces-made.ensures _ _ c.put_line.ensures
 
 pub put_head_spec : {M : Type 1} → statement M
 put_head_spec =

@@ -10,22 +10,20 @@ use Rattle.printed.specs.LineText.{kind_text}
 use Rattle.printed.proofs.put_kind.Statement.{statement}
 use Rattle.printed.proofs.put_kind.Tie as tie
 
-returns : tie.Need-returns
+returns : tie.Need-returns-in-Statement
 unfolding ascii
-returns c = same_text _ _ _ _ c.before.before.put-bytes.ensures (ap (λ (k : LineKind). kind_text (told_line_kind k)) (sym c.before.before.before.before.before.enum_told.given.1))
+returns c = same_text _ _ _ _ c.put_bytes.ensures (ap (λ (k : LineKind). kind_text (told_line_kind k)) (sym c.in-Statement.is))
 
-returns-2 : tie.Need-returns-2
+returns-2 : tie.Need-returns-in-Expression
 unfolding ascii
-returns-2 c = same_text _ _ _ _ c.before.before.put-bytes2.ensures (ap (λ (k : LineKind). kind_text (told_line_kind k)) (sym c.before.before.before.before.before.enum-told2.given.1))
+returns-2 c = same_text _ _ _ _ c.put_bytes-in-Expression.ensures (ap (λ (k : LineKind). kind_text (told_line_kind k)) (sym c.in-Expression.is))
 
 pub put_kind_spec : {M : Type 1} → statement M
 put_kind_spec =
     tie.close
     (tie.spec
     (λ c. search rules)
-    (λ c. search rules)
     (λ c κs. search rules)
-    (λ c. search rules)
     (λ c. search rules)
     (λ c κs. search rules)
     (λ c. search rules)

@@ -12,22 +12,21 @@ use Rattle.printed.specs.LineText.{length_text}
 use Rattle.printed.proofs.put_length.Statement.{statement}
 use Rattle.printed.proofs.put_length.Tie as tie
 
-returns : tie.Need-returns
+returns : tie.Need-returns-in-Unset
 unfolding ascii
 returns c =
-    let e = sym c.before.before.before.before.before.enum_told.given.1 in
-    (same_text _ _ _ _ c.before.before.put-bytes.ensures (ap (λ (k : Length). length_text (told_length k)) e), subst ShortLength e tt)
+    let e = sym c.in-Unset.is in
+    (same_text _ _ _ _ c.put_bytes.ensures (ap (λ (k : Length). length_text (told_length k)) e), subst ShortLength e tt)
 
-returns-2 : tie.Need-returns-2
+returns-2 : tie.Need-returns-in-Is
 returns-2 c =
-    let e = sym c.before.before.before.before.before.length.given.1 in
-    (same_text _ _ _ _ c.before.before.put-decimal.ensures (ap (λ (k : Length). length_text (told_length k)) e), subst ShortLength e (omega arith))
+    let e = sym c.in-Is.is in
+    (same_text _ _ _ _ c.put_decimal.ensures (ap (λ (k : Length). length_text (told_length k)) e), subst ShortLength e (omega arith))
 
 pub put_length_spec : {M : Type 1} → statement M
 put_length_spec =
     tie.close
     (tie.spec
-    (λ c. search rules)
     (λ c. search rules)
     (λ c κs. search rules)
     (λ c. search rules)

@@ -11,23 +11,20 @@ use Rattle.text.specs.Told.{told_place}
 use Rattle.printed.proofs.put_line.Statement.{statement}
 use Rattle.printed.proofs.put_line.Tie as tie
 
-slice-aggregate-put-bytes : tie.Need-slice-aggregate-put-bytes
+slice-aggregate-put-bytes : tie.Need-slice_bounds-put_bytes-end
 slice-aggregate-put-bytes c =
-    let m = c.before.before.before in
-    sym (length-take-le _ _ (m.before.before.before.before.requires _ (ap told_place m.made.given.1)))
+    sym (length-take-le _ _ (c.requires _ (ap told_place c.in-At.is)))
 
-returns : tie.Need-returns
+returns : tie.Need-returns-in-At
 returns c n h =
-    let p = c.before.before in
-    let m = p.before.before.before.before in
-    let a = m.before.before.before.before.args in
-    let e = ap told_place m.made.given.1 in
-    let k : m.made.given.0.0 ≡ n = cc in
-    p.put-bytes.ensures ∙ ap (λ (j : ℕ). piece_written (take j a.line.now) (page a.buf.now (told_place a.place))) k
+    let a = c.args in
+    let e = ap told_place c.in-At.is in
+    let k : c.in-At.n ≡ n = cc in
+    c.put_bytes.ensures ∙ ap (λ (j : ℕ). piece_written (take j a.line.now) (page a.buf.now (told_place a.place))) k
 
-returns-2 : tie.Need-returns-2
+returns-2 : tie.Need-returns-in-Refused
 returns-2 c n h =
-    let e = ap told_place c.before.made2.given.1 in
+    let e = ap told_place c.in-Refused.is in
     let z : ◌≡◌ {A = ℕ} 0 1 = cc in
     absurd (omega arith)
 

@@ -10,11 +10,9 @@ use Rattle.printed.proofs.put_origin.Tie as tie
 returns : tie.Need-returns
 unfolding ascii
 returns c =
-    let p3 = c.before.before in
-    let p2 = p3.before.before.before.before.before in
-    let p1 = p2.before.before.before.before.before.before in (
-      and_one _ _ _ _ _ (and_all _ _ _ _ _ (just _ _ _ p1.put-kind.ensures) p2.put_count.ensures) p3.put-bytes.ensures,
-      omega (arith, p2.before.struct_known.given),
+    (
+      and_one _ _ _ _ _ (and_all _ _ _ _ _ (just _ _ _ c.put_kind-k.ensures) c.put_count-p.ensures) c.put_bytes.ensures,
+      omega (arith, c.struct_known-1.given),
     )
 
 pub put_origin_spec : {M : Type 1} → statement M
@@ -23,9 +21,7 @@ put_origin_spec =
     (tie.spec
     (λ c κs. search rules)
     (λ c. search rules)
-    (λ c. search rules)
     (λ c κs. search rules)
-    (λ c. search rules)
     (λ c κs. search rules)
     (λ c. search rules)
     returns)

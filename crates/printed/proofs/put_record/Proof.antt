@@ -6,14 +6,12 @@ use Rattle.printed.specs.PrintedLaws.{made_within, line_put}
 use Rattle.printed.proofs.put_record.Statement.{statement}
 use Rattle.printed.proofs.put_record.Tie as tie
 
-put-line-requires : tie.Need-put-line-requires
-put-line-requires c κs = let m = c.before.before.before in made_within _ _ _ m.record-pieces.ensures.1 m.record-pieces.ensures.0
+put-line-requires : tie.Need-put_line-requires
+put-line-requires c κs = made_within _ _ _ c.record_pieces-made.ensures.1 c.record_pieces-made.ensures.0
 
 returns : tie.Need-returns
 returns c =
-    let l = c.before.before in
-    let m = l.before.before.before.before in
-    (line_put _ _ _ m.record-pieces.ensures.1 m.record-pieces.ensures.0 _ _ l.put-line.ensures, omega (arith, m.record-pieces.ensures.1))
+    (line_put _ _ _ c.record_pieces-made.ensures.1 c.record_pieces-made.ensures.0 _ _ c.put_line.ensures, omega (arith, c.record_pieces-made.ensures.1))
 
 pub put_record_spec : {M : Type 1} → statement M
 put_record_spec =

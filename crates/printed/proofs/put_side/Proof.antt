@@ -12,22 +12,21 @@ use Rattle.printed.specs.LineText.{side_text}
 use Rattle.printed.proofs.put_side.Statement.{statement}
 use Rattle.printed.proofs.put_side.Tie as tie
 
-returns : tie.Need-returns
+returns : tie.Need-returns-in-None
 unfolding ascii
 returns c =
-    let e = sym c.before.before.before.before.before.enum_told.given.1 in
-    (same_text _ _ _ _ c.before.before.put-bytes.ensures (ap (λ (k : Column). side_text (told_column k)) e), subst ShortColumn e tt)
+    let e = sym c.in-None.is in
+    (same_text _ _ _ _ c.put_bytes.ensures (ap (λ (k : Column). side_text (told_column k)) e), subst ShortColumn e tt)
 
-returns-2 : tie.Need-returns-2
+returns-2 : tie.Need-returns-in-At
 returns-2 c =
-    let e = sym c.before.before.before.before.before.column.given.1 in
-    (same_text _ _ _ _ c.before.before.put-decimal.ensures (ap (λ (k : Column). side_text (told_column k)) e), subst ShortColumn e (omega arith))
+    let e = sym c.in-At.is in
+    (same_text _ _ _ _ c.put_decimal.ensures (ap (λ (k : Column). side_text (told_column k)) e), subst ShortColumn e (omega arith))
 
 pub put_side_spec : {M : Type 1} → statement M
 put_side_spec =
     tie.close
     (tie.spec
-    (λ c. search rules)
     (λ c. search rules)
     (λ c κs. search rules)
     (λ c. search rules)

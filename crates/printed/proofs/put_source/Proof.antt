@@ -10,11 +10,8 @@ use Rattle.printed.proofs.put_source.Tie as tie
 returns : tie.Need-returns
 unfolding ascii
 returns c =
-    let p3 = c.before.before in
-    let p2 = p3.before.before.before.before.before.before in
-    let p1 = p2.before.before.before.before.before.before in
-    let k = p1.before.struct_known.given in (
-      and_all _ _ _ _ _ (and_all _ _ _ _ _ p1.put_count.ensures p2.put-count2.ensures) p3.put-count3.ensures,
+    let k = c.struct_known-1.given in (
+      and_all _ _ _ _ _ (and_all _ _ _ _ _ c.put_count-a.ensures c.put_count-b.ensures) c.put_count.ensures,
       (omega (arith, k), omega (arith, k), omega (arith, k)),
     )
 
@@ -23,12 +20,9 @@ put_source_spec =
     tie.close
     (tie.spec
     (λ c. search rules)
-    (λ c. search rules)
     (λ c κs. search rules)
     (λ c. search rules)
-    (λ c. search rules)
     (λ c κs. search rules)
-    (λ c. search rules)
     (λ c. search rules)
     (λ c κs. search rules)
     (λ c. search rules)

@@ -10,36 +10,32 @@ use Rattle.printed.specs.Printed.{checksum_word}
 use Rattle.printed.proofs.put_word.Statement.{statement}
 use Rattle.printed.proofs.put_word.Tie as tie
 
-returns : tie.Need-returns
+returns : tie.Need-returns-in-None
 unfolding ascii
-returns c = same_text _ _ _ _ c.before.before.put-bytes.ensures (ap (λ (k : ChecksumKind). checksum_word (told_kind k)) (sym c.before.before.before.before.before.enum_told.given.1))
+returns c = same_text _ _ _ _ c.put_bytes.ensures (ap (λ (k : ChecksumKind). checksum_word (told_kind k)) (sym c.in-None.is))
 
-returns-2 : tie.Need-returns-2
+returns-2 : tie.Need-returns-in-Md5
 unfolding ascii
-returns-2 c = same_text _ _ _ _ c.before.before.put-bytes2.ensures (ap (λ (k : ChecksumKind). checksum_word (told_kind k)) (sym c.before.before.before.before.before.enum-told2.given.1))
+returns-2 c = same_text _ _ _ _ c.put_bytes-in-Md5.ensures (ap (λ (k : ChecksumKind). checksum_word (told_kind k)) (sym c.in-Md5.is))
 
-returns-3 : tie.Need-returns-3
+returns-3 : tie.Need-returns-in-Sha1
 unfolding ascii
-returns-3 c = same_text _ _ _ _ c.before.before.put-bytes3.ensures (ap (λ (k : ChecksumKind). checksum_word (told_kind k)) (sym c.before.before.before.before.before.enum-told3.given.1))
+returns-3 c = same_text _ _ _ _ c.put_bytes-in-Sha1.ensures (ap (λ (k : ChecksumKind). checksum_word (told_kind k)) (sym c.in-Sha1.is))
 
-returns-4 : tie.Need-returns-4
+returns-4 : tie.Need-returns-in-Sha256
 unfolding ascii
-returns-4 c = same_text _ _ _ _ c.before.before.put-bytes4.ensures (ap (λ (k : ChecksumKind). checksum_word (told_kind k)) (sym c.before.before.before.before.before.enum-told4.given.1))
+returns-4 c = same_text _ _ _ _ c.put_bytes-in-Sha256.ensures (ap (λ (k : ChecksumKind). checksum_word (told_kind k)) (sym c.in-Sha256.is))
 
 pub put_word_spec : {M : Type 1} → statement M
 put_word_spec =
     tie.close
     (tie.spec
     (λ c. search rules)
+    (λ c κs. search rules)
     (λ c. search rules)
     (λ c κs. search rules)
     (λ c. search rules)
-    (λ c. search rules)
     (λ c κs. search rules)
-    (λ c. search rules)
-    (λ c. search rules)
-    (λ c κs. search rules)
-    (λ c. search rules)
     (λ c. search rules)
     (λ c κs. search rules)
     (λ c. search rules)

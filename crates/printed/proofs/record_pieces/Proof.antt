@@ -10,17 +10,10 @@ use Rattle.printed.proofs.record_pieces.Tie as tie
 returns : tie.Need-returns
 unfolding ascii
 returns c =
-    let p7 = c.before.before in
-    let p6 = p7.before.before.before.before in
-    let p5 = p6.before.before.before.before in
-    let p4 = p5.before.before.before.before.before in
-    let p3 = p4.before.before.before.before in
-    let p2 = p3.before.before.before.before.before in
-    let p1 = p2.before.before.before.before in
-    let a = p1.put-address.ensures.1 in
-    let b = p2.put-source.ensures.1 in (
-      and_all _ _ _ _ _ (and_one _ _ _ _ _ (and_one _ _ _ _ _ (and_one _ _ _ _ _ (and_one _ _ _ _ _ (and_all _ _ _ _ _ p1.put-address.ensures.0 p2.put-source.ensures.0) p3.put-bytes.ensures) p4.put-side.ensures.0) p5.put-bytes2.ensures) p6.put-side2.ensures.0) p7.put-origin.ensures.0,
-      record_fits p1.before.before.before.args.r (a.0, a.1, a.2, b.0, b.1, b.2, p4.put-side.ensures.1, p6.put-side2.ensures.1, p7.put-origin.ensures.1),
+    let a = c.put_address-a.ensures.1 in
+    let b = c.put_source-b.ensures.1 in (
+      and_all _ _ _ _ _ (and_one _ _ _ _ _ (and_one _ _ _ _ _ (and_one _ _ _ _ _ (and_one _ _ _ _ _ (and_all _ _ _ _ _ c.put_address-a.ensures.0 c.put_source-b.ensures.0) c.put_bytes-c.ensures) c.put_side-d.ensures.0) c.put_bytes-e.ensures) c.put_side-f.ensures.0) c.put_origin.ensures.0,
+      record_fits c.args.r (a.0, a.1, a.2, b.0, b.1, b.2, c.put_side-d.ensures.1, c.put_side-f.ensures.1, c.put_origin.ensures.1),
     )
 
 pub record_pieces_spec : {M : Type 1} → statement M
@@ -29,10 +22,8 @@ record_pieces_spec =
     (tie.spec
     (λ c κs. search rules)
     (λ c κs. search rules)
-    (λ c. search rules)
     (λ c κs. search rules)
     (λ c κs. search rules)
-    (λ c. search rules)
     (λ c κs. search rules)
     (λ c κs. search rules)
     (λ c κs. search rules)

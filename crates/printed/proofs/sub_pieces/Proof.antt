@@ -9,22 +9,15 @@ use Rattle.printed.proofs.sub_pieces.Tie as tie
 returns : tie.Need-returns
 unfolding ascii
 returns c =
-    let p4 = c.before.before in
-    let p3 = p4.before.before.before.before.before in
-    let p2 = p3.before.before.before.before.before in
-    let p1 = p2.before.before.before.before in
-    and_one _ _ _ _ _ (and_all _ _ _ _ _ (and_one _ _ _ _ _ (just _ _ _ p1.put-bytes.ensures) p2.put-hex.ensures) p3.put_count.ensures) p4.put-bytes2.ensures
+    and_one _ _ _ _ _ (and_all _ _ _ _ _ (and_one _ _ _ _ _ (just _ _ _ c.put_bytes-a.ensures) c.put_hex-b.ensures) c.put_count-c.ensures) c.put_bytes.ensures
 
 pub sub_pieces_spec : {M : Type 1} → statement M
 sub_pieces_spec =
     tie.close
     (tie.spec
-    (λ c. search rules)
     (λ c κs. search rules)
     (λ c κs. search rules)
-    (λ c. search rules)
     (λ c κs. search rules)
-    (λ c. search rules)
     (λ c κs. search rules)
     (λ c. search rules)
     returns)

@@ -9,10 +9,9 @@ use Rattle.reading_record.specs.RecordLaws.{checksum_is, checksum_gives}
 use Rattle.reading_record.proofs.checksum_in.Statement.{statement}
 use Rattle.reading_record.proofs.checksum_in.Tie as tie
 
-returns : tie.Need-returns
+returns : tie.Need-returns-in-Entry
 returns c =
-    let m = c.before.before.before in
-    checksum_gives _ _ _ _ _ _ _ (ap told_entry (sym m.name.given.1) ∙ m.before.before.entry_at.ensures) c.before.number.ensures c.u8-at.ensures
+    checksum_gives _ _ _ _ _ _ _ (ap told_entry (sym c.in-Entry.is) ∙ c.entry_at.ensures) c.number.ensures c.u8_at.ensures
 
 pub checksum_in_spec : {M : Type 1} → statement M
 checksum_in_spec =
@@ -21,12 +20,12 @@ checksum_in_spec =
     (λ c κs. search rules)
     (λ c. search rules)
     (λ c κs. search rules)
-    (λ c. omega (arith, entry_lies _ _ _ _ (ap told_entry (sym c.before.before.name.given.1) ∙ c.before.before.before.before.entry_at.ensures)))
-    (λ c. omega (arith, entry_lies _ _ _ _ (ap told_entry (sym c.before.before.name.given.1) ∙ c.before.before.before.before.entry_at.ensures)))
+    (λ c. omega (arith, entry_lies _ _ _ _ (ap told_entry (sym c.in-Entry.is) ∙ c.entry_at.ensures)))
+    (λ c. omega (arith, entry_lies _ _ _ _ (ap told_entry (sym c.in-Entry.is) ∙ c.entry_at.ensures)))
     (λ c κs. search rules)
     (λ c. search rules)
     (λ c. search rules)
     (λ c. search rules)
     returns
-    (λ c. checksum_is _ _ _ _ (ap told_entry (sym c.enum_told.given.1) ∙ c.before.before.entry_at.ensures))
-    (λ c. checksum_is _ _ _ _ (ap told_entry (sym c.before.why.given.1) ∙ c.before.before.before.entry_at.ensures)))
+    (λ c. checksum_is _ _ _ _ (ap told_entry (sym c.in-None.is) ∙ c.entry_at.ensures))
+    (λ c. checksum_is _ _ _ _ (ap told_entry (sym c.in-Refused.is) ∙ c.entry_at.ensures)))

@@ -7,5 +7,5 @@ pub columns_at_spec : {M : Type 1} → statement M
 columns_at_spec =
     tie.close
     (tie.spec
-    (λ c. rw c.if1.true)
-    (λ c. rw c.if1.false))
+    (λ c. rw c.if-columns.true)
+    (λ c. rw c.if-columns.false))

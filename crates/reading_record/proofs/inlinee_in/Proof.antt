@@ -17,9 +17,9 @@ inlinee_in_spec =
     (tie.spec
     (λ c κs. search rules)
     (λ c. search rules)
-    (λ c. omega (arith, line_lies _ _ _ _ (ap told_source_line (sym c.before.inlinee.given.1) ∙ c.before.before.before.source-line-at.ensures)))
+    (λ c. omega (arith, line_lies _ _ _ _ (ap told_source_line (sym c.in-SourceLine.is) ∙ c.source_line_at.ensures)))
     (λ c. search rules)
     (λ c. search rules)
-    (λ c. hands typed.Inlinees _ _ told_source_line (inlinee_item _) c.before.inlinee.given.1 c.before.before.before.source-line-at.ensures)
-    (λ c. hands typed.Inlinees _ _ told_source_line (inlinee_item _) c.enum_told.given.1 c.before.before.source-line-at.ensures)
-    (λ c. hands typed.Inlinees _ _ told_source_line (inlinee_item _) c.before.why.given.1 c.before.before.before.source-line-at.ensures))
+    (λ c. hands typed.Inlinees _ _ told_source_line (inlinee_item _) c.in-SourceLine.is c.source_line_at.ensures)
+    (λ c. hands typed.Inlinees _ _ told_source_line (inlinee_item _) c.in-None.is c.source_line_at.ensures)
+    (λ c. hands typed.Inlinees _ _ told_source_line (inlinee_item _) c.in-Refused.is c.source_line_at.ensures))

@@ -17,9 +17,9 @@ module_in_spec =
     (tie.spec
     (λ c κs. search rules)
     (λ c. search rules)
-    (λ c. omega (arith, module_next _ _ _ _ (ap told_module (sym c.before.name.given.1) ∙ c.before.before.before.module-at.ensures)))
+    (λ c. omega (arith, module_next _ _ _ _ (ap told_module (sym c.in-Module.is) ∙ c.module_at.ensures)))
     (λ c. search rules)
     (λ c. search rules)
-    (λ c. hands typed.Imports _ _ told_module (module_item _) c.before.name.given.1 c.before.before.before.module-at.ensures)
-    (λ c. hands typed.Imports _ _ told_module (module_item _) c.enum_told.given.1 c.before.before.module-at.ensures)
-    (λ c. hands typed.Imports _ _ told_module (module_item _) c.before.why.given.1 c.before.before.before.module-at.ensures))
+    (λ c. hands typed.Imports _ _ told_module (module_item _) c.in-Module.is c.module_at.ensures)
+    (λ c. hands typed.Imports _ _ told_module (module_item _) c.in-None.is c.module_at.ensures)
+    (λ c. hands typed.Imports _ _ told_module (module_item _) c.in-Refused.is c.module_at.ensures))

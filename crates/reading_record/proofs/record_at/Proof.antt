@@ -9,10 +9,9 @@ use Rattle.reading_record.specs.RecordLaws.{spot_lies, lent_fits, lent_is, other
 use Rattle.reading_record.proofs.record_at.Statement.{statement}
 use Rattle.reading_record.proofs.record_at.Tie as tie
 
-returns : tie.Need-returns
+returns : tie.Need-returns-in-At
 returns c =
-    let q = c.before.before.before in
-    lent_is _ _ _ _ _ _ _ _ (ap told_spot (sym q.start.given.1) ∙ q.before.before.spot_in.ensures) (add-sub_cancel_left _ _) c.record_of.ensures
+    lent_is _ _ _ _ _ _ _ _ (ap told_spot (sym c.in-At.is) ∙ c.spot_in.ensures) (add-sub_cancel_left _ _) c.record_of.ensures
 
 pub record_at_spec : {M : Type 1} → statement M
 record_at_spec =
@@ -20,13 +19,13 @@ record_at_spec =
     (tie.spec
     (λ c κs. search rules)
     (λ c. search rules)
-    (λ c. omega (arith, spot_lies _ _ _ _ _ (ap told_spot (sym c.before.start.given.1) ∙ c.before.before.before.spot_in.ensures)))
+    (λ c. omega (arith, spot_lies _ _ _ _ _ (ap told_spot (sym c.in-At.is) ∙ c.spot_in.ensures)))
     (λ c. search rules)
     (λ c. search rules)
-    (λ c. omega (arith, spot_lies _ _ _ _ _ (ap told_spot (sym c.before.start.given.1) ∙ c.before.before.before.spot_in.ensures)))
-    (λ c κs. lent_fits _ _ _ _ _ _ (ap told_spot (sym c.before.before.start.given.1) ∙ c.before.before.before.before.spot_in.ensures) (add-sub_cancel_left _ _))
+    (λ c. omega (arith, spot_lies _ _ _ _ _ (ap told_spot (sym c.in-At.is) ∙ c.spot_in.ensures)))
+    (λ c κs. lent_fits _ _ _ _ _ _ (ap told_spot (sym c.in-At.is) ∙ c.spot_in.ensures) (add-sub_cancel_left _ _))
     (λ c. search rules)
     (λ c. search rules)
     returns
-    (λ c. other_is _ _ _ _ _ _ (ap told_spot (sym c.enum_told.given.1) ∙ c.before.before.spot_in.ensures))
-    (λ c. other_is _ _ _ _ _ _ (ap told_spot (sym c.before.why.given.1) ∙ c.before.before.before.spot_in.ensures)))
+    (λ c. other_is _ _ _ _ _ _ (ap told_spot (sym c.in-None.is) ∙ c.spot_in.ensures))
+    (λ c. other_is _ _ _ _ _ _ (ap told_spot (sym c.in-Refused.is) ∙ c.spot_in.ensures)))

@@ -9,10 +9,9 @@ use Rattle.reading_walk.specs.StepLaws.{open_sub_lem, open_other}
 use Rattle.reading_walk.proofs.open_at.Statement.{statement}
 use Rattle.reading_walk.proofs.open_at.Tie as tie
 
-returns : tie.Need-returns
+returns : tie.Need-returns-in-Sub
 returns c =
-    let m = c.before.before.before in
-    c.open-body.ensures ∙ open_sub_lem _ _ _ _ _ (ap told_step (sym m.kind.given.1) ∙ m.before.before.sub_at.ensures)
+    c.open_body.ensures ∙ open_sub_lem _ _ _ _ _ (ap told_step (sym c.in-Sub.is) ∙ c.sub_at.ensures)
 
 pub open_at_spec : {M : Type 1} → statement M
 open_at_spec =
@@ -20,12 +19,12 @@ open_at_spec =
     (tie.spec
     (λ c κs. search rules)
     (λ c. search rules)
-    (λ c. omega (arith, sub_next _ _ _ _ _ (ap told_step (sym c.before.kind.given.1) ∙ c.before.before.before.sub_at.ensures)))
-    (λ c. omega (arith, sub_next _ _ _ _ _ (ap told_step (sym c.before.kind.given.1) ∙ c.before.before.before.sub_at.ensures)))
-    (λ c. omega (arith, sub_next _ _ _ _ _ (ap told_step (sym c.before.kind.given.1) ∙ c.before.before.before.sub_at.ensures)))
+    (λ c. omega (arith, sub_next _ _ _ _ _ (ap told_step (sym c.in-Sub.is) ∙ c.sub_at.ensures)))
+    (λ c. omega (arith, sub_next _ _ _ _ _ (ap told_step (sym c.in-Sub.is) ∙ c.sub_at.ensures)))
+    (λ c. omega (arith, sub_next _ _ _ _ _ (ap told_step (sym c.in-Sub.is) ∙ c.sub_at.ensures)))
     (λ c κs. search rules)
     (λ c. search rules)
     (λ c. search rules)
     returns
-    (λ c. open_other _ _ _ _ (ap told_step (sym c.enum_told.given.1) ∙ c.before.before.sub_at.ensures))
-    (λ c. open_other _ _ _ _ (ap told_step (sym c.before.why.given.1) ∙ c.before.before.before.sub_at.ensures)))
+    (λ c. open_other _ _ _ _ (ap told_step (sym c.in-None.is) ∙ c.sub_at.ensures))
+    (λ c. open_other _ _ _ _ (ap told_step (sym c.in-Refused.is) ∙ c.sub_at.ensures)))

@@ -12,4 +12,4 @@ open_inlinees_spec =
     (tie.spec
     (λ c. inlinees_short _ _ (omega arith))
     (λ c κs. search rules)
-    (λ c. inlinees_open _ _ (omega arith) _ c.u32_at_lem.ensures))
+    (λ c. inlinees_open _ _ (omega arith) _ c.u32_at.ensures))

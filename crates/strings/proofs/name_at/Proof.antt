@@ -9,33 +9,30 @@ use Rattle.strings.specs.StringsLaws.{names_part, name_found, name_cut, name_ref
 use Rattle.strings.proofs.name_at.Statement.{statement}
 use Rattle.strings.proofs.name_at.Tie as tie
 
-add-zero-from : tie.Need-overflow-add-zero-from
+add-zero-from : tie.Need-overflow_add-start
 add-zero-from c =
-    let e = ap told_table (sym c.before.start.given.1) ∙ c.before.before.before.string-table.ensures in
+    let e = ap told_table (sym c.in-Names.is) ∙ c.string_table.ensures in
     omega (arith, names_part _ _ _ e)
 
-part-zero-from-end : tie.Need-slice-bounds-zero-from-end
+part-zero-from-end : tie.Need-slice_bounds-zero_from-end
 part-zero-from-end c =
-    let e = ap told_table (sym c.before.start.given.1) ∙ c.before.before.before.string-table.ensures in
+    let e = ap told_table (sym c.in-Names.is) ∙ c.string_table.ensures in
     omega (arith, names_part _ _ _ e)
 
-add-t17 : tie.Need-overflow-add-t17
+add-t17 : tie.Need-overflow_add-result
 add-t17 c =
-    let m = c.before.before.before in
-    let e = ap told_table (sym m.before.start.given.1) ∙ m.before.before.before.string-table.ensures in
+    let e = ap told_table (sym c.in-Names.is) ∙ c.string_table.ensures in
     omega (arith, names_part _ _ _ e)
 
-returns : tie.Need-returns
+returns : tie.Need-returns-then-end-len
 returns c =
-    let m = c.before.before.before in
-    let e = ap told_table (sym m.before.start.given.1) ∙ m.before.before.before.string-table.ensures in
-    name_found _ _ _ _ _ _ e (add-sub_cancel_left _ _) c.before.zero-from.ensures (omega arith)
+    let e = ap told_table (sym c.in-Names.is) ∙ c.string_table.ensures in
+    name_found _ _ _ _ _ _ e (add-sub_cancel_left _ _) c.zero_from-end.ensures (omega arith)
 
-returns-2 : tie.Need-returns-2
+returns-2 : tie.Need-returns-else-end-len
 returns-2 c =
-    let m = c.before.before.before in
-    let e = ap told_table (sym m.before.start.given.1) ∙ m.before.before.before.string-table.ensures in
-    name_cut _ _ _ _ _ _ e (add-sub_cancel_left _ _) c.before.zero-from.ensures (omega arith)
+    let e = ap told_table (sym c.in-Names.is) ∙ c.string_table.ensures in
+    name_cut _ _ _ _ _ _ e (add-sub_cancel_left _ _) c.zero_from-end.ensures (omega arith)
 
 pub name_at_spec : {M : Type 1} → statement M
 name_at_spec =
@@ -53,4 +50,4 @@ name_at_spec =
     (λ c. search rules)
     returns
     returns-2
-    (λ c. name_refused _ _ _ (ap told_table (sym c.before.why.given.1) ∙ c.before.before.before.string-table.ensures)))
+    (λ c. name_refused _ _ _ (ap told_table (sym c.in-Refused.is) ∙ c.string_table.ensures)))

@@ -11,14 +11,14 @@ use Rattle.strings.specs.StringsLaws.{name_part}
 use Rattle.strings.proofs.name_bytes.Statement.{statement}
 use Rattle.strings.proofs.name_bytes.Tie as tie
 
-returns : tie.Need-returns
+returns : tie.Need-returns-in-At
 returns c =
-    let e = ap told_name (sym c.before.before.start.given.1) ∙ c.before.before.before.before.name-at.ensures in
+    let e = ap told_name (sym c.in-At.is) ∙ c.name_at.ensures in
     hands_part _ _ _ _ _ _ _ _ refl _ _ (ap (λ o. (held_span o).start) e) (add-sub_cancel_left _ _ ∙ ap (λ o. (held_span o).len) e) (search rules) refl
 
-returns-2 : tie.Need-returns-2
+returns-2 : tie.Need-returns-in-Refused
 returns-2 c =
-    let e = ap told_name (sym c.before.enum_told.given.1) ∙ c.before.before.before.name-at.ensures in
+    let e = ap told_name (sym c.in-Refused.is) ∙ c.name_at.ensures in
     hands_none _ _ _ _ _ _ _ _ refl (ap (λ o. (held_span o).start) e) (ap (λ o. (held_span o).len) e) (search rules) (search rules)
 
 pub name_bytes_spec : {M : Type 1} → statement M
@@ -27,10 +27,10 @@ name_bytes_spec =
     (tie.spec
     (λ c κs. search rules)
     (λ c. search rules)
-    (λ c. omega (arith, name_part _ _ _ _ (ap told_name (sym c.before.start.given.1) ∙ c.before.before.before.name-at.ensures)))
+    (λ c. omega (arith, name_part _ _ _ _ (ap told_name (sym c.in-At.is) ∙ c.name_at.ensures)))
     (λ c. search rules)
     (λ c. search rules)
-    (λ c. omega (arith, name_part _ _ _ _ (ap told_name (sym c.before.start.given.1) ∙ c.before.before.before.name-at.ensures)))
+    (λ c. omega (arith, name_part _ _ _ _ (ap told_name (sym c.in-At.is) ∙ c.name_at.ensures)))
     (λ c. search rules)
     (λ c. search rules)
     returns

@@ -11,10 +11,10 @@ use Rattle.strings.specs.StringsLaws.{zero_end, zero_here, zero_later}
 use Rattle.strings.proofs.zero_from.Statement.{statement}
 use Rattle.strings.proofs.zero_from.Tie as tie
 
-abbrev invariant-loop : tie.invariant-loop
+abbrev invariant-loop : tie.invariant-loop-i
 invariant-loop names at i₀ i = i + length (until_zero (drop i names)) ≡ at + length (until_zero (drop at names))
 
-abbrev decreases-loop : tie.decreases-loop
+abbrev decreases-loop : tie.decreases-loop-i
 decreases-loop names at i₀ i = length names - i
 
 pub zero_from_spec : {M : Type 1} → statement M
@@ -25,8 +25,8 @@ zero_from_spec =
     decreases-loop
     (λ c. refl)
     (λ c. search rules)
-    (λ c. zero_here _ _ (omega arith) c.if1.true ∙ c.before.before.before.loop.invariant)
+    (λ c. zero_here _ _ (omega arith) c.if-names-i-eq0.true ∙ c.loop-i.invariant)
     (λ c. search rules)
     (λ c. search rules)
-    (λ c. zero_later _ _ (omega arith) c.if1.false ∙ c.before.before.before.loop.invariant)
-    (λ c. zero_end _ _ (omega arith) ∙ c.before.loop.invariant))
+    (λ c. zero_later _ _ (omega arith) c.if-names-i-eq0.false ∙ c.loop-i.invariant)
+    (λ c. zero_end _ _ (omega arith) ∙ c.loop-i.invariant))

@@ -18,68 +18,58 @@ use Rattle.symbol_lines.specs.SymbolLaws.{slot_from, best_of, best_start, turn_h
 use Rattle.symbol_lines.proofs.find_slot.Statement.{statement}
 use Rattle.symbol_lines.proofs.find_slot.Tie as tie
 
-abbrev invariant-loop : tie.invariant-loop
+abbrev invariant-loop : tie.invariant-loop-i
 invariant-loop area slots bodies n section offset best₀ known₀ scan₀ i₀ best known scan i =
     (best_of section offset (slot_from crate_rule area slots n i) (told_best best) ≡ slot_in section offset (named (body_at crate_rule area) n slots))
     × Scans crate_rule area scan × Right crate_rule area bodies known scan
 
-abbrev decreases-loop : tie.decreases-loop
+abbrev decreases-loop : tie.decreases-loop-i
 decreases-loop area slots bodies n section offset best₀ known₀ scan₀ i₀ best known scan i = n - i
 
-add-end : tie.Need-overflow-add-end invariant-loop decreases-loop
+add-end : tie.Need-overflow_add-end invariant-loop decreases-loop
 add-end c =
-    let m = c.before in
-    let f = m.before.before in
-    let l = f.before.before.loop in
-    let x = located_right _ _ _ _ _ _ _ l.invariant.2 f.find-body.result f.find-body.ensures in
-    let e = ap told_named (sym m.body.given.1) ∙ x in
+    let l = c.loop-i in
+    let x = located_right _ _ _ _ _ _ _ l.invariant.2 c.find_body-found.result c.find_body-found.ensures in
+    let e = ap told_named (sym c.in-Body.is) ∙ x in
     omega (arith, slot_inside _ _ _ _ _ _ e)
 
-part-header-of-end : tie.Need-slice-bounds-header-of-end invariant-loop decreases-loop
+part-header-of-end : tie.Need-slice_bounds-header_of-end invariant-loop decreases-loop
 part-header-of-end c =
-    let m = c.before in
-    let f = m.before.before in
-    let l = f.before.before.loop in
-    let x = located_right _ _ _ _ _ _ _ l.invariant.2 f.find-body.result f.find-body.ensures in
-    let e = ap told_named (sym m.body.given.1) ∙ x in
+    let l = c.loop-i in
+    let x = located_right _ _ _ _ _ _ _ l.invariant.2 c.find_body-found.result c.find_body-found.ensures in
+    let e = ap told_named (sym c.in-Body.is) ∙ x in
     omega (arith, slot_inside _ _ _ _ _ _ e)
 
-returns : tie.Need-returns invariant-loop decreases-loop
+returns : tie.Need-returns-then-is_at invariant-loop decreases-loop
 returns c =
-    let m = c.before.before.before.before.before in
-    let f = m.before.before in
-    let l = f.before.before.loop in
-    let x = located_right _ _ _ _ _ _ _ l.invariant.2 f.find-body.result f.find-body.ensures in
-    let e = ap told_named (sym m.body.given.1) ∙ x in
-    turn_hit _ _ _ _ _ _ _ _ l.invariant.1 (omega arith) _ _ _ _ e (add-sub_cancel_left _ _) c.before.before.header_of.ensures
-    (sym c.before.is_at.ensures ∙ c.if1.true) ∙ l.invariant.0
+    let l = c.loop-i in
+    let x = located_right _ _ _ _ _ _ _ l.invariant.2 c.find_body-found.result c.find_body-found.ensures in
+    let e = ap told_named (sym c.in-Body.is) ∙ x in
+    turn_hit _ _ _ _ _ _ _ _ l.invariant.1 (omega arith) _ _ _ _ e (add-sub_cancel_left _ _) c.header_of-head.ensures
+    (sym c.is_at.ensures ∙ c.if-is_at.true) ∙ l.invariant.0
 
-loop-again : tie.Need-loop-preserved invariant-loop decreases-loop
+loop-again : tie.Need-loop-i-preserved invariant-loop decreases-loop
 loop-again c =
-    let m = c.before.before.before.before.before.before in
-    let f = m.before.before in
-    let l = f.before.before.loop in
-    let x = located_right _ _ _ _ _ _ _ l.invariant.2 f.find-body.result f.find-body.ensures in
-    let e = ap told_named (sym m.body.given.1) ∙ x in (
-      ap (best_of _ _ _) c.better-slot.ensures
-          ∙ turn_on _ _ _ _ _ _ _ _ l.invariant.1 (omega arith) _ _ _ _ e (add-sub_cancel_left _ _) c.before.before.before.header_of.ensures
-          (sym c.before.before.is_at.ensures ∙ c.before.if1.false) ∙ l.invariant.0,
+    let l = c.loop-i in
+    let x = located_right _ _ _ _ _ _ _ l.invariant.2 c.find_body-found.result c.find_body-found.ensures in
+    let e = ap told_named (sym c.in-Body.is) ∙ x in (
+      ap (best_of _ _ _) c.better_slot-best.ensures
+          ∙ turn_on _ _ _ _ _ _ _ _ l.invariant.1 (omega arith) _ _ _ _ e (add-sub_cancel_left _ _) c.header_of-head.ensures
+          (sym c.is_at.ensures ∙ c.if-is_at.false) ∙ l.invariant.0,
       slot_scans _ _ _ _ _ l.invariant.1 _ e,
-      located_known _ _ _ _ _ _ _ l.invariant.2 f.find-body.result f.find-body.ensures _ (ap told_named (sym m.body.given.1)),
+      located_known _ _ _ _ _ _ _ l.invariant.2 c.find_body-found.result c.find_body-found.ensures _ (ap told_named (sym c.in-Body.is)),
     )
 
-returns-2 : tie.Need-returns-2 invariant-loop decreases-loop
+returns-2 : tie.Need-returns-in-Refused invariant-loop decreases-loop
 returns-2 c =
-    let m = c.before in
-    let f = m.before.before in
-    let l = f.before.before.loop in
-    let x = located_right _ _ _ _ _ _ _ l.invariant.2 f.find-body.result f.find-body.ensures in
-    let e = ap told_named (sym m.body2.given.1) ∙ x in
+    let l = c.loop-i in
+    let x = located_right _ _ _ _ _ _ _ l.invariant.2 c.find_body-found.result c.find_body-found.ensures in
+    let e = ap told_named (sym c.in-Refused.is) ∙ x in
     turn_refused _ _ _ _ _ _ _ _ l.invariant.1 (omega arith) _ _ e ∙ l.invariant.0
 
-returns-3 : tie.Need-returns-3 invariant-loop decreases-loop
+returns-3 : tie.Need-returns invariant-loop decreases-loop
 returns-3 c =
-    let l = c.before.loop in
+    let l = c.loop-i in
     turn_end _ _ _ _ _ _ _ (omega arith) _ ∙ l.invariant.0
 
 pub find_slot_spec : {M : Type 1} → statement M

@@ -7,16 +7,14 @@ use Rattle.symbol_lines.specs.SymbolLaws.{symbol_counted, symbol_refused}
 use Rattle.symbol_lines.proofs.lines_for_symbol.Statement.{statement}
 use Rattle.symbol_lines.proofs.lines_for_symbol.Tie as tie
 
-returns : tie.Need-returns
+returns : tie.Need-returns-in-Lines
 returns c =
-    let m = c.before.before.before in
-    c.walk-to.ensures
-    ∙ symbol_counted _ _ _ _ _ _ _ (ap told_counted (sym m.n.given.1) ∙ m.before.before.count-lines.ensures) _ c.before.find-slot.ensures
+    c.walk_to.ensures
+    ∙ symbol_counted _ _ _ _ _ _ _ (ap told_counted (sym c.in-Lines.is) ∙ c.count_lines.ensures) _ c.find_slot-found.ensures
 
-returns-2 : tie.Need-returns-2
+returns-2 : tie.Need-returns-in-Refused
 returns-2 c =
-    let m = c.before in
-    symbol_refused _ _ _ _ _ _ _ (ap told_counted (sym m.why.given.1) ∙ m.before.before.count-lines.ensures)
+    symbol_refused _ _ _ _ _ _ _ (ap told_counted (sym c.in-Refused.is) ∙ c.count_lines.ensures)
 
 pub lines_for_symbol_spec : {M : Type 1} → statement M
 lines_for_symbol_spec =

@@ -9,17 +9,15 @@ use Rattle.symbol_lines.specs.Told.{told_best}
 use Rattle.symbol_lines.proofs.walk_of.Statement.{statement}
 use Rattle.symbol_lines.proofs.walk_of.Tie as tie
 
-returns : tie.Need-returns
+returns : tie.Need-returns-in-None
 returns c =
-    let m = c.before in
-    let how = m.before.before.args.how in
-    ap (Between how) c.fresh-rest.ensures ∙ ap (λ (x : Best). walk_of how (told_best x)) (sym m.enum_told.given.1)
+    let how = c.args.how in
+    ap (Between how) c.fresh_rest.ensures ∙ ap (λ (x : Best). walk_of how (told_best x)) (sym c.in-None.is)
 
-returns-2 : tie.Need-returns-2
+returns-2 : tie.Need-returns-in-Slot
 returns-2 c =
-    let m = c.before.before in
-    let how = m.before.before.args.how in
-    ap (Between how) c.fresh-rest2.ensures ∙ ap (λ (x : Best). walk_of how (told_best x)) (sym m.best.given.1)
+    let how = c.args.how in
+    ap (Between how) c.fresh_rest-in-Slot.ensures ∙ ap (λ (x : Best). walk_of how (told_best x)) (sym c.in-Slot.is)
 
 pub walk_of_spec : {M : Type 1} → statement M
 walk_of_spec =

@@ -10,16 +10,14 @@ use Rattle.symbol_lines.specs.SymbolLaws.{walk_best}
 use Rattle.symbol_lines.proofs.walk_to.Statement.{statement}
 use Rattle.symbol_lines.proofs.walk_to.Tie as tie
 
-returns : tie.Need-returns
+returns : tie.Need-returns-in-Best
 returns c =
-    let m = c.before.before in
-    let how = m.before.before.args.how in
-    ap gave c.walk_of.ensures ∙ walk_best how m.found.given.0.0 ∙ ap (λ (x : SymbolSlot). walk_to how (told_symbol_slot x)) (sym m.found.given.1)
+    let how = c.args.how in
+    ap gave c.walk_of.ensures ∙ walk_best how c.in-Best.best ∙ ap (λ (x : SymbolSlot). walk_to how (told_symbol_slot x)) (sym c.in-Best.is)
 
-returns-2 : tie.Need-returns-2
+returns-2 : tie.Need-returns-in-Refused
 returns-2 c =
-    let m = c.before in
-    ap (λ (x : SymbolSlot). walk_to m.before.before.args.how (told_symbol_slot x)) (sym m.found2.given.1)
+    ap (λ (x : SymbolSlot). walk_to c.args.how (told_symbol_slot x)) (sym c.in-Refused.is)
 
 pub walk_to_spec : {M : Type 1} → statement M
 walk_to_spec =

@@ -14,5 +14,5 @@ spot_first_spec =
     (λ c κs. search rules)
     (λ c. search rules)
     (λ c κs. search rules)
-    (λ c. spot_new_is _ _ _ _ _ c.before.before.enum_told.given.1 c.before.first_of.ensures c.spot-new.ensures)
-    (λ c. spot_in_is _ _ _ _ _ _ _ c.before.before.walk.given.1 c.spot_in.ensures))
+    (λ c. spot_new_is _ _ _ _ _ c.in-New.is c.first_of.ensures c.spot_new.ensures)
+    (λ c. spot_in_is _ _ _ _ _ _ _ c.in-In.is c.spot_in.ensures))

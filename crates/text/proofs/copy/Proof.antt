@@ -11,22 +11,22 @@ use Rattle.text.specs.PageLaws.{copy_step, put_nil}
 use Rattle.text.proofs.copy.Statement.{statement}
 use Rattle.text.proofs.copy.Tie as tie
 
-abbrev invariant-loop : tie.invariant-loop
+abbrev invariant-loop : tie.invariant-loop-i
 invariant-loop buf₀ at bytes i₀ buf i = (put buf (at + i) (drop i bytes) ≡ put buf₀ at bytes) × (length buf ≡ length buf₀) × (i ≤ length bytes)
 
-abbrev decreases-loop : tie.decreases-loop
+abbrev decreases-loop : tie.decreases-loop-i
 decreases-loop buf₀ at bytes i₀ buf i = length bytes - i
 
-loop-again : tie.Need-loop-preserved invariant-loop decreases-loop
+loop-again : tie.Need-loop-i-preserved invariant-loop decreases-loop
 loop-again c =
-    let l = c.before.before.loop in
-    let a = c.before.before.before.args in
+    let l = c.loop-i in
+    let a = c.args in
     (copy_step l.buf a.at a.bytes.now l.i (omega arith) (omega arith) ∙ l.invariant.0, simp length-set l.invariant.1, omega arith)
 
 returns : tie.Need-returns invariant-loop decreases-loop
 returns c =
-    let l = c.before.loop in
-    let a = c.before.before.args in
+    let l = c.loop-i in
+    let a = c.args in
     let d = drop_of_length-le a.bytes.now {i = l.i} (omega arith) in
     sym (ap (put l.buf (a.at + l.i)) d ∙ put_nil l.buf (a.at + l.i)) ∙ l.invariant.0
 

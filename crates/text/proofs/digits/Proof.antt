@@ -11,16 +11,16 @@ use Rattle.text.specs.TextLaws.{smaller, length_one, length_more}
 use Rattle.text.proofs.digits.Statement.{statement}
 use Rattle.text.proofs.digits.Tie as tie
 
-abbrev invariant-loop : tie.invariant-loop
+abbrev invariant-loop : tie.invariant-loop-m
 invariant-loop n base k₀ m₀ k m = (k + length (numeral base m) ≡ 1 + length (numeral base n)) × (k + m ≤ n + 1)
 
-abbrev decreases-loop : tie.decreases-loop
+abbrev decreases-loop : tie.decreases-loop-m
 decreases-loop n base k₀ m₀ k m = m
 
-loop-again : tie.Need-loop-preserved invariant-loop decreases-loop
+loop-again : tie.Need-loop-m-preserved invariant-loop decreases-loop
 loop-again c =
-    let s = smaller _ (omega arith) _ c.loop-test.true in
-    let l = length_more _ (omega arith) _ c.loop-test.true in
+    let s = smaller _ (omega arith) _ c.loop-m-test.true in
+    let l = length_more _ (omega arith) _ c.loop-m-test.true in
     (omega arith, omega arith)
 
 pub digits_spec : {M : Type 1} → statement M
@@ -34,4 +34,4 @@ digits_spec =
     (λ c. search rules)
     (λ c. smaller _ (omega arith) _ (omega arith))
     loop-again
-    (λ c. omega (arith, length_one _ (omega arith) _ c.loop-test.false)))
+    (λ c. omega (arith, length_one _ (omega arith) _ c.loop-m-test.false)))

@@ -9,20 +9,17 @@ use Rattle.text.specs.TextLaws.{hex_length}
 use Rattle.text.proofs.put_hex_bytes.Statement.{statement}
 use Rattle.text.proofs.put_hex_bytes.Tie as tie
 
-spell-bytes-requires : tie.Need-spell-bytes-requires
+spell-bytes-requires : tie.Need-spell_bytes-requires
 spell-bytes-requires c κs =
-    let m = c.before in
-    omega (arith, room_in _ _ _ _ (ap told_place (sym m.before.at.given.1) ∙ m.before.before.before.room.ensures))
+    omega (arith, room_in _ _ _ _ (ap told_place (sym c.in-At.is) ∙ c.room.ensures))
 
-add-t13 : tie.Need-overflow-add-t13
+add-t13 : tie.Need-overflow_add-result
 add-t13 c =
-    let m = c.before.before.before.before in
-    omega (arith, room_in _ _ _ _ (ap told_place (sym m.before.at.given.1) ∙ m.before.before.before.room.ensures))
+    omega (arith, room_in _ _ _ _ (ap told_place (sym c.in-At.is) ∙ c.room.ensures))
 
-returns : tie.Need-returns
+returns : tie.Need-returns-in-At
 returns c =
-    let m = c.before.before.before.before in
-    written_at _ _ _ _ (sym (hex_length _)) _ _ (ap told_place (sym m.before.at.given.1) ∙ m.before.before.before.room.ensures) c.before.before.spell-bytes.ensures
+    written_at _ _ _ _ (sym (hex_length _)) _ _ (ap told_place (sym c.in-At.is) ∙ c.room.ensures) c.spell_bytes.ensures
 
 pub put_hex_bytes_spec : {M : Type 1} → statement M
 put_hex_bytes_spec =
@@ -36,4 +33,4 @@ put_hex_bytes_spec =
     (λ c. search rules)
     (λ c. search rules)
     returns
-    (λ c. written_none _ _ _ _ (sym (hex_length _)) _ (ap told_place (sym c.before.why.given.1) ∙ c.before.before.before.room.ensures)))
+    (λ c. written_none _ _ _ _ (sym (hex_length _)) _ (ap told_place (sym c.in-Refused.is) ∙ c.room.ensures)))

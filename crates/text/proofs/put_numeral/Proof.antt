@@ -10,27 +10,25 @@ use Rattle.text.proofs.put_numeral.Tie as tie
 
 spell-requires : tie.Need-spell-requires
 spell-requires c κs =
-    let m = c.before in (
-      c.before.before.before.before.before.before.before.requires,
+    (
+      c.requires,
       (
-        c.before.before.before.before.before.digits.ensures,
-        omega (arith, room_in _ _ _ _ (ap told_place (sym m.before.at.given.1) ∙ m.before.before.before.room.ensures)),
+        c.digits-count.ensures,
+        omega (arith, room_in _ _ _ _ (ap told_place (sym c.in-At.is) ∙ c.room.ensures)),
       ),
     )
 
-add-t14 : tie.Need-overflow-add-t14
+add-t14 : tie.Need-overflow_add-result
 add-t14 c =
-    let m = c.before.before.before.before in
-    omega (arith, room_in _ _ _ _ (ap told_place (sym m.before.at.given.1) ∙ m.before.before.before.room.ensures))
+    omega (arith, room_in _ _ _ _ (ap told_place (sym c.in-At.is) ∙ c.room.ensures))
 
-returns : tie.Need-returns
+returns : tie.Need-returns-in-At
 returns c =
-    let m = c.before.before.before.before in
-    let n = m.before.before.before.before.digits.ensures in
-    written_at _ _ _ _ n _ _ (ap told_place (sym m.before.at.given.1) ∙ m.before.before.before.room.ensures) c.before.before.spell.ensures
+    let n = c.digits-count.ensures in
+    written_at _ _ _ _ n _ _ (ap told_place (sym c.in-At.is) ∙ c.room.ensures) c.spell.ensures
 
-returns-2 : tie.Need-returns-2
-returns-2 c = written_none _ _ _ _ c.before.before.before.before.digits.ensures _ (ap told_place (sym c.before.why.given.1) ∙ c.before.before.before.room.ensures)
+returns-2 : tie.Need-returns-in-Refused
+returns-2 c = written_none _ _ _ _ c.digits-count.ensures _ (ap told_place (sym c.in-Refused.is) ∙ c.room.ensures)
 
 pub put_numeral_spec : {M : Type 1} → statement M
 put_numeral_spec =

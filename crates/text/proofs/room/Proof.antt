@@ -13,8 +13,8 @@ room_spec =
     tie.close
     (tie.spec
     (λ c. search rules)
-    (λ c. room_none _ _ _ _ (ap told_place c.before.before.place.given.1) (omega arith))
+    (λ c. room_none _ _ _ _ (ap told_place c.in-At.is) (omega arith))
     (λ c. search rules)
-    (λ c. room_none _ _ _ _ (ap told_place c.before.before.before.place.given.1) (omega arith))
-    (λ c. room_at_lem _ _ _ _ (ap told_place c.before.before.before.place.given.1) (omega arith))
-    (λ c. room_stopped _ _ _ _ (ap told_place c.before.place2.given.1)))
+    (λ c. room_none _ _ _ _ (ap told_place c.in-At.is) (omega arith))
+    (λ c. room_at_lem _ _ _ _ (ap told_place c.in-At.is) (omega arith))
+    (λ c. room_stopped _ _ _ _ (ap told_place c.in-Refused.is)))

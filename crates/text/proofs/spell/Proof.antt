@@ -14,18 +14,18 @@ use Rattle.text.specs.PageLaws.{spell_step, spell_end}
 use Rattle.text.proofs.spell.Statement.{statement}
 use Rattle.text.proofs.spell.Tie as tie
 
-abbrev invariant-loop : tie.invariant-loop
+abbrev invariant-loop : tie.invariant-loop-m
 invariant-loop buf₀ at n base count i₀ m₀ buf i m =
     (put buf at (numeral base m) ≡ put buf₀ at (numeral base n)) × (i ≡ length (numeral base m)) × (at + i ≤ length buf) × (length buf ≡ length buf₀)
 
-abbrev decreases-loop : tie.decreases-loop
+abbrev decreases-loop : tie.decreases-loop-m
 decreases-loop buf₀ at n base count i₀ m₀ buf i m = m
 
-loop-again : tie.Need-loop-preserved invariant-loop decreases-loop
+loop-again : tie.Need-loop-m-preserved invariant-loop decreases-loop
 loop-again c =
-    let l = c.before.before.loop in
-    let a = c.before.before.before.before.args in
-    let t = length_more a.base (omega arith) l.m c.before.loop-test.true in (
+    let l = c.loop-m in
+    let a = c.args in
+    let t = length_more a.base (omega arith) l.m c.loop-m-test.true in (
       spell_step l.buf a.at a.base l.m (omega arith) (omega arith) _ _ (omega arith) (omega arith) c.glyph.ensures ∙ l.invariant.0,
       omega arith,
       simp length-set (omega arith),
@@ -34,10 +34,10 @@ loop-again c =
 
 returns : tie.Need-returns invariant-loop decreases-loop
 returns c =
-    let l = c.before.before.loop in
-    let a = c.before.before.before.before.args in
-    let t = length_one a.base (omega arith) l.m c.before.loop-test.false in
-    spell_end l.buf a.at a.base l.m (omega arith) (omega arith) _ (omega arith) c.glyph2.ensures ∙ l.invariant.0
+    let l = c.loop-m in
+    let a = c.args in
+    let t = length_one a.base (omega arith) l.m c.loop-m-test.false in
+    spell_end l.buf a.at a.base l.m (omega arith) (omega arith) _ (omega arith) c.glyph-2.ensures ∙ l.invariant.0
 
 pub spell_spec : {M : Type 1} → statement M
 spell_spec =
@@ -46,15 +46,15 @@ spell_spec =
     invariant-loop
     decreases-loop
     (λ c. (refl, omega arith, omega arith, refl))
-    (λ c. omega (arith, length_more _ (omega arith) _ c.loop-test.true))
+    (λ c. omega (arith, length_more _ (omega arith) _ c.loop-m-test.true))
     (λ c. search rules)
-    (λ c κs. omega (arith, mod-lt c.before.loop.m {m = c.before.before.before.args.base} (omega arith)))
+    (λ c κs. omega (arith, mod-lt c.loop-m.m {m = c.args.base} (omega arith)))
     (λ c. search rules)
-    (λ c. omega (arith, length_more _ (omega arith) _ c.before.loop-test.true))
+    (λ c. omega (arith, length_more _ (omega arith) _ c.loop-m-test.true))
     (λ c. search rules)
     (λ c. smaller _ (omega arith) _ (omega arith))
     loop-again
     (λ c κs. search rules)
-    (λ c. omega (arith, length_one _ (omega arith) _ c.before.loop-test.false))
-    (λ c. simp length-set c.before.before.loop.invariant.3)
+    (λ c. omega (arith, length_one _ (omega arith) _ c.loop-m-test.false))
+    (λ c. simp length-set c.loop-m.invariant.3)
     returns)

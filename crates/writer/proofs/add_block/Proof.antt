@@ -13,11 +13,11 @@ use Rattle.writer.proofs.add_block.Statement.{statement}
 use Rattle.writer.proofs.add_block.Tie as tie
 
 -- the entry, its length, and what the step says
-adds : (c : tie.After-block-step) → let a = c.before.before.before.before.before.args in
-    Adds (call_block a.file a.lines.now a.columns.now) (λ m. 12 + 4 * length a.lines.now + 4 * length a.columns.now) a.buf.now a.written c.block-step.result
+adds : (c : tie.After-block_step) → let a = c.args in
+    Adds (call_block a.file a.lines.now a.columns.now) (λ m. 12 + 4 * length a.lines.now + 4 * length a.columns.now) a.buf.now a.written c.block_step.result
 adds c =
-    let a = c.before.before.before.before.before.args in
-    record { entry = refl; size = λ m. block_length_lem (record { file = a.file; lines = a.lines.now; columns = a.columns.now }); says = c.block-step.ensures }
+    let a = c.args in
+    record { entry = refl; size = λ m. block_length_lem (record { file = a.file; lines = a.lines.now; columns = a.columns.now }); says = c.block_step.ensures }
 
 pub add_block_spec : {M : Type 1} → statement M
 add_block_spec =
@@ -25,14 +25,14 @@ add_block_spec =
     (tie.spec
     (λ c κs. search rules)
     (λ c. search rules)
-    (λ c. omega (arith, adds_known (adds c.before.before.before) c.before.header.given.1))
-    (λ c. omega (arith, adds_known (adds c.before.before.before) c.before.header.given.1))
+    (λ c. omega (arith, adds_known (adds c.before) c.in-Go.is))
+    (λ c. omega (arith, adds_known (adds c.before) c.in-Go.is))
     (λ c. search rules)
-    (λ c κs. let p = c.before.before in (adds_room (adds p.before.before) p.header.given.1, omega (arith, adds_known (adds p.before.before) p.header.given.1)))
-    (λ c κs. let p = c.before.before.before.before.before.before in adds_length (adds p.before.before) p.header.given.1)
+    (λ c κs. let p = c in (adds_room (adds p.before.before) p.in-Go.is, omega (arith, adds_known (adds p.before.before) p.in-Go.is)))
+    (λ c κs. let p = c in adds_length (adds p.before.before.before.before.before.before) p.in-Go.is)
     (λ c. search rules)
     (λ c. search rules)
-    (λ c. let w = c.before.before.before.before.before.before in let p = w.before.before.before in
-    adds_goes (adds p.before.before) p.header.given.1 w.put-block.ensures c.before.before.put_length_lem.ensures)
+    (λ c. let p = c in
+    adds_goes (adds p.before.before.before.before.before.before.before.before.before) p.in-Go.is c.put_block.ensures c.put_length.ensures)
     (λ c. search rules)
-    (λ c. adds_stops (adds c.before.before.before) c.before.why.given.1))
+    (λ c. adds_stops (adds c.before) c.in-Stop.is))

@@ -15,17 +15,16 @@ use Rattle.writer.proofs.add_inlinee.Statement.{statement}
 use Rattle.writer.proofs.add_inlinee.Tie as tie
 
 -- the entry, its length, and what the step says
-adds : (c : tie.After-inlinee-step) → let a = c.before.before.before.before.args in
-    Adds (call_inlinee a.inlinee a.file a.line a.extra.now) (λ m. 12 + extra_length (extended m) (length a.extra.now)) a.buf.now a.written c.inlinee-step.result
+adds : (c : tie.After-inlinee_step) → let a = c.args in
+    Adds (call_inlinee a.inlinee a.file a.line a.extra.now) (λ m. 12 + extra_length (extended m) (length a.extra.now)) a.buf.now a.written c.inlinee_step.result
 adds c =
-    let a = c.before.before.before.before.args in
-    record { entry = refl; size = λ m. inlinee_length (extended m) (record { inlinee = a.inlinee; file = a.file; line = a.line; extra = a.extra.now }); says = c.inlinee-step.ensures }
+    let a = c.args in
+    record { entry = refl; size = λ m. inlinee_length (extended m) (record { inlinee = a.inlinee; file = a.file; line = a.line; extra = a.extra.now }); says = c.inlinee_step.ensures }
 
-put-inlinee-requires : tie.Need-put-inlinee-requires
+put-inlinee-requires : tie.Need-put_inlinee-requires
 put-inlinee-requires c κs =
-    let p = c.before.before in
-    let g = adds_known (adds p.before.before) p.header.given.1 in
-    (adds_room (adds p.before.before) p.header.given.1, extra_small p.header.given.0.1.0 _ g.obeyed (omega arith))
+    let g = adds_known (adds c.before.before) c.in-Go.is in
+    (adds_room (adds c.before.before) c.in-Go.is, extra_small c.in-Go.mark _ g.obeyed (omega arith))
 
 pub add_inlinee_spec : {M : Type 1} → statement M
 add_inlinee_spec =
@@ -33,14 +32,14 @@ add_inlinee_spec =
     (tie.spec
     (λ c κs. search rules)
     (λ c. search rules)
-    (λ c. omega (arith, adds_known (adds c.before.before.before) c.before.header.given.1))
-    (λ c. omega (arith, adds_known (adds c.before.before.before) c.before.header.given.1))
+    (λ c. omega (arith, adds_known (adds c.before) c.in-Go.is))
+    (λ c. omega (arith, adds_known (adds c.before) c.in-Go.is))
     (λ c. search rules)
     put-inlinee-requires
-    (λ c κs. let p = c.before.before.before.before.before.before in adds_length (adds p.before.before) p.header.given.1)
+    (λ c κs. let p = c in adds_length (adds p.before.before.before.before.before.before) p.in-Go.is)
     (λ c. search rules)
     (λ c. search rules)
-    (λ c. let w = c.before.before.before.before.before.before in let p = w.before.before.before in
-    adds_goes (adds p.before.before) p.header.given.1 w.put-inlinee.ensures c.before.before.put_length_lem.ensures)
+    (λ c. let p = c in
+    adds_goes (adds p.before.before.before.before.before.before.before.before.before) p.in-Go.is c.put_inlinee.ensures c.put_length.ensures)
     (λ c. search rules)
-    (λ c. adds_stops (adds c.before.before.before) c.before.why.given.1))
+    (λ c. adds_stops (adds c.before) c.in-Stop.is))

@@ -13,11 +13,11 @@ use Rattle.writer.proofs.add_module.Statement.{statement}
 use Rattle.writer.proofs.add_module.Tie as tie
 
 -- the entry, its length, and what the step says
-adds : (c : tie.After-module-step) → let a = c.before.before.before.before.args in
-    Adds (call_module a.name a.words.now) (λ m. 8 + 4 * length a.words.now) a.buf.now a.written c.module-step.result
+adds : (c : tie.After-module_step) → let a = c.args in
+    Adds (call_module a.name a.words.now) (λ m. 8 + 4 * length a.words.now) a.buf.now a.written c.module_step.result
 adds c =
-    let a = c.before.before.before.before.args in
-    record { entry = refl; size = λ m. module_length (record { name = a.name; words = a.words.now }); says = c.module-step.ensures }
+    let a = c.args in
+    record { entry = refl; size = λ m. module_length (record { name = a.name; words = a.words.now }); says = c.module_step.ensures }
 
 pub add_module_spec : {M : Type 1} → statement M
 add_module_spec =
@@ -25,14 +25,14 @@ add_module_spec =
     (tie.spec
     (λ c κs. search rules)
     (λ c. search rules)
-    (λ c. omega (arith, adds_known (adds c.before.before.before) c.before.header.given.1))
-    (λ c. omega (arith, adds_known (adds c.before.before.before) c.before.header.given.1))
+    (λ c. omega (arith, adds_known (adds c.before) c.in-Go.is))
+    (λ c. omega (arith, adds_known (adds c.before) c.in-Go.is))
     (λ c. search rules)
-    (λ c κs. let p = c.before.before in (adds_room (adds p.before.before) p.header.given.1, omega (arith, adds_known (adds p.before.before) p.header.given.1)))
-    (λ c κs. let p = c.before.before.before.before.before.before in adds_length (adds p.before.before) p.header.given.1)
+    (λ c κs. let p = c in (adds_room (adds p.before.before) p.in-Go.is, omega (arith, adds_known (adds p.before.before) p.in-Go.is)))
+    (λ c κs. let p = c in adds_length (adds p.before.before.before.before.before.before) p.in-Go.is)
     (λ c. search rules)
     (λ c. search rules)
-    (λ c. let w = c.before.before.before.before.before.before in let p = w.before.before.before in
-    adds_goes (adds p.before.before) p.header.given.1 w.put-module.ensures c.before.before.put_length_lem.ensures)
+    (λ c. let p = c in
+    adds_goes (adds p.before.before.before.before.before.before.before.before.before) p.in-Go.is c.put_module.ensures c.put_length.ensures)
     (λ c. search rules)
-    (λ c. adds_stops (adds c.before.before.before) c.before.why.given.1))
+    (λ c. adds_stops (adds c.before) c.in-Stop.is))

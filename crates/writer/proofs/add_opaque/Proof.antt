@@ -8,9 +8,8 @@ use Rattle.writer.proofs.add_opaque.Tie as tie
 
 returns : tie.Need-returns
 returns c =
-    let p = c.before.before in
-    let a = p.before.before.before.before.before.args in
-    opened _ _ {hd = a.body.now} a.buf.now a.written a.kind p.before.before.opaque-rule.ensures refl p.open-with.ensures.0 p.open-with.ensures.1
+    let a = c.args in
+    opened _ _ {hd = a.body.now} a.buf.now a.written a.kind c.opaque_rule-fine.ensures refl c.open_with.ensures.0 c.open_with.ensures.1
 
 pub add_opaque_spec : {M : Type 1} → statement M
 add_opaque_spec =

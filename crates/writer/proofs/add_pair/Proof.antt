@@ -11,11 +11,11 @@ use Rattle.writer.proofs.add_pair.Statement.{statement}
 use Rattle.writer.proofs.add_pair.Tie as tie
 
 -- the entry, its length, and what the step says
-adds : (c : tie.After-pair-step) → let a = c.before.before.before.args in
-    Adds (call_pair a.local a.global) (λ m. 8) a.buf.now a.written c.Pair-step.result
+adds : (c : tie.After-pair_step) → let a = c.args in
+    Adds (call_pair a.local a.global) (λ m. 8) a.buf.now a.written c.pair_step.result
 adds c =
-    let a = c.before.before.before.args in
-    record { entry = refl; size = λ m. header_length a.local a.global; says = c.Pair-step.ensures }
+    let a = c.args in
+    record { entry = refl; size = λ m. header_length a.local a.global; says = c.pair_step.ensures }
 
 pub add_pair_spec : {M : Type 1} → statement M
 add_pair_spec =
@@ -23,14 +23,14 @@ add_pair_spec =
     (tie.spec
     (λ c κs. search rules)
     (λ c. search rules)
-    (λ c. omega (arith, adds_known (adds c.before.before.before) c.before.header.given.1))
-    (λ c. omega (arith, adds_known (adds c.before.before.before) c.before.header.given.1))
+    (λ c. omega (arith, adds_known (adds c.before) c.in-Go.is))
+    (λ c. omega (arith, adds_known (adds c.before) c.in-Go.is))
     (λ c. search rules)
-    (λ c κs. let p = c.before.before in adds_room (adds p.before.before) p.header.given.1)
-    (λ c κs. let p = c.before.before.before.before.before.before in adds_length (adds p.before.before) p.header.given.1)
+    (λ c κs. let p = c in adds_room (adds p.before.before) p.in-Go.is)
+    (λ c κs. let p = c in adds_length (adds p.before.before.before.before.before.before) p.in-Go.is)
     (λ c. search rules)
     (λ c. search rules)
-    (λ c. let w = c.before.before.before.before.before.before in let p = w.before.before.before in
-    adds_goes (adds p.before.before) p.header.given.1 w.put_two.ensures c.before.before.put_length_lem.ensures)
+    (λ c. let p = c in
+    adds_goes (adds p.before.before.before.before.before.before.before.before.before) p.in-Go.is c.put_two.ensures c.put_length.ensures)
     (λ c. search rules)
-    (λ c. adds_stops (adds c.before.before.before) c.before.why.given.1))
+    (λ c. adds_stops (adds c.before) c.in-Stop.is))

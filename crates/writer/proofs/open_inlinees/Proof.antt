@@ -11,10 +11,9 @@ use Rattle.writer.proofs.open_inlinees.Tie as tie
 
 returns : tie.Need-returns
 returns c =
-    let p = c.before.before in
-    let a = p.before.before.before.before.before.before.before.args in
+    let a = c.args in
     opened (leb a.signature 1) _ a.buf.now a.written INLINEE_LINES refl
-    (signature_made a.signature _ p.before.before.before.before.put-u32.ensures) p.open-with.ensures.0 p.open-with.ensures.1
+    (signature_made a.signature _ c.put_u32.ensures) c.open_with.ensures.0 c.open_with.ensures.1
 
 pub open_inlinees_spec : {M : Type 1} → statement M
 open_inlinees_spec =

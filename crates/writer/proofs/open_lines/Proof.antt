@@ -11,15 +11,10 @@ use Rattle.writer.proofs.open_lines.Tie as tie
 
 returns : tie.Need-returns
 returns c =
-    let p = c.before.before in
-    let h₄ = p.before.before.before.before in
-    let h₃ = h₄.before.before.before in
-    let h₂ = h₃.before.before.before in
-    let h₁ = h₂.before.before.before in
-    let a = h₁.before.before.before.args in
+    let a = c.args in
     opened true _ a.buf.now a.written LINES refl
-    (head_made a.offset a.section a.flags a.code _ _ _ _ h₁.put-u32.ensures h₂.put-u16.ensures h₃.put-u162.ensures h₄.put-u322.ensures)
-    p.open-with.ensures.0 p.open-with.ensures.1
+    (head_made a.offset a.section a.flags a.code _ _ _ _ c.put_u32.ensures c.put_u16.ensures c.put_u16-2.ensures c.put_u32-2.ensures)
+    c.open_with.ensures.0 c.open_with.ensures.1
 
 pub open_lines_spec : {M : Type 1} → statement M
 open_lines_spec =

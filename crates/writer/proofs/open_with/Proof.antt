@@ -15,35 +15,34 @@ use Rattle.writer.proofs.open_with.Statement.{statement}
 use Rattle.writer.proofs.open_with.Tie as tie
 
 -- what is known where the call goes on
-abbrev start : tie.After-known-told → tie.Start
-start c = c.before.before.before.before.before.before.before
+abbrev start : tie.In-Go → tie.Start
+start c = c.before.before.before.before
 
-known : (c : tie.After-known-told) → Goes (place (start c).args.buf.now (start c).args.written) (λ k. (start c).args.fine) (λ k. 8 + length (start c).args.head.now)
-    (length (start c).args.buf.now) (start c).args.written c.before.next.given.0.0 c.before.next.given.0.1.0 c.before.next.given.0.1.1.0
+known : (c : tie.In-Go) → Goes (place (start c).args.buf.now (start c).args.written) (λ k. (start c).args.fine) (λ k. 8 + length (start c).args.head.now)
+    (length (start c).args.buf.now) (start c).args.written c.in-Go.header c.in-Go.mark c.in-Go.next
 known c =
     open_goes (start c).args.fine (8 + length (start c).args.head.now) (start c).args.buf.now (start c).args.written _ _ _
-    (sym c.before.before.before.open_step.ensures ∙ ap told_act c.before.next.given.1)
+    (sym c.open_step.ensures ∙ ap told_act c.in-Go.is)
 
-put-raw-requires : tie.Need-put-raw-requires
+put-raw-requires : tie.Need-put_raw-requires
 put-raw-requires c κs =
-    let a = (start c.before).args in
+    let a = c.args in
     (lent_room a.written (8 + length a.head.now) a.buf.now (omega (arith, known c.before)), omega (arith, known c.before))
 
-returns : tie.Need-returns
+returns : tie.Need-returns-in-Go
 returns c =
-    let p = c.before.before.before.before in
-    let a = (start p).args in
+    let a = c.args in
     let bs = header a.kind (length a.head.now) ++ a.head.now in
     kept_go (open_act a.fine (8 + length a.head.now) a.buf.now a.written) (λ h m. put a.buf.now a.written bs) a.buf.now _ _ _ _ _
-    (ap told_act (sym p.before.next.given.1) ∙ p.before.before.before.open_step.ensures) refl
-    (lent_put a.written a.buf.now bs _ (omega (arith, known p)) c.before.before.put-raw.ensures)
+    (ap told_act (sym c.in-Go.is) ∙ c.open_step.ensures) refl
+    (lent_put a.written a.buf.now bs _ (omega (arith, known c.before.before.before.before)) c.put_raw.ensures)
 
-returns-2 : tie.Need-returns-2
+returns-2 : tie.Need-returns-in-Stop
 returns-2 c =
-    let a = c.before.before.before.before.before.before.before.args in
+    let a = c.args in
     let bs = header a.kind (length a.head.now) ++ a.head.now in
     kept_stop (open_act a.fine (8 + length a.head.now) a.buf.now a.written) (λ h m. put a.buf.now a.written bs) a.buf.now _
-    (ap told_act (sym c.before.why.given.1) ∙ c.before.before.before.open_step.ensures)
+    (ap told_act (sym c.in-Stop.is) ∙ c.open_step.ensures)
 
 pub open_with_spec : {M : Type 1} → statement M
 open_with_spec =

@@ -15,18 +15,15 @@ use Rattle.writer.proofs.put_block.Tie as tie
 
 returns : tie.Need-returns
 returns c =
-    let p₃ = c.before.before in
-    let p₂ = p₃.before.before.before.before in
-    let p₁ = p₂.before.before.before.before in
-    let a = p₁.before.before.before.before.before.args in
+    let a = c.args in
     let n = length a.lines.now in
     let size = 12 + 4 * n + 4 * length a.columns.now in
     let T : List ℕ = (le32 a.file ++ le32 (n / 2)) ++ le32 size in
     let X : List ℕ = word_bytes a.lines.now in
     let lt = three_two a.file (n / 2) size in
     let lx : length (T ++ X) ≡ 12 + 4 * n = length-append T X ∙ omega (arith, word_length a.lines.now) in
-    let two = lent_behind T X a.free.now _ _ 12 lt p₁.put_three.ensures p₂.put-words.ensures in
-    lent_behind (T ++ X) (word_bytes a.columns.now) a.free.now _ _ (12 + 4 * n) lx two p₃.put-words2.ensures
+    let two = lent_behind T X a.free.now _ _ 12 lt c.put_three.ensures c.put_words.ensures in
+    lent_behind (T ++ X) (word_bytes a.columns.now) a.free.now _ _ (12 + 4 * n) lx two c.put_words-2.ensures
     ∙ ap (λ (x : List ℕ). over x a.free.now) (block_is a.file a.lines.now a.columns.now)
 
 pub put_block_spec : {M : Type 1} → statement M

@@ -15,20 +15,16 @@ use Rattle.writer.proofs.put_checksum.Tie as tie
 
 returns : tie.Need-returns
 returns c =
-    let p₄ = c.before.before in
-    let p₃ = p₄.before.before.before.before in
-    let p₂ = p₃.before.before.before.before in
-    let p₁ = p₂.before.before.before.before in
-    let a = p₁.before.before.before.before.args in
+    let a = c.args in
     let s = size_small a.kind in
     let n = length a.bytes.now in
     let v = n + 256 * a.kind in
     let l : length (le32 a.name ++ le16 v) ≡ 6 = length-append (le32 a.name) (le16 v) ∙ omega (arith, le32_length a.name, le16_length v) in
     let l₃ : length ((le32 a.name ++ le16 v) ++ a.bytes.now) ≡ 6 + n = length-append (le32 a.name ++ le16 v) a.bytes.now ∙ omega arith in
-    let one = over_u32 [] a.free.now a.free.now _ 0 refl refl a.name (omega arith) p₁.put-u32.ensures in
-    let two = over_u16 (le32 a.name) a.free.now _ _ 4 (le32_length a.name) one v (omega arith) p₂.put-u16.ensures in
-    let three = lent_copy (le32 a.name ++ le16 v) a.bytes.now a.free.now _ _ 6 l two p₃.copy.ensures.1 in
-    over_u16 ((le32 a.name ++ le16 v) ++ a.bytes.now) a.free.now _ _ (6 + n) l₃ three 0 (omega arith) p₄.put-u162.ensures
+    let one = over_u32 [] a.free.now a.free.now _ 0 refl refl a.name (omega arith) c.put_u32.ensures in
+    let two = over_u16 (le32 a.name) a.free.now _ _ 4 (le32_length a.name) one v (omega arith) c.put_u16.ensures in
+    let three = lent_copy (le32 a.name ++ le16 v) a.bytes.now a.free.now _ _ 6 l two c.copy.ensures in
+    over_u16 ((le32 a.name ++ le16 v) ++ a.bytes.now) a.free.now _ _ (6 + n) l₃ three 0 (omega arith) c.put_u16-2.ensures
     ∙ ap (λ (x : List ℕ). over x a.free.now) (checksum_is a.name a.kind a.bytes.now (omega arith) (omega arith))
 
 pub put_checksum_spec : {M : Type 1} → statement M
@@ -38,7 +34,7 @@ put_checksum_spec =
     (λ c κs. search rules)
     (λ c. search rules)
     (λ c. search rules)
-    (λ c. omega (arith, size_small c.before.before.before.before.before.before.before.args.kind))
+    (λ c. omega (arith, size_small c.args.kind))
     (λ c κs. search rules)
     (λ c. search rules)
     (λ c. search rules)

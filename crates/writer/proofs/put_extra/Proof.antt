@@ -14,11 +14,10 @@ use Rattle.writer.proofs.put_extra.Tie as tie
 
 returns : tie.Need-returns
 returns c =
-    let p = c.before.before.before.before.before.before in
-    let a = p.before.before.before.before.args in
+    let a = c.args in
     let n = length a.extra.now in
-    let one = over_u32 [] a.free.now a.free.now _ 0 refl refl n (omega arith) p.put-u32.ensures in
-    lent_behind (le32 n) (word_bytes a.extra.now) a.free.now _ _ 4 (le32_length n) one c.before.before.put-words.ensures
+    let one = over_u32 [] a.free.now a.free.now _ 0 refl refl n (omega arith) c.put_u32.ensures in
+    lent_behind (le32 n) (word_bytes a.extra.now) a.free.now _ _ 4 (le32_length n) one c.put_words.ensures
 
 pub put_extra_spec : {M : Type 1} → statement M
 put_extra_spec =

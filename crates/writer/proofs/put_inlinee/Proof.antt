@@ -12,27 +12,25 @@ use Rattle.writer.specs.LentLaws.{over, lent_room, lent_behind, three_two, extra
 use Rattle.writer.proofs.put_inlinee.Statement.{statement}
 use Rattle.writer.proofs.put_inlinee.Tie as tie
 
-put-extra-requires : tie.Need-put-extra-requires
+put-extra-requires : tie.Need-put_extra-requires
 put-extra-requires c κs =
-    let p = c.before.before.before.before in
-    let a = p.before.before.before.before.args in
+    let a = c.args in
     let n = length a.extra.now in
-    (lent_room 12 (4 + 4 * n) p.put_three.new.0 (omega (arith, extra_at a.mark n c.before.if1.true, p.put_three.auto.0)), omega arith)
+    (lent_room 12 (4 + 4 * n) c.put_three.new.free (omega (arith, extra_at a.mark n c.if-mark-eq1.true, c.put_three.auto.free)), omega arith)
 
-returns : tie.Need-returns
+returns : tie.Need-returns-then-mark-eq1
 returns c =
-    let p = c.before.before.before.before.before.before.before in
-    let a = p.before.before.before.before.args in
+    let a = c.args in
     let ws = a.extra.now in
     lent_behind ((le32 a.inlinee ++ le32 a.file) ++ le32 a.line) (le32 (length ws) ++ word_bytes ws) a.free.now _ _ 12
-    (three_two a.inlinee a.file a.line) p.put_three.ensures c.before.before.put-extra.ensures
-    ∙ ap (λ (x : List ℕ). over x a.free.now) (inlinee_one a.mark a.inlinee a.file a.line ws c.before.before.before.before.if1.true)
+    (three_two a.inlinee a.file a.line) c.put_three.ensures c.put_extra.ensures
+    ∙ ap (λ (x : List ℕ). over x a.free.now) (inlinee_one a.mark a.inlinee a.file a.line ws c.if-mark-eq1.true)
 
-returns-2 : tie.Need-returns-2
+returns-2 : tie.Need-returns-else-mark-eq1
 returns-2 c =
-    let a = c.before.before.before.before.before.before.before.args in
-    c.before.before.before.put_three.ensures
-    ∙ ap (λ (x : List ℕ). over x a.free.now) (inlinee_other a.mark a.inlinee a.file a.line a.extra.now c.if1.false)
+    let a = c.args in
+    c.put_three.ensures
+    ∙ ap (λ (x : List ℕ). over x a.free.now) (inlinee_other a.mark a.inlinee a.file a.line a.extra.now c.if-mark-eq1.false)
 
 pub put_inlinee_spec : {M : Type 1} → statement M
 put_inlinee_spec =

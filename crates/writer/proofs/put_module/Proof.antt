@@ -14,11 +14,10 @@ use Rattle.writer.proofs.put_module.Tie as tie
 
 returns : tie.Need-returns
 returns c =
-    let p = c.before.before.before.before.before.before in
-    let a = p.before.before.before.before.args in
+    let a = c.args in
     let n = length a.words.now in
     let W = word_bytes a.words.now in
-    lent_behind (header a.name n) W a.free.now _ _ 8 (header_length a.name n) p.put_two.ensures c.before.before.put-words.ensures
+    lent_behind (header a.name n) W a.free.now _ _ 8 (header_length a.name n) c.put_two.ensures c.put_words.ensures
     ∙ ap (λ (x : List ℕ). over x a.free.now) (append_assoc (le32 a.name) (le32 n) W)
 
 pub put_module_spec : {M : Type 1} → statement M

@@ -10,10 +10,9 @@ use Rattle.writer.proofs.put_raw.Tie as tie
 
 returns : tie.Need-returns
 returns c =
-    let p = c.before.before.before.before.before.before in
-    let a = p.before.before.before.before.args in
+    let a = c.args in
     let n = length a.body.now in
-    lent_copy (header a.kind n) a.body.now a.free.now _ _ 8 (header_length a.kind n) p.put_two.ensures c.before.before.copy.ensures.1
+    lent_copy (header a.kind n) a.body.now a.free.now _ _ 8 (header_length a.kind n) c.put_two.ensures c.copy.ensures
 
 pub put_raw_spec : {M : Type 1} → statement M
 put_raw_spec =

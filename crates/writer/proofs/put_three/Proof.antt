@@ -11,10 +11,8 @@ use Rattle.writer.proofs.put_three.Tie as tie
 
 returns : tie.Need-returns
 returns c =
-    let p = c.before.before in
-    let q = p.before.before.before.before in
-    let a = q.before.before.before.args in
-    over_u32 (le32 a.a ++ le32 a.b) a.free.now _ _ 8 (header_length a.a a.b) q.put_two.ensures a.c (omega arith) p.put-u32.ensures
+    let a = c.args in
+    over_u32 (le32 a.a ++ le32 a.b) a.free.now _ _ 8 (header_length a.a a.b) c.put_two.ensures a.c (omega arith) c.put_u32.ensures
 
 pub put_three_spec : {M : Type 1} → statement M
 put_three_spec =

@@ -12,11 +12,9 @@ use Rattle.writer.proofs.put_two.Tie as tie
 
 returns : tie.Need-returns
 returns c =
-    let p = c.before.before in
-    let q = p.before.before.before.before in
-    let a = q.before.before.before.args in
-    let one = over_u32 [] a.free.now a.free.now _ 0 refl refl a.a (omega arith) q.put-u32.ensures in
-    over_u32 (le32 a.a) a.free.now _ _ 4 (le32_length a.a) one a.b (omega arith) p.put-u322.ensures
+    let a = c.args in
+    let one = over_u32 [] a.free.now a.free.now _ 0 refl refl a.a (omega arith) c.put_u32.ensures in
+    over_u32 (le32 a.a) a.free.now _ _ 4 (le32_length a.a) one a.b (omega arith) c.put_u32-2.ensures
 
 pub put_two_spec : {M : Type 1} → statement M
 put_two_spec =

@@ -10,20 +10,20 @@ use Rattle.writer_decides.specs.CallLaws.{block_rule_odd, block_rule_lem}
 use Rattle.writer_decides.proofs.block_rule.Statement.{statement}
 use Rattle.writer_decides.proofs.block_rule.Tie as tie
 
-returns-2 : tie.Need-returns-2
+returns-2 : tie.Need-returns-then-mark-eq1
 returns-2 c =
-    let a = c.before.before.args in
-    block_rule_lem a.mark a.n a.k _ c.before.if1.false (ap (λ (t : Bool). eqb a.k (columns_of t (a.n / 2))) (sym (eq-eqb _ _ c.if2.true)))
+    let a = c.args in
+    block_rule_lem a.mark a.n a.k _ c.if-n-ne0.false (ap (λ (t : Bool). eqb a.k (columns_of t (a.n / 2))) (sym (eq-eqb _ _ c.if-mark-eq1.true)))
 
-returns-3 : tie.Need-returns-3
+returns-3 : tie.Need-returns
 returns-3 c =
-    let a = c.before.before.args in
-    block_rule_lem a.mark a.n a.k _ c.before.if1.false (ap (λ (t : Bool). eqb a.k (columns_of t (a.n / 2))) (sym (ne_eqb _ _ c.if2.false)))
+    let a = c.args in
+    block_rule_lem a.mark a.n a.k _ c.if-n-ne0.false (ap (λ (t : Bool). eqb a.k (columns_of t (a.n / 2))) (sym (ne_eqb _ _ c.if-mark-eq1.false)))
 
 pub block_rule_spec : {M : Type 1} → statement M
 block_rule_spec =
     tie.close
     (tie.spec
-    (λ c. block_rule_odd c.before.args.mark c.before.args.n c.before.args.k c.if1.true)
+    (λ c. block_rule_odd c.args.mark c.args.n c.args.k c.if-n-ne0.true)
     returns-2
     returns-3)

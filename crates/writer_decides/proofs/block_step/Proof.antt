@@ -14,40 +14,38 @@ use Rattle.writer_decides.specs.CallLaws.{grow_none, grow_some, fits_block, colu
 use Rattle.writer_decides.proofs.block_step.Statement.{statement}
 use Rattle.writer_decides.proofs.block_step.Tie as tie
 
-returns : tie.Need-returns
+returns : tie.Need-returns-in_default
 returns c =
-    let a = c.before.before.before.before.before.before.args in
+    let a = c.args in
     let n = length a.lines.now in
     let k = length a.columns.now in
     grow_none LINES (λ m. block_rule m n k) (λ m. 12 + 4 * n + 4 * k) a.buf.now a.written
-    (ap told_plain (sym c.enum_told.given.1) ∙ c.before.before.last_of.ensures)
+    (ap told_plain (sym c.in_default.is) ∙ c.last_of.ensures)
 
-add-room-for-2 : tie.Need-overflow-add-room-for-2
+add-room-for-2 : tie.Need-overflow_add-lines-then-block_rule
 add-room-for-2 c =
-    let a = c.before.before.before.before.before.before.before.before.before.args in
+    let a = c.args in
     let n = length a.lines.now in
-    let m = c.before.before.before.header.given.0.1.1.0 in
-    omega (arith, fits_block m n (length a.columns.now) (sym c.before.block_rule_lem.ensures ∙ c.if1.true), columns_few (columned m) (n / 2))
+    let m = c.in-Yes.mark in
+    omega (arith, fits_block m n (length a.columns.now) (sym c.block_rule.ensures ∙ c.if-block_rule.true), columns_few (columned m) (n / 2))
 
-returns-2 : tie.Need-returns-2
+returns-2 : tie.Need-returns-then-block_rule
 returns-2 c =
-    let a = c.before.before.before.before.before.before.before.before.before.before.args in
+    let a = c.args in
     let n = length a.lines.now in
     let k = length a.columns.now in
-    let l = c.before.before.before.before.header.given.0 in
     grow_some LINES (λ m. block_rule m n k) (λ m. 12 + 4 * n + 4 * k) a.buf.now a.written _ _
-    (ap told_plain (sym c.before.before.before.before.header.given.1) ∙ c.before.before.before.before.before.before.last_of.ensures)
-    (c.room_for.ensures ∙ ap (λ (t : Bool). else_not_plain t (room (length a.buf.now) a.written l.0 l.1.1.0 (12 + 4 * n + 4 * k))) (sym c.before.if1.true ∙ c.before.before.block_rule_lem.ensures))
+    (ap told_plain (sym c.in-Yes.is) ∙ c.last_of.ensures)
+    (c.room_for.ensures ∙ ap (λ (t : Bool). else_not_plain t (room (length a.buf.now) a.written c.in-Yes.header c.in-Yes.mark (12 + 4 * n + 4 * k))) (sym c.if-block_rule.true ∙ c.block_rule.ensures))
 
-returns-3 : tie.Need-returns-3
+returns-3 : tie.Need-returns
 returns-3 c =
-    let a = c.before.before.before.before.before.before.before.before.before.args in
+    let a = c.args in
     let n = length a.lines.now in
     let k = length a.columns.now in
-    let l = c.before.before.before.header.given.0 in
     grow_some LINES (λ m. block_rule m n k) (λ m. 12 + 4 * n + 4 * k) a.buf.now a.written _ _
-    (ap told_plain (sym c.before.before.before.header.given.1) ∙ c.before.before.before.before.before.last_of.ensures)
-    (ap (λ (t : Bool). else_not_plain t (room (length a.buf.now) a.written l.0 l.1.1.0 (12 + 4 * n + 4 * k))) (sym c.if1.false ∙ c.before.block_rule_lem.ensures))
+    (ap told_plain (sym c.in-Yes.is) ∙ c.last_of.ensures)
+    (ap (λ (t : Bool). else_not_plain t (room (length a.buf.now) a.written c.in-Yes.header c.in-Yes.mark (12 + 4 * n + 4 * k))) (sym c.if-block_rule.false ∙ c.block_rule.ensures))
 
 pub block_step_spec : {M : Type 1} → statement M
 block_step_spec =

@@ -10,15 +10,15 @@ use Rattle.plain.specs.Plain.{size_of}
 use Rattle.writer_decides.proofs.checksum_rule.Statement.{statement}
 use Rattle.writer_decides.proofs.checksum_rule.Tie as tie
 
-returns : tie.Need-returns
+returns : tie.Need-returns-then-kind-le3
 returns c =
-    let a = c.before.before.args in
-    ap (λ (z : ℕ). eqb a.n z) c.type_size.ensures ∙ ap (λ (t : Bool). t && eqb a.n (size_of a.kind)) (sym (le-leb _ _ c.before.if1.true))
+    let a = c.args in
+    ap (λ (z : ℕ). eqb a.n z) c.size_of.ensures ∙ ap (λ (t : Bool). t && eqb a.n (size_of a.kind)) (sym (le-leb _ _ c.if-kind-le3.true))
 
-returns-2 : tie.Need-returns-2
+returns-2 : tie.Need-returns
 returns-2 c =
-    let a = c.before.args in
-    ap (λ (t : Bool). t && eqb a.n (size_of a.kind)) (sym (lt-leb _ _ c.if1.false))
+    let a = c.args in
+    ap (λ (t : Bool). t && eqb a.n (size_of a.kind)) (sym (lt-leb _ _ c.if-kind-le3.false))
 
 pub checksum_rule_spec : {M : Type 1} → statement M
 checksum_rule_spec =

@@ -12,21 +12,20 @@ use Rattle.writer_decides.specs.CallLaws.{grow_none, grow_some, checksum_need}
 use Rattle.writer_decides.proofs.checksum_step.Statement.{statement}
 use Rattle.writer_decides.proofs.checksum_step.Tie as tie
 
-returns : tie.Need-returns
+returns : tie.Need-returns-in_default
 returns c =
-    let a = c.before.before.before.before.before.args in
+    let a = c.args in
     let n = length a.bytes.now in
     grow_none FILE_CHECKSUMS (λ m. checksum_rule a.kind n) (λ m. up4 (6 + n)) a.buf.now a.written
-    (ap told_plain (sym c.enum_told.given.1) ∙ c.before.before.last_of.ensures)
+    (ap told_plain (sym c.in_default.is) ∙ c.last_of.ensures)
 
-returns-2 : tie.Need-returns-2
+returns-2 : tie.Need-returns
 returns-2 c =
-    let a = c.before.before.before.before.before.before.before.before.args in
+    let a = c.args in
     let n = length a.bytes.now in
-    let l = c.before.before.before.header.given.0 in
     grow_some FILE_CHECKSUMS (λ m. checksum_rule a.kind n) (λ m. up4 (6 + n)) a.buf.now a.written _ _
-    (ap told_plain (sym c.before.before.before.header.given.1) ∙ c.before.before.before.before.before.last_of.ensures)
-    (c.plain-room.ensures ∙ checksum_need a.kind n _ (room (length a.buf.now) a.written l.0 l.1.1.0) c.before.checksum-rule.ensures)
+    (ap told_plain (sym c.in-Yes.is) ∙ c.last_of.ensures)
+    (c.plain_room.ensures ∙ checksum_need a.kind n _ (room (length a.buf.now) a.written c.in-Yes.header c.in-Yes.mark) c.checksum_rule.ensures)
 
 pub checksum_step_spec : {M : Type 1} → statement M
 checksum_step_spec =

@@ -13,28 +13,28 @@ use Rattle.writer_decides.specs.CallLaws.{grow_none, grow_some, extra_yes, extra
 use Rattle.writer_decides.proofs.inlinee_step.Statement.{statement}
 use Rattle.writer_decides.proofs.inlinee_step.Tie as tie
 
-returns : tie.Need-returns
+returns : tie.Need-returns-in_default
 returns c =
-    let a = c.before.before.before.before.before.args in
+    let a = c.args in
     let n = length a.extra.now in
     grow_none INLINEE_LINES (λ m. extra_rule m n) (λ m. 12 + extra_length (extended m) n) a.buf.now a.written
-    (ap told_plain (sym c.enum_told.given.1) ∙ c.before.before.last_of.ensures)
+    (ap told_plain (sym c.in_default.is) ∙ c.last_of.ensures)
 
-returns-2 : tie.Need-returns-2
+returns-2 : tie.Need-returns-then-mark-eq1
 returns-2 c =
-    let a = c.before.before.before.before.before.before.before.before.args in
+    let a = c.args in
     let n = length a.extra.now in
     grow_some INLINEE_LINES (λ m. extra_rule m n) (λ m. 12 + extra_length (extended m) n) a.buf.now a.written _ _
-    (ap told_plain (sym c.before.before.before.header.given.1) ∙ c.before.before.before.before.before.last_of.ensures)
-    (c.plain-room.ensures ∙ extra_yes _ _ _ _ n c.before.if1.true)
+    (ap told_plain (sym c.in-Yes.is) ∙ c.last_of.ensures)
+    (c.plain_room.ensures ∙ extra_yes _ _ _ _ n c.if-mark-eq1.true)
 
-returns-3 : tie.Need-returns-3
+returns-3 : tie.Need-returns
 returns-3 c =
-    let a = c.before.before.before.before.before.before.before.before.args in
+    let a = c.args in
     let n = length a.extra.now in
     grow_some INLINEE_LINES (λ m. extra_rule m n) (λ m. 12 + extra_length (extended m) n) a.buf.now a.written _ _
-    (ap told_plain (sym c.before.before.before.header.given.1) ∙ c.before.before.before.before.before.last_of.ensures)
-    (c.plain-room2.ensures ∙ extra_no _ _ _ _ n c.before.if1.false)
+    (ap told_plain (sym c.in-Yes.is) ∙ c.last_of.ensures)
+    (c.plain_room-2.ensures ∙ extra_no _ _ _ _ n c.if-mark-eq1.false)
 
 pub inlinee_step_spec : {M : Type 1} → statement M
 inlinee_step_spec =

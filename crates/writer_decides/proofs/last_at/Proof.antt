@@ -8,20 +8,20 @@ use Rattle.writer_decides.specs.CallLaws.{place_past, place_in}
 use Rattle.writer_decides.proofs.last_at.Statement.{statement}
 use Rattle.writer_decides.proofs.last_at.Tie as tie
 
-returns : tie.Need-returns
+returns : tie.Need-returns-then-limit_of-written
 returns c =
-    let a = c.before.before.before.args in
-    place_past a.buf.now a.written (omega (arith, c.before.limit-of.ensures))
+    let a = c.args in
+    place_past a.buf.now a.written (omega (arith, c.limit_of.ensures))
 
-slice-aggregate-is-plain : tie.Need-slice-aggregate-is-plain
+slice-aggregate-is-plain : tie.Need-slice_bounds-is_plain-end
 slice-aggregate-is-plain c =
-    let a = c.before.before.before.before.args in
-    sym (length-take-le a.written a.buf.now (omega (arith, c.before.before.limit-of.ensures)))
+    let a = c.args in
+    sym (length-take-le a.written a.buf.now (omega (arith, c.limit_of.ensures)))
 
-returns-2 : tie.Need-returns-2
+returns-2 : tie.Need-returns
 returns-2 c =
-    let a = c.before.before.before.before.before.args in
-    place_in a.buf.now a.written (omega (arith, c.before.before.before.limit-of.ensures)) _ c.is_plain.ensures
+    let a = c.args in
+    place_in a.buf.now a.written (omega (arith, c.limit_of.ensures)) _ c.is_plain.ensures
 
 pub last_at_spec : {M : Type 1} → statement M
 last_at_spec =

@@ -10,14 +10,14 @@ use Rattle.writer_decides.specs.CallLaws.{kind_same, kind_other}
 use Rattle.writer_decides.proofs.last_of.Statement.{statement}
 use Rattle.writer_decides.proofs.last_of.Tie as tie
 
-returns : tie.Need-returns
-returns c = ap (λ (o : Option Last). of_kind c.before.before.before.before.args.wanted o) (ap told_plain (sym c.enum_told.given.1) ∙ c.before.before.last_at_lem.ensures)
+returns : tie.Need-returns-in_default
+returns c = ap (λ (o : Option Last). of_kind c.args.wanted o) (ap told_plain (sym c.in_default.is) ∙ c.last_at.ensures)
 
-returns-2 : tie.Need-returns-2
-returns-2 c = kind_same _ _ _ (ap told_plain (sym c.before.before.header.given.1) ∙ c.before.before.before.before.last_at_lem.ensures) c.if1.true
+returns-2 : tie.Need-returns-then-kind-wanted
+returns-2 c = kind_same _ _ _ (ap told_plain (sym c.in-Yes.is) ∙ c.last_at.ensures) c.if-kind-wanted.true
 
-returns-3 : tie.Need-returns-3
-returns-3 c = kind_other _ _ _ (ap told_plain (sym c.before.before.header.given.1) ∙ c.before.before.before.before.last_at_lem.ensures) c.if1.false
+returns-3 : tie.Need-returns
+returns-3 c = kind_other _ _ _ (ap told_plain (sym c.in-Yes.is) ∙ c.last_at.ensures) c.if-kind-wanted.false
 
 pub last_of_spec : {M : Type 1} → statement M
 last_of_spec =

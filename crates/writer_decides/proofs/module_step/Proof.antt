@@ -11,17 +11,17 @@ use Rattle.writer_decides.specs.CallLaws.{grow_none, grow_some}
 use Rattle.writer_decides.proofs.module_step.Statement.{statement}
 use Rattle.writer_decides.proofs.module_step.Tie as tie
 
-returns : tie.Need-returns
+returns : tie.Need-returns-in_default
 returns c =
-    let a = c.before.before.before.before.before.args in
+    let a = c.args in
     grow_none CROSS_SCOPE_IMPORTS (λ m. true) (λ m. 8 + 4 * length a.words.now) a.buf.now a.written
-    (ap told_plain (sym c.enum_told.given.1) ∙ c.before.before.last_of.ensures)
+    (ap told_plain (sym c.in_default.is) ∙ c.last_of.ensures)
 
-returns-2 : tie.Need-returns-2
+returns-2 : tie.Need-returns
 returns-2 c =
-    let a = c.before.before.before.before.before.before.before.args in
+    let a = c.args in
     grow_some CROSS_SCOPE_IMPORTS (λ m. true) (λ m. 8 + 4 * length a.words.now) a.buf.now a.written _ _
-    (ap told_plain (sym c.before.before.header.given.1) ∙ c.before.before.before.before.last_of.ensures) c.plain-room.ensures
+    (ap told_plain (sym c.in-Yes.is) ∙ c.last_of.ensures) c.plain_room.ensures
 
 pub module_step_spec : {M : Type 1} → statement M
 module_step_spec =

@@ -8,15 +8,15 @@ use lib.Dec.{eqb}
 use Rattle.writer_decides.proofs.opaque_rule.Statement.{statement}
 use Rattle.writer_decides.proofs.opaque_rule.Tie as tie
 
-returns : tie.Need-returns
+returns : tie.Need-returns-then-is_opaque
 returns c =
-    let a = c.before.before.args in
-    ap (λ (t : Bool). t && eqb (a.n % 4) 0) (sym c.if1.true ∙ c.before.is-opaque.ensures)
+    let a = c.args in
+    ap (λ (t : Bool). t && eqb (a.n % 4) 0) (sym c.if-is_opaque.true ∙ c.is_opaque.ensures)
 
-returns-2 : tie.Need-returns-2
+returns-2 : tie.Need-returns
 returns-2 c =
-    let a = c.before.before.args in
-    ap (λ (t : Bool). t && eqb (a.n % 4) 0) (sym c.if1.false ∙ c.before.is-opaque.ensures)
+    let a = c.args in
+    ap (λ (t : Bool). t && eqb (a.n % 4) 0) (sym c.if-is_opaque.false ∙ c.is_opaque.ensures)
 
 pub opaque_rule_spec : {M : Type 1} → statement M
 opaque_rule_spec =

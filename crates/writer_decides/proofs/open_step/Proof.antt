@@ -7,8 +7,8 @@ use Rattle.writer_decides.specs.CallLaws.{on_none, on_some}
 use Rattle.writer_decides.proofs.open_step.Statement.{statement}
 use Rattle.writer_decides.proofs.open_step.Tie as tie
 
-returns-2 : tie.Need-returns-2
-returns-2 c = on_some _ _ _ _ (ap told_plain (sym c.before.before.header.given.1) ∙ c.before.before.before.before.last_at_lem.ensures) c.plain-room.ensures
+returns-2 : tie.Need-returns
+returns-2 c = on_some _ _ _ _ (ap told_plain (sym c.in-Yes.is) ∙ c.last_at.ensures) c.plain_room.ensures
 
 pub open_step_spec : {M : Type 1} → statement M
 open_step_spec =
@@ -17,6 +17,6 @@ open_step_spec =
     (λ c κs. search rules)
     (λ c. search rules)
     (λ c. search rules)
-    (λ c. on_none _ _ (ap told_plain (sym c.enum_told.given.1) ∙ c.before.before.last_at_lem.ensures))
+    (λ c. on_none _ _ (ap told_plain (sym c.in_default.is) ∙ c.last_at.ensures))
     (λ c κs. search rules)
     returns-2)

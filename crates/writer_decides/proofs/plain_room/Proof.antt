@@ -7,15 +7,15 @@ use Rattle.writer_decides.specs.Calls.{else_not_plain, room}
 use Rattle.writer_decides.proofs.plain_room.Statement.{statement}
 use Rattle.writer_decides.proofs.plain_room.Tie as tie
 
-returns : tie.Need-returns
+returns : tie.Need-returns-then-fine
 returns c =
-    let a = c.before.before.args in
-    c.room_for.ensures ∙ ap (λ (t : Bool). else_not_plain t (room a.len a.written a.header a.mark a.need)) (sym c.before.if1.true)
+    let a = c.args in
+    c.room_for.ensures ∙ ap (λ (t : Bool). else_not_plain t (room a.len a.written a.header a.mark a.need)) (sym c.if-fine.true)
 
-returns-2 : tie.Need-returns-2
+returns-2 : tie.Need-returns
 returns-2 c =
-    let a = c.before.args in
-    ap (λ (t : Bool). else_not_plain t (room a.len a.written a.header a.mark a.need)) (sym c.if1.false)
+    let a = c.args in
+    ap (λ (t : Bool). else_not_plain t (room a.len a.written a.header a.mark a.need)) (sym c.if-fine.false)
 
 pub plain_room_spec : {M : Type 1} → statement M
 plain_room_spec =

@@ -6,16 +6,16 @@ use Rattle.area.specs.SubsLaws.{stepped}
 use Rattle.area.proofs.SubWalk.step.Statement.{statement}
 use Rattle.area.proofs.SubWalk.step.Tie as tie
 
-returns : tie.Need-returns
+returns : tie.Need-returns-in-Sub
 returns c =
-    let q = c.before.step.given.1 in
-    stepped _ _ _ _ _ c.before.before.before.sub_at.ensures q q
+    let q = c.in-Sub.is in
+    stepped _ _ _ _ _ c.sub_at-step.ensures q q
 
-returns_2 : tie.Need-returns-2
-returns_2 c = stepped _ _ _ _ _ c.before.before.sub_at.ensures refl c.enum_told.given.1
+returns_2 : tie.Need-returns-in-None
+returns_2 c = stepped _ _ _ _ _ c.sub_at-step.ensures refl c.in-None.is
 
-returns_3 : tie.Need-returns-3
-returns_3 c = stepped _ _ _ _ _ c.before.before.sub_at.ensures refl c.enum-told2.given.1
+returns_3 : tie.Need-returns-in-Refused
+returns_3 c = stepped _ _ _ _ _ c.sub_at-step.ensures refl c.in-Refused.is
 
 pub step_spec : {M : Type 1} → statement M
 step_spec =
