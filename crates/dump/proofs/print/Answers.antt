@@ -1,6 +1,6 @@
 -- `dump::print` meets its contract: the slots are those that the order list leaves, and suffice; the size of the last line tells a refusal.
 -- Assumes nothing.
-use Rattle.std.proofs.Common.{◌≡◌, ℕ, sym, ap, ◌∙◌, ltb, replicate}
+use Rattle.std.proofs.Common.{ℕ, sym, ap, ◌∙◌, ltb, replicate}
 use Rattle.std.proofs.lemmas.List.{length-replicate}
 use Rattle.walk.specs.Listing.{Listing}
 use Rattle.refusal.specs.Told.{Told}
