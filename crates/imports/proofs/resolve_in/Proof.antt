@@ -41,7 +41,7 @@ loop-again c =
     let i = c.loop-name.invariant.0 in
     let x = module_next _ _ _ _ q in
     elim c.if-n-scope.branch [
-      then-n-scope w ↦ (sought_hit _ _ _ _ _ _ _ q _ refl w.if-n-scope.true _ (ap told_resolved w.best-is ∙ w.word_of-best.ensures) ∙ i, omega (arith, x), omega (arith, x))
+      | then-n-scope w ↦ (sought_hit _ _ _ _ _ _ _ q _ refl w.if-n-scope.true _ (ap told_resolved w.best-is ∙ w.word_of-best.ensures) ∙ i, omega (arith, x), omega (arith, x))
       | else-n-scope w ↦ (sought_miss _ _ _ _ _ _ _ q _ refl w.if-n-scope.false _ (ap told_resolved w.best-is) ∙ i, omega (arith, x), omega (arith, x))
     ]
 

@@ -9,11 +9,10 @@ use Rattle.printed.proofs.put_address.Tie as tie
 
 returns : tie.Need-returns
 unfolding ascii
-returns c =
-    (
-      and_one _ _ _ _ _ (and_one _ _ _ _ _ (and_one _ _ _ _ _ (and_one _ _ _ _ _ c.put_count-a.ensures c.put_bytes-b.ensures) c.put_hex-c.ensures) c.put_bytes-d.ensures) c.put_length.ensures.0,
-      (omega arith, omega arith, c.put_length.ensures.1),
-    )
+returns c = (
+  and_one _ _ _ _ _ (and_one _ _ _ _ _ (and_one _ _ _ _ _ (and_one _ _ _ _ _ c.put_count-a.ensures c.put_bytes-b.ensures) c.put_hex-c.ensures) c.put_bytes-d.ensures) c.put_length.ensures.0,
+  (omega arith, omega arith, c.put_length.ensures.1),
+)
 
 pub put_address_spec : {M : Type 1} → statement M
 put_address_spec =

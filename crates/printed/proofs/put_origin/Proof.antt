@@ -9,11 +9,10 @@ use Rattle.printed.proofs.put_origin.Tie as tie
 
 returns : tie.Need-returns
 unfolding ascii
-returns c =
-    (
-      and_one _ _ _ _ _ (and_all _ _ _ _ _ (just _ _ _ c.put_kind-k.ensures) c.put_count-p.ensures) c.put_bytes.ensures,
-      omega (arith, c.struct_known-1.given),
-    )
+returns c = (
+  and_one _ _ _ _ _ (and_all _ _ _ _ _ (just _ _ _ c.put_kind-k.ensures) c.put_count-p.ensures) c.put_bytes.ensures,
+  omega (arith, c.struct_known-1.given),
+)
 
 pub put_origin_spec : {M : Type 1} → statement M
 put_origin_spec =

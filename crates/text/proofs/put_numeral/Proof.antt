@@ -9,14 +9,13 @@ use Rattle.text.proofs.put_numeral.Statement.{statement}
 use Rattle.text.proofs.put_numeral.Tie as tie
 
 spell-requires : tie.Need-spell-requires
-spell-requires c κs =
-    (
-      c.requires,
-      (
-        c.digits-count.ensures,
-        omega (arith, room_in _ _ _ _ (ap told_place (sym c.in-At.is) ∙ c.room.ensures)),
-      ),
-    )
+spell-requires c κs = (
+  c.requires,
+  (
+    c.digits-count.ensures,
+    omega (arith, room_in _ _ _ _ (ap told_place (sym c.in-At.is) ∙ c.room.ensures)),
+  ),
+)
 
 add-t14 : tie.Need-overflow_add-result
 add-t14 c =
