@@ -1,7 +1,7 @@
 -- The body of a FILE_CHECKSUMS subsection: entries one after the other, each padded to 4 from the start of the body. Source: cvinfo.h,
 -- checksum entry (name offset in the string table, size u8, kind u8, bytes, padding) and `CV_SourceChksum_t` (NONE 0, MD5 1, SHA1 2,
 -- SHA_256 3); document 01, "Checksums, inlinees": head or bytes 1, kind above 3 is 3, missing padding 1; any size is read.
--- Definitions only; a reader must believe them, but for `zeros`, `checksum_bytes`: `decided` (round_trip Decided) says what these mean.
+-- Definitions only; a reader must believe them, but for `zeros`, `checksum_bytes`: `decided` (round_trip DecidedHolds) says what these mean.
 use Rattle.std.specs.Prelude.{ℕ, zero, suc, ◌+◌, ◌-◌, ◌*◌, ◌/◌, List, [], ◌∷◌, ◌++◌, cond, length, take, drop, get_or, ltb, eqb}
 use Rattle.word.specs.Word.{u32_at, le32}
 use Rattle.walk.specs.Listing.{Move, item, over, fail, Listing, all}

@@ -1,6 +1,6 @@
 -- The body of a CROSS_SCOPE_EXPORTS subsection: pairs one after the other. Source: cvinfo.h, `LocalIdAndGlobalIdPair` (localId, globalId);
 -- document 01, "Cross-module tables" and number 4: a body that is no multiple of 8 bytes has none.
--- Definitions only; a reader must believe them, but for `pair_bytes`: `decided` (round_trip Decided) says what it means.
+-- Definitions only; a reader must believe them, but for `pair_bytes`: `decided` (round_trip DecidedHolds) says what it means.
 use Rattle.std.specs.Prelude.{ℕ, ◌%◌, List, ◌++◌, cond, length, drop, ltb, eqb}
 use Rattle.word.specs.Word.{u32_at, le32}
 use Rattle.walk.specs.Listing.{Move, item, over, fail, Listing, fails, all}

@@ -1,6 +1,6 @@
 -- The body of a CROSS_SCOPE_IMPORTS subsection: modules one after the other. Source: cvinfo.h, `CrossScopeReferences` (externalScope, a name
 -- offset; countOfCrossReferences; that many ids); document 01, "Cross-module tables": until the body is filled, else 1.
--- Definitions only; a reader must believe them, but for `module_bytes`: `decided` (round_trip Decided) says what it means.
+-- Definitions only; a reader must believe them, but for `module_bytes`: `decided` (round_trip DecidedHolds) says what it means.
 use Rattle.std.specs.Prelude.{ℕ, ◌+◌, ◌-◌, ◌*◌, List, ◌++◌, cond, length, drop, ltb, eqb}
 use Rattle.word.specs.Word.{u32_at, le32}
 use Rattle.walk.specs.Listing.{Move, item, over, fail, Listing, all}

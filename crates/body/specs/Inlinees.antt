@@ -2,8 +2,8 @@
 -- `CV_INLINEE_SOURCE_LINE_SIGNATURE` 0 and `_EX` 1, `InlineeSourceLine` (inlinee, fileId, sourceLineNum), `InlineeSourceLineEx` (inlinee, fileId,
 -- sourceLineNum, countOfExtraFiles and that many fileIds); document 01, "Checksums, inlinees": whatever is cut is 1, and only the signature 1 has
 -- extra files.
--- Definitions only; a reader must believe them, but for `extra_bytes`, `inlinee_bytes`: `decided` (round_trip Decided) says what these mean; for `extra_length`:
--- contracts of inner calls alone cite it.
+-- Definitions only; a reader must believe them, but for `extra_bytes`, `inlinee_bytes`: `decided` (round_trip DecidedHolds) says what these mean; for
+-- `extra_length`: contracts of inner calls alone cite it.
 use Rattle.std.specs.Prelude.{ℕ, ◌+◌, ◌-◌, ◌*◌, List, [], ◌++◌, Bool, true, false, cond, length, drop, ltb, eqb}
 use Rattle.word.specs.Word.{u32_at, le32}
 use Rattle.walk.specs.Listing.{Move, item, over, fail, Listing, all}

@@ -2,7 +2,7 @@
 -- u16, flags u16, cbCon), `CV_LINES_HAVE_COLUMNS` (bit 0), `CV_DebugSLinesFileBlockHeader_t` (offFile, nLines, cbBlock, which counts this
 -- header; then nLines of `CV_Line_t`, then, with columns, nLines of `CV_Column_t`); document 01, "Line subsections", for the order of the
 -- tests: header whole 1, size at least 12 else 7, data present 1, lines and columns inside the data else 7; bytes over are ignored.
--- Definitions only; a reader must believe them, but for `line_head_bytes`, `block_bytes`: `decided` (round_trip Decided) says what these mean.
+-- Definitions only; a reader must believe them, but for `line_head_bytes`, `block_bytes`: `decided` (round_trip DecidedHolds) says what these mean.
 use Rattle.std.specs.Prelude.{ℕ, ◌+◌, ◌-◌, ◌*◌, ◌/◌, ◌%◌, List, ◌++◌, Bool, true, false, cond, length, drop, ltb, eqb}
 use Rattle.word.specs.Word.{u16_at, u32_at, le16, le32}
 use Rattle.walk.specs.Listing.{Move, item, over, fail, Listing, all}

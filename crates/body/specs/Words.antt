@@ -1,6 +1,6 @@
 -- Runs of words of four bytes: as bytes spell them, and as bytes are made of them. Source: document 01, "Area and subsections": words are
 -- little-endian.
--- Definitions only; a reader must believe them, but for `word_bytes`: `decided` (round_trip Decided) says what it means.
+-- Definitions only; a reader must believe them, but for `word_bytes`: `decided` (round_trip DecidedHolds) says what it means.
 use Rattle.std.specs.Prelude.{ℕ, zero, suc, List, [], ◌∷◌, ◌++◌, drop}
 use Rattle.word.specs.Word.{u32_at, le32}
 

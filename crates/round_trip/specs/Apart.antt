@@ -1,7 +1,7 @@
 -- Writing apart: a run of the writer's calls in which each subsection is written as an area of its own, at the end of what is written. A call is lent the
 -- buffer from its subsection on, as far as an area may reach, and so tests no more of what is written than that subsection. Source: document 01,
 -- "Writer and plain areas", and DECISIONS.md on areas written apart. The Rust `Writer` calls in this way (rust/src/writer.rs).
--- Definitions only; `same_apart` (round_trip Joined) says what they mean.
+-- Definitions only; `same_apart` (round_trip JoinedHolds) says what they mean.
 use Rattle.std.specs.Prelude.{ℕ, ◌+◌, ◌-◌, List, [], ◌∷◌, ◌++◌, cond, take, drop}
 use Rattle.walk.specs.Listing.{Reply, gave, nothing, refused}
 use Rattle.refusal.specs.Told.{Told, longest}

@@ -1,7 +1,7 @@
 -- The writer's calls: what each answers, and the buffer after it. A call is an item of the full reading. Source: document 01, "Writer and plain
 -- areas", and numbers 10, 16, 17 of its table; the order of refusals is 16, 17, 10.
--- Definitions only; a reader must believe them, but for `bytes_for` to `Act`, `place` to `buffer_after`, `open_act`, `grow_act`: `decided` (round_trip Decided)
--- says what these mean.
+-- Definitions only; a reader must believe them, but for `bytes_for` to `Act`, `place` to `buffer_after`, `open_act`, `grow_act`: `decided`
+-- (round_trip DecidedHolds) says what these mean.
 use Rattle.std.specs.Prelude.{ℕ, ◌+◌, ◌-◌, ◌/◌, ◌%◌, min, List, [], ◌++◌, Bool, true, cond, ◌&&◌, length, take, leb, eqb}
 use Rattle.std.proofs.Math.Option.{Option, none, some}
 use Rattle.word.specs.Word.{le32, put, header}
