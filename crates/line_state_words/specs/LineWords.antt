@@ -13,7 +13,7 @@ use Rattle.line_record.specs.Told.{told_length, told_column, told_line_kind}
 use Rattle.line_record.specs.declared.EndLines.{EndLines}
 use Rattle.line_record.specs.declared.EndLines.TheVariants.{Crate, LowBits, Delta}
 use Rattle.line_record.specs.declared.Length.{Length}
-use Rattle.line_record.specs.declared.Length.TheVariants as length
+use Rattle.line_record.specs.declared.Length.TheVariants as lengths
 use Rattle.line_record.specs.declared.Column.{Column}
 use Rattle.line_record.specs.declared.Column.TheVariants as column
 use Rattle.line_record.specs.declared.LineKind.{LineKind}
@@ -87,7 +87,7 @@ abbrev pub u32_of : ℕ → ℕ
 u32_of x = x % 0x1_0000_0000
 
 abbrev pub length_of : ℕ → ℕ → Length
-length_of t n = cond (eqb t 0) length.Unset (length.Is (u32_of n))
+length_of t n = cond (eqb t 0) lengths.Unset (lengths.Is (u32_of n))
 
 abbrev pub column_of : ℕ → ℕ → Column
 column_of t n = cond (eqb t 0) column.None (column.At (u32_of n))
