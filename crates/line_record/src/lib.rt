@@ -110,7 +110,7 @@ fn end_from(start: u32, low: u32) -> u32
 }
 
 // The end line by a reading. The crate joins bits, and adds 128 where that lies below the start line; of the bits that it takes the step that adds is never
-// reached (`step_never` of specs/EndLineLaws.antt) and the end line is always the start line (`end_is_start`), so that is what is taken here. This is the one
+// reached (`step_never` of proofs/EndLineLaws.antt) and the end line is always the start line (`end_is_start`), so that is what is taken here. This is the one
 // place where an end line is read.
 pub fn end_line(how: EndLines, flags: u32) -> u32
     ensures { result ≡ end_line how flags }

@@ -1,2 +1,2 @@
-// What is demanded of the writer, and its proof: specs/Demand.antt. There is no code here.
+// What is demanded of the writer: specs/Demand.antt; that it holds: proofs/DemandHolds.antt. There is no code here.
 #![tactic(auto)]
