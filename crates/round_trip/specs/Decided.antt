@@ -1,7 +1,7 @@
 -- EVERY CALL OF THE WRITER, in the words of plain areas: for every call, every buffer and every place, also one that no call answered, what is answered and
 -- what is left. It says what `writer_decides` Calls means, which the contracts of the writer's functions cite.
 --
--- To check what is said here a reader needs Listed.antt and InWords.antt of this crate (plain areas; `in_words_lem` and `listed_in_words` of InWordsLaws say
+-- To check what is said here a reader needs Listed.antt and InWords.antt of this crate (plain areas; `in_words` and `listed_in_words` of InWordsLaws say
 -- that `Plain` is what document 01 says in words; above 16,777,216 bytes also Plain.antt of `plain`), Reading.antt of `reading` and, of Calls.antt of
 -- `writer_decides`, `item_kind` and `limit`, and no proof. The statement is `Decided`; DecidedHolds.antt of proofs/ proves it. What stands behind the written
 -- bytes is as it was: `Careful` of Demand. That the bytes of a plain area are those that the writer makes of what it lists is `MadeAgain` of Demand.

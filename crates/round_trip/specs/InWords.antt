@@ -1,5 +1,5 @@
 -- PLAIN in the words of document 01: the full reading refuses nothing, and six rules hold on what it lists and on the bytes. Plain.antt of `plain` says the
--- same in one walk, with what a writer has to know of the last subsection; that the two are one is `in_words_lem` of InWordsLaws. Source: document 01, "Writer
+-- same in one walk, with what a writer has to know of the last subsection; that the two are one is `in_words` of InWordsLaws. Source: document 01, "Writer
 -- and plain areas".
 -- Definitions only; a reader must believe them.
 use Rattle.std.specs.Prelude.{ℕ, ◌+◌, ◌%◌, ◌≤◌, ◌<◌, ◌≡◌, ◌⊎◌, List, Bool, length, drop, get_or}
