@@ -18,15 +18,6 @@ invariant-loop records₀ at words i₀ records i = (records ≡ paste records�
 abbrev decreases-loop : tie.decreases-loop-i
 decreases-loop records₀ at words i₀ records i = length words - i
 
-loop-holds : tie.Need-loop-i-init invariant-loop decreases-loop
-loop-holds c =
-    let a = c.args in
-    (paste-zero a.records.now a.at a.words.now, search rules, search rules)
-
-loop-again : tie.Need-loop-i-preserved invariant-loop decreases-loop
-loop-again c =
-    (copied_turn _ _ _ _ _ c.loop-i.invariant.0 (omega arith) (omega arith), search rules, simp length-set c.loop-i.invariant.2)
-
 pub put32_spec : {M : Type 1} → statement M
 put32_spec =
     tie.close
@@ -36,7 +27,9 @@ put32_spec =
     (λ c. (gives_short _ (given 1 _ _) (omega arith)).words)
     (λ c. search rules)
     (λ c. (gives_short _ (given 1 _ _) (omega arith)).words)
-    loop-holds
+    (λ c.
+    let a = c.args in
+    (paste-zero a.records.now a.at a.words.now, search rules, search rules))
     (λ c. search rules)
     (λ c. search rules)
     (λ c. search rules)
@@ -44,6 +37,7 @@ put32_spec =
     (λ c. search rules)
     (λ c. search rules)
     (λ c. search rules)
-    loop-again
+    (λ c.
+    (copied_turn _ _ _ _ _ c.loop-i.invariant.0 (omega arith) (omega arith), search rules, simp length-set c.loop-i.invariant.2))
     (λ c. search rules)
     (λ c. (gives_copied _ _ _ _ c.loop-i.i c.loop-i.invariant.0 1 (omega arith) (omega arith) (omega arith)).words))

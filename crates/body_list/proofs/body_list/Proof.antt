@@ -8,33 +8,21 @@ use Rattle.body_list.specs.BodyListLaws.{counted_starts, list_refused, list_shor
 use Rattle.body_list.proofs.body_list.Statement.{statement}
 use Rattle.body_list.proofs.body_list.Tie as tie
 
-returns : tie.Need-returns-then-bodies-n
-returns c =
-    let a = c.args in
-    list_short _ _ a.bodies.now _ (ap told_counted (sym c.in-Lines.is) ∙ c.count_lines.ensures) (omega arith)
-
-fill-requires : tie.Need-fill-requires
-fill-requires c κs =
-    omega (arith, counted_starts _ _ _ (ap told_counted (sym c.in-Lines.is) ∙ c.count_lines.ensures))
-
-returns-2 : tie.Need-returns-else-bodies-n
-returns-2 c =
-    let a = c.args in
-    list_all _ _ a.bodies.now _ (ap told_counted (sym c.in-Lines.is) ∙ c.count_lines.ensures) (omega arith) _ c.fill.ensures
-
-returns-3 : tie.Need-returns-in-Refused
-returns-3 c =
-    list_refused _ _ _ _ (ap told_counted (sym c.in-Refused.is) ∙ c.count_lines.ensures)
-
 pub body_list_spec : {M : Type 1} → statement M
 body_list_spec =
     tie.close
     (tie.spec
     (λ c κs. search rules)
     (λ c. search rules)
-    returns
-    fill-requires
+    (λ c.
+    let a = c.args in
+    list_short _ _ a.bodies.now _ (ap told_counted (sym c.in-Lines.is) ∙ c.count_lines.ensures) (omega arith))
+    (λ c κs.
+    omega (arith, counted_starts _ _ _ (ap told_counted (sym c.in-Lines.is) ∙ c.count_lines.ensures)))
     (λ c. search rules)
     (λ c. search rules)
-    returns-2
-    returns-3)
+    (λ c.
+    let a = c.args in
+    list_all _ _ a.bodies.now _ (ap told_counted (sym c.in-Lines.is) ∙ c.count_lines.ensures) (omega arith) _ c.fill.ensures)
+    (λ c.
+    list_refused _ _ _ _ (ap told_counted (sym c.in-Refused.is) ∙ c.count_lines.ensures)))

@@ -18,17 +18,6 @@ invariant-loop bodies body from₀ to₀ from to = (to ≤ length bodies) × (ha
 abbrev decreases-loop : tie.decreases-loop-from
 decreases-loop bodies body from₀ to₀ from to = to - from
 
-returns : tie.Need-returns-then-at-body invariant-loop decreases-loop
-returns c = halved_here _ _ _ _ c.loop-from-test.true c.if-at-body.true ∙ c.loop-from.invariant.1
-
-loop-again : tie.Need-loop-from-preserved-then-at-body-2 invariant-loop decreases-loop
-loop-again c =
-    (omega arith, halved_back _ _ _ _ c.loop-from-test.true c.if-at-body.false c.if-at-body-2.true ∙ c.loop-from.invariant.1)
-
-loop-again-2 : tie.Need-loop-from-preserved invariant-loop decreases-loop
-loop-again-2 c =
-    (omega arith, halved_front _ _ _ _ c.loop-from-test.true c.if-at-body.false c.if-at-body-2.false ∙ c.loop-from.invariant.1)
-
 pub halved_spec : {M : Type 1} → statement M
 halved_spec =
     tie.close
@@ -41,10 +30,12 @@ halved_spec =
     (λ c. search rules)
     (λ c. search rules)
     (λ c. Fits-32_64 (c.shared_slice_known-1.given _))
-    returns
+    (λ c. halved_here _ _ _ _ c.loop-from-test.true c.if-at-body.true ∙ c.loop-from.invariant.1)
     (λ c. search rules)
     (λ c. search rules)
-    loop-again
+    (λ c.
+    (omega arith, halved_back _ _ _ _ c.loop-from-test.true c.if-at-body.false c.if-at-body-2.true ∙ c.loop-from.invariant.1))
     (λ c. search rules)
-    loop-again-2
+    (λ c.
+    (omega arith, halved_front _ _ _ _ c.loop-from-test.true c.if-at-body.false c.if-at-body-2.false ∙ c.loop-from.invariant.1))
     (λ c. halved_none _ _ _ _ c.loop-from-test.false ∙ c.loop-from.invariant.1))

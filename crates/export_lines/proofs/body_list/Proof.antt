@@ -10,24 +10,11 @@ use Rattle.answer_words.specs.GivenLaws.{gives_as, room_changes, room_keeps}
 use Rattle.export_lines.proofs.body_list.Statement.{statement}
 use Rattle.export_lines.proofs.body_list.Tie as tie
 
-returns : tie.Need-returns-then-out-lt-REFUSAL_WORDS
-returns c = room_keeps refusal_size _ _ _ _ (omega arith)
-
-returns-2 : tie.Need-returns-in-Lines
-returns-2 c =
-    let l = c.body_list.ensures in
-    room_changes refusal_size _ _ _ _ (omega arith) (gives_as (reply_given one) (ap told_counted (sym c.in-Lines.is) ∙ l.0) c.put.ensures) l.1
-
-returns-3 : tie.Need-returns-in-Refused
-returns-3 c =
-    let l = c.body_list.ensures in
-    room_changes refusal_size _ _ _ _ (omega arith) (gives_as (reply_given one) (ap told_counted (sym c.in-Refused.is) ∙ l.0) c.put_refusal.ensures) l.1
-
 pub body_list_spec : {M : Type 1} → statement M
 body_list_spec =
     tie.close
     (tie.spec
-    returns
+    (λ c. room_keeps refusal_size _ _ _ _ (omega arith))
     (λ c κs. search rules)
     (λ c. search rules)
     (λ c. search rules)
@@ -36,7 +23,11 @@ body_list_spec =
     (λ c κs. search rules)
     (λ c. search rules)
     (λ c. search rules)
-    returns-2
+    (λ c.
+    let l = c.body_list.ensures in
+    room_changes refusal_size _ _ _ _ (omega arith) (gives_as (reply_given one) (ap told_counted (sym c.in-Lines.is) ∙ l.0) c.put.ensures) l.1)
     (λ c. search rules)
     (λ c. search rules)
-    returns-3)
+    (λ c.
+    let l = c.body_list.ensures in
+    room_changes refusal_size _ _ _ _ (omega arith) (gives_as (reply_given one) (ap told_counted (sym c.in-Refused.is) ∙ l.0) c.put_refusal.ensures) l.1))

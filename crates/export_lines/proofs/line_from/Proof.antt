@@ -12,21 +12,6 @@ use Rattle.export_lines.specs.OneLaws.{one_none, one_refused, one_line}
 use Rattle.export_lines.proofs.line_from.Statement.{statement}
 use Rattle.export_lines.proofs.line_from.Tie as tie
 
-returns : tie.Need-returns-in-Lines
-returns c =
-    let l = c.next_lines.ensures in
-    one_line crate_rule _ _ (replicate record_size 0) refl _ _ _ _ (ap told_lines (sym c.in-Lines.is) ∙ l.0) l.1 _ _ _ c.put_line.ensures
-
-returns-2 : tie.Need-returns-in-None
-returns-2 c =
-    let l = c.next_lines.ensures in
-    gives_as (step_given state_size line_words) (one_none crate_rule _ _ (replicate record_size 0) refl _ (ap told_lines (sym c.in-None.is) ∙ l.0)) (gives_none _)
-
-returns-3 : tie.Need-returns-in-Refused
-returns-3 c =
-    let l = c.next_lines.ensures in
-    gives_as (step_given state_size line_words) (one_refused crate_rule _ _ (replicate record_size 0) refl _ _ (ap told_lines (sym c.in-Refused.is) ∙ l.0)) c.put_refusal.ensures
-
 pub line_from_spec : {M : Type 1} → statement M
 line_from_spec =
     tie.close
@@ -40,7 +25,13 @@ line_from_spec =
     (λ c. search rules)
     (λ c κs. search rules)
     (λ c. search rules)
-    returns
-    returns-2
+    (λ c.
+    let l = c.next_lines.ensures in
+    one_line crate_rule _ _ (replicate record_size 0) refl _ _ _ _ (ap told_lines (sym c.in-Lines.is) ∙ l.0) l.1 _ _ _ c.put_line.ensures)
+    (λ c.
+    let l = c.next_lines.ensures in
+    gives_as (step_given state_size line_words) (one_none crate_rule _ _ (replicate record_size 0) refl _ (ap told_lines (sym c.in-None.is) ∙ l.0)) (gives_none _))
     (λ c. search rules)
-    returns-3)
+    (λ c.
+    let l = c.next_lines.ensures in
+    gives_as (step_given state_size line_words) (one_refused crate_rule _ _ (replicate record_size 0) refl _ _ (ap told_lines (sym c.in-Refused.is) ∙ l.0)) c.put_refusal.ensures))

@@ -12,26 +12,6 @@ use Rattle.answer_words.specs.GivenLaws.{gives_as, gives_chosen, gives_unchosen}
 use Rattle.export_lines.proofs.lines_for_symbol.Statement.{statement}
 use Rattle.export_lines.proofs.lines_for_symbol.Tie as tie
 
-returns : tie.Need-returns-in_default
-returns c =
-    let a = c.args in
-    gives_unchosen (λ how. reply_given line_walk_words (symbol_walk how crate_rule a.area.now a.slots.now a.section a.offset)) _
-    (ap told_how (sym c.in_default.is) ∙ c.how_named.ensures)
-
-returns-2 : tie.Need-returns-in-Lines
-returns-2 c =
-    let a = c.args in
-    let e = ap told_symbol (sym c.in-Lines.is) ∙ c.lines_for_symbol.ensures in
-    gives_chosen (λ how. reply_given line_walk_words (symbol_walk how crate_rule a.area.now a.slots.now a.section a.offset)) _ _
-    (ap told_how (sym c.in-Is.is) ∙ c.how_named.ensures) (gives_as (reply_given line_walk_words) e c.put_line_walk.ensures)
-
-returns-3 : tie.Need-returns-in-Refused
-returns-3 c =
-    let a = c.args in
-    let e = ap told_symbol (sym c.in-Refused.is) ∙ c.lines_for_symbol.ensures in
-    gives_chosen (λ how. reply_given line_walk_words (symbol_walk how crate_rule a.area.now a.slots.now a.section a.offset)) _ _
-    (ap told_how (sym c.in-Is.is) ∙ c.how_named.ensures) (gives_as (reply_given line_walk_words) e c.put_refusal.ensures)
-
 pub lines_for_symbol_spec : {M : Type 1} → statement M
 lines_for_symbol_spec =
     tie.close
@@ -39,13 +19,24 @@ lines_for_symbol_spec =
     (λ c κs. search rules)
     (λ c. search rules)
     (λ c. search rules)
-    returns
+    (λ c.
+    let a = c.args in
+    gives_unchosen (λ how. reply_given line_walk_words (symbol_walk how crate_rule a.area.now a.slots.now a.section a.offset)) _
+    (ap told_how (sym c.in_default.is) ∙ c.how_named.ensures))
     (λ c κs. search rules)
     (λ c. search rules)
     (λ c κs. search rules)
     (λ c. search rules)
     (λ c κs. search rules)
     (λ c. search rules)
-    returns-2
+    (λ c.
+    let a = c.args in
+    let e = ap told_symbol (sym c.in-Lines.is) ∙ c.lines_for_symbol.ensures in
+    gives_chosen (λ how. reply_given line_walk_words (symbol_walk how crate_rule a.area.now a.slots.now a.section a.offset)) _ _
+    (ap told_how (sym c.in-Is.is) ∙ c.how_named.ensures) (gives_as (reply_given line_walk_words) e c.put_line_walk.ensures))
     (λ c. search rules)
-    returns-3)
+    (λ c.
+    let a = c.args in
+    let e = ap told_symbol (sym c.in-Refused.is) ∙ c.lines_for_symbol.ensures in
+    gives_chosen (λ how. reply_given line_walk_words (symbol_walk how crate_rule a.area.now a.slots.now a.section a.offset)) _ _
+    (ap told_how (sym c.in-Is.is) ∙ c.how_named.ensures) (gives_as (reply_given line_walk_words) e c.put_refusal.ensures)))

@@ -10,26 +10,11 @@ use Rattle.answer_words.specs.GivenLaws.{gives_as, room_changes, room_keeps}
 use Rattle.export_tables.proofs.import_list.Statement.{statement}
 use Rattle.export_tables.proofs.import_list.Tie as tie
 
-returns : tie.Need-returns-then-out-lt-REFUSAL_WORDS
-returns c = room_keeps refusal_size _ _ _ _ (omega arith)
-
-returns-2 : tie.Need-returns-in-Modules
-returns-2 c =
-    let l = c.import_list.ensures in
-    let e = ap told_list (sym c.in-Modules.is) ∙ l.0 in
-    room_changes refusal_size _ _ _ _ (omega arith) (gives_as (reply_given one) e c.put.ensures) l.1
-
-returns-3 : tie.Need-returns-in-Refused
-returns-3 c =
-    let l = c.import_list.ensures in
-    let e = ap told_list (sym c.in-Refused.is) ∙ l.0 in
-    room_changes refusal_size _ _ _ _ (omega arith) (gives_as (reply_given one) e c.put_refusal.ensures) l.1
-
 pub import_list_spec : {M : Type 1} → statement M
 import_list_spec =
     tie.close
     (tie.spec
-    returns
+    (λ c. room_keeps refusal_size _ _ _ _ (omega arith))
     (λ c κs. search rules)
     (λ c. search rules)
     (λ c. search rules)
@@ -38,7 +23,13 @@ import_list_spec =
     (λ c κs. search rules)
     (λ c. search rules)
     (λ c. search rules)
-    returns-2
+    (λ c.
+    let l = c.import_list.ensures in
+    let e = ap told_list (sym c.in-Modules.is) ∙ l.0 in
+    room_changes refusal_size _ _ _ _ (omega arith) (gives_as (reply_given one) e c.put.ensures) l.1)
     (λ c. search rules)
     (λ c. search rules)
-    returns-3)
+    (λ c.
+    let l = c.import_list.ensures in
+    let e = ap told_list (sym c.in-Refused.is) ∙ l.0 in
+    room_changes refusal_size _ _ _ _ (omega arith) (gives_as (reply_given one) e c.put_refusal.ensures) l.1))

@@ -11,26 +11,13 @@ use Rattle.export_write.specs.CallsLaws.{plain_long, plain_short}
 use Rattle.export_write.proofs.plain.Statement.{statement}
 use Rattle.export_write.proofs.plain.Tie as tie
 
-returns : tie.Need-returns-then-area-gt-LONGEST
-returns c = gives_as (λ (g : Given). g) (plain_long _ (omega arith)) c.put_refusal.ensures
-
-returns-2 : tie.Need-returns-in-Yes
-returns-2 c =
-    let p = ap told_plain (sym c.in-Yes.is) ∙ c.is_plain.ensures in
-    gives_as (λ (g : Given). g) (ap last_given p ∙ plain_short _ (omega arith)) c.put.ensures
-
-returns-3 : tie.Need-returns-in-No
-returns-3 c =
-    let p = ap told_plain (sym c.in-No.is) ∙ c.is_plain.ensures in
-    gives_as (λ (g : Given). g) (ap last_given p ∙ plain_short _ (omega arith)) (gives_none _)
-
 pub plain_spec : {M : Type 1} → statement M
 plain_spec =
     tie.close
     (tie.spec
     (λ c κs. search rules)
     (λ c. search rules)
-    returns
+    (λ c. gives_as (λ (g : Given). g) (plain_long _ (omega arith)) c.put_refusal.ensures)
     (λ c κs. search rules)
     (λ c. search rules)
     (λ c. search rules)
@@ -38,5 +25,9 @@ plain_spec =
     (λ c κs. search rules)
     (λ c. search rules)
     (λ c. search rules)
-    returns-2
-    returns-3)
+    (λ c.
+    let p = ap told_plain (sym c.in-Yes.is) ∙ c.is_plain.ensures in
+    gives_as (λ (g : Given). g) (ap last_given p ∙ plain_short _ (omega arith)) c.put.ensures)
+    (λ c.
+    let p = ap told_plain (sym c.in-No.is) ∙ c.is_plain.ensures in
+    gives_as (λ (g : Given). g) (ap last_given p ∙ plain_short _ (omega arith)) (gives_none _)))

@@ -6,10 +6,6 @@ use Rattle.exports.specs.InBodyLaws.{export_long, export_odd, export_past, expor
 use Rattle.exports.proofs.export_at.Statement.{statement}
 use Rattle.exports.proofs.export_at.Tie as tie
 
-returns-4 : tie.Need-returns
-returns-4 c =
-    export_there _ _ (omega arith) (omega arith) c.if-len-i.false _ _ c.word_at.ensures c.word_at-2.ensures _ c.export_of.ensures
-
 pub export_at_spec : {M : Type 1} → statement M
 export_at_spec =
     tie.close
@@ -22,4 +18,5 @@ export_at_spec =
     (λ c. search rules)
     (λ c κs. search rules)
     (λ c κs. search rules)
-    returns-4)
+    (λ c.
+    export_there _ _ (omega arith) (omega arith) c.if-len-i.false _ _ c.word_at.ensures c.word_at-2.ensures _ c.export_of.ensures))

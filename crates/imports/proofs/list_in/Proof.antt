@@ -8,36 +8,24 @@ use Rattle.imports.specs.ListedLaws.{places_number, list_refused, list_short, li
 use Rattle.imports.proofs.list_in.Statement.{statement}
 use Rattle.imports.proofs.list_in.Tie as tie
 
-returns : tie.Need-returns-then-places-n
-returns c =
-    let a = c.args in
-    list_short a.start _ a.places.now _ (ap told_list (sym c.in-Modules.is) ∙ c.count_modules.ensures) (omega arith)
-
-put-places-requires : tie.Need-put_places-requires
-put-places-requires c κs =
-    let a = c.args in
-    (omega arith, omega (arith, places_number a.start _ a.places.now _ (ap told_list (sym c.in-Modules.is) ∙ c.count_modules.ensures)))
-
-returns-2 : tie.Need-returns-else-places-n
-returns-2 c =
-    let a = c.args in
-    list_room a.start _ a.places.now _ (ap told_list (sym c.in-Modules.is) ∙ c.count_modules.ensures) (omega arith) _
-    c.put_places.ensures
-
-returns-3 : tie.Need-returns-in-Refused
-returns-3 c =
-    let a = c.args in
-    list_refused a.start _ a.places.now _ (ap told_list (sym c.in-Refused.is) ∙ c.count_modules.ensures)
-
 pub list_in_spec : {M : Type 1} → statement M
 list_in_spec =
     tie.close
     (tie.spec
     (λ c κs. search rules)
     (λ c. search rules)
-    returns
-    put-places-requires
+    (λ c.
+    let a = c.args in
+    list_short a.start _ a.places.now _ (ap told_list (sym c.in-Modules.is) ∙ c.count_modules.ensures) (omega arith))
+    (λ c κs.
+    let a = c.args in
+    (omega arith, omega (arith, places_number a.start _ a.places.now _ (ap told_list (sym c.in-Modules.is) ∙ c.count_modules.ensures))))
     (λ c. search rules)
     (λ c. search rules)
-    returns-2
-    returns-3)
+    (λ c.
+    let a = c.args in
+    list_room a.start _ a.places.now _ (ap told_list (sym c.in-Modules.is) ∙ c.count_modules.ensures) (omega arith) _
+    c.put_places.ensures)
+    (λ c.
+    let a = c.args in
+    list_refused a.start _ a.places.now _ (ap told_list (sym c.in-Refused.is) ∙ c.count_modules.ensures)))

@@ -7,17 +7,6 @@ use Rattle.imports.specs.ListedLaws.{at_short, at_cut, at_none, at_word}
 use Rattle.imports.proofs.ref_at.Statement.{statement}
 use Rattle.imports.proofs.ref_at.Tie as tie
 
-returns-2 : tie.Need-returns-then-area-words-2
-returns-2 c = at_cut _ _ _ (omega arith) _ c.word_at-count.ensures (omega arith)
-
-returns-3 : tie.Need-returns-then-count-id
-returns-3 c = at_none _ _ _ (omega arith) _ c.word_at-count.ensures (omega arith) c.if-count-id.true
-
-returns-4 : tie.Need-returns
-returns-4 c =
-    at_word _ _ _ (omega arith) _ c.word_at-count.ensures (omega arith) _ _ _ refl c.if-count-id.false
-    c.word_at.ensures c.word_at-2.ensures
-
 pub ref_at_spec : {M : Type 1} → statement M
 ref_at_spec =
     tie.close
@@ -28,12 +17,14 @@ ref_at_spec =
     (λ c κs. search rules)
     (λ c. search rules)
     (λ c. search rules)
-    returns-2
+    (λ c. at_cut _ _ _ (omega arith) _ c.word_at-count.ensures (omega arith))
     (λ c. search rules)
-    returns-3
-    (λ c. search rules)
-    (λ c κs. search rules)
-    (λ c. search rules)
+    (λ c. at_none _ _ _ (omega arith) _ c.word_at-count.ensures (omega arith) c.if-count-id.true)
     (λ c. search rules)
     (λ c κs. search rules)
-    returns-4)
+    (λ c. search rules)
+    (λ c. search rules)
+    (λ c κs. search rules)
+    (λ c.
+    at_word _ _ _ (omega arith) _ c.word_at-count.ensures (omega arith) _ _ _ refl c.if-count-id.false
+    c.word_at.ensures c.word_at-2.ensures))

@@ -6,9 +6,6 @@ use Rattle.line_step.specs.TurnLaws.{enter_outside, enter_short, enter_in}
 use Rattle.line_step.proofs.enter.Statement.{statement}
 use Rattle.line_step.proofs.enter.Tie as tie
 
-returns-4 : tie.Need-returns
-returns-4 c = enter_in _ _ _ _ (omega arith) (omega arith) _ _ _ (add-sub_cancel_left _ _) c.header_of-h.ensures c.place_at.ensures
-
 pub enter_spec : {M : Type 1} → statement M
 enter_spec =
     tie.close
@@ -24,4 +21,4 @@ enter_spec =
     (λ c κs. search rules)
     (λ c. search rules)
     (λ c κs. search rules)
-    returns-4)
+    (λ c. enter_in _ _ _ _ (omega arith) (omega arith) _ _ _ (add-sub_cancel_left _ _) c.header_of-h.ensures c.place_at.ensures))

@@ -5,25 +5,19 @@ use Rattle.line_step.specs.TurnLaws.{inside_past, inside_behind, inside_block, i
 use Rattle.line_step.proofs.inside_turn.Statement.{statement}
 use Rattle.line_step.proofs.inside_turn.Tie as tie
 
-slice-aggregate-block-turn : tie.Need-slice_bounds-block_turn-end
-slice-aggregate-block-turn c =
-    let a = c.args in
-    sym (length-take-le a.p.end a.area.now (omega arith))
-
-slice-aggregate-line-turn : tie.Need-slice_bounds-line_turn-end
-slice-aggregate-line-turn c =
-    let a = c.args in
-    sym (length-take-le a.p.end a.area.now (omega arith))
-
 pub inside_turn_spec : {M : Type 1} → statement M
 inside_turn_spec =
     tie.close
     (tie.spec
     (λ c. inside_past _ _ _ (omega arith))
     (λ c. inside_behind _ _ _ (omega arith) (omega arith))
-    slice-aggregate-block-turn
+    (λ c.
+    let a = c.args in
+    sym (length-take-le a.p.end a.area.now (omega arith)))
     (λ c κs. search rules)
     (λ c. c.block_turn.ensures ∙ inside_block _ _ _ (omega arith) (omega arith) (omega arith))
-    slice-aggregate-line-turn
+    (λ c.
+    let a = c.args in
+    sym (length-take-le a.p.end a.area.now (omega arith)))
     (λ c κs. search rules)
     (λ c. c.line_turn.ensures ∙ inside_line _ _ _ (omega arith) (omega arith) (omega arith)))

@@ -7,14 +7,6 @@ use Rattle.line_step.specs.TurnLaws.{sub_is, sub_entered, sub_cut}
 use Rattle.line_step.proofs.sub_turn.Statement.{statement}
 use Rattle.line_step.proofs.sub_turn.Tie as tie
 
-returns : tie.Need-returns-in-In
-returns c =
-    sub_entered _ _ _ _ _ _ _ (omega (arith, c.well_formed)) (ap told_named (sym c.in-Body.is) ∙ c.slot_body.ensures) _ _ (ap told_entered (sym c.in-In.is) ∙ c.enter.ensures) c.behind_body-u.ensures
-
-returns-2 : tie.Need-returns-in-Refused-enter
-returns-2 c =
-    sub_cut _ _ _ _ _ _ _ (omega (arith, c.well_formed)) (ap told_named (sym c.in-Body.is) ∙ c.slot_body.ensures) _ (ap told_entered (sym c.in-Refused-enter.is) ∙ c.enter.ensures)
-
 pub sub_turn_spec : {M : Type 1} → statement M
 sub_turn_spec =
     tie.close
@@ -26,6 +18,8 @@ sub_turn_spec =
     (λ c κs. search rules)
     (λ c. search rules)
     (λ c. search rules)
-    returns
-    returns-2
+    (λ c.
+    sub_entered _ _ _ _ _ _ _ (omega (arith, c.well_formed)) (ap told_named (sym c.in-Body.is) ∙ c.slot_body.ensures) _ _ (ap told_entered (sym c.in-In.is) ∙ c.enter.ensures) c.behind_body-u.ensures)
+    (λ c.
+    sub_cut _ _ _ _ _ _ _ (omega (arith, c.well_formed)) (ap told_named (sym c.in-Body.is) ∙ c.slot_body.ensures) _ (ap told_entered (sym c.in-Refused-enter.is) ∙ c.enter.ensures))
     (λ c. sub_is _ _ _ _ _ _ (ap told_named (sym c.in-Refused.is) ∙ c.slot_body.ensures)))

@@ -6,14 +6,6 @@ use Rattle.lines.specs.BlocksLaws.{block_past, block_end, block_short, block_sma
 use Rattle.lines.proofs.block_at.Statement.{statement}
 use Rattle.lines.proofs.block_at.Tie as tie
 
-returns-6 : tie.Need-returns-then-size-line_bytes
-returns-6 c =
-    block_many _ _ _ (omega arith) (omega arith) (omega arith) (omega arith) (omega arith) _ _ c.u32_at-count.ensures c.line_bytes.ensures (omega arith)
-
-returns-7 : tie.Need-returns
-returns-7 c =
-    block_whole _ _ _ (omega arith) (omega arith) (omega arith) (omega arith) (omega arith) _ _ c.u32_at-count.ensures c.line_bytes.ensures (omega arith) _ _ c.u32_at-file.ensures c.u32_at-size.ensures
-
 pub block_at_spec : {M : Type 1} → statement M
 block_at_spec =
     tie.close
@@ -31,8 +23,10 @@ block_at_spec =
     (λ c. block_small _ _ _ (omega arith) (omega arith) (omega arith) (omega arith))
     (λ c. block_cut _ _ _ (omega arith) (omega arith) (omega arith) (omega arith) (omega arith))
     (λ c κs. search rules)
-    returns-6
+    (λ c.
+    block_many _ _ _ (omega arith) (omega arith) (omega arith) (omega arith) (omega arith) _ _ c.u32_at-count.ensures c.line_bytes.ensures (omega arith))
     (λ c. search rules)
     (λ c. search rules)
     (λ c. search rules)
-    returns-7)
+    (λ c.
+    block_whole _ _ _ (omega arith) (omega arith) (omega arith) (omega arith) (omega arith) _ _ c.u32_at-count.ensures c.line_bytes.ensures (omega arith) _ _ c.u32_at-file.ensures c.u32_at-size.ensures))

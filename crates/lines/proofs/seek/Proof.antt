@@ -21,39 +21,6 @@ invariant-loop area from body p₀ p = body_from crate_rule area p body ≡ body
 abbrev decreases-loop : tie.decreases-loop-kind
 decreases-loop area from body p₀ p = length area - p
 
-returns : tie.Need-returns-then-kind-eq-LINES invariant-loop decreases-loop
-returns c =
-    let e = ap told_step (sym c.in-Sub.is) ∙ c.sub_at.ensures in
-    seek_hit _ _ _ _ _ _ e c.if-start-body.true c.if-kind-eq-LINES.true ∙ c.loop-kind.invariant
-
-loop-less : tie.Need-loop-kind-smaller-else-kind-eq-LINES invariant-loop decreases-loop
-loop-less c =
-    let e = ap told_step (sym c.in-Sub.is) ∙ c.sub_at.ensures in
-    omega (arith, sub_next _ _ _ _ _ e)
-
-loop-again : tie.Need-loop-kind-preserved-else-kind-eq-LINES invariant-loop decreases-loop
-loop-again c =
-    let e = ap told_step (sym c.in-Sub.is) ∙ c.sub_at.ensures in
-    seek_other _ _ _ _ _ _ e c.if-start-body.true c.if-kind-eq-LINES.false ∙ c.loop-kind.invariant
-
-loop-less-2 : tie.Need-loop-kind-smaller invariant-loop decreases-loop
-loop-less-2 c =
-    let e = ap told_step (sym c.in-Sub.is) ∙ c.sub_at.ensures in
-    omega (arith, sub_next _ _ _ _ _ e)
-
-loop-again-2 : tie.Need-loop-kind-preserved invariant-loop decreases-loop
-loop-again-2 c =
-    let e = ap told_step (sym c.in-Sub.is) ∙ c.sub_at.ensures in
-    seek_miss _ _ _ _ _ _ e c.if-start-body.false ∙ c.loop-kind.invariant
-
-returns-2 : tie.Need-returns-in-None invariant-loop decreases-loop
-returns-2 c =
-    first_end _ _ _ _ (ap told_step (sym c.in-None.is) ∙ c.sub_at.ensures) ∙ c.loop-kind.invariant
-
-returns-3 : tie.Need-returns-in-Refused invariant-loop decreases-loop
-returns-3 c =
-    first_refused _ _ _ _ _ (ap told_step (sym c.in-Refused.is) ∙ c.sub_at.ensures) ∙ c.loop-kind.invariant
-
 pub seek_spec : {M : Type 1} → statement M
 seek_spec =
     tie.close
@@ -63,12 +30,24 @@ seek_spec =
     (λ c. refl)
     (λ c κs. search rules)
     (λ c. search rules)
-    returns
-    loop-less
-    loop-again
-    loop-less-2
-    loop-again-2
+    (λ c.
+    let e = ap told_step (sym c.in-Sub.is) ∙ c.sub_at.ensures in
+    seek_hit _ _ _ _ _ _ e c.if-start-body.true c.if-kind-eq-LINES.true ∙ c.loop-kind.invariant)
+    (λ c.
+    let e = ap told_step (sym c.in-Sub.is) ∙ c.sub_at.ensures in
+    omega (arith, sub_next _ _ _ _ _ e))
+    (λ c.
+    let e = ap told_step (sym c.in-Sub.is) ∙ c.sub_at.ensures in
+    seek_other _ _ _ _ _ _ e c.if-start-body.true c.if-kind-eq-LINES.false ∙ c.loop-kind.invariant)
+    (λ c.
+    let e = ap told_step (sym c.in-Sub.is) ∙ c.sub_at.ensures in
+    omega (arith, sub_next _ _ _ _ _ e))
+    (λ c.
+    let e = ap told_step (sym c.in-Sub.is) ∙ c.sub_at.ensures in
+    seek_miss _ _ _ _ _ _ e c.if-start-body.false ∙ c.loop-kind.invariant)
     (λ c. search rules)
-    returns-2
+    (λ c.
+    first_end _ _ _ _ (ap told_step (sym c.in-None.is) ∙ c.sub_at.ensures) ∙ c.loop-kind.invariant)
     (λ c. search rules)
-    returns-3)
+    (λ c.
+    first_refused _ _ _ _ _ (ap told_step (sym c.in-Refused.is) ∙ c.sub_at.ensures) ∙ c.loop-kind.invariant))

@@ -10,16 +10,6 @@ use Rattle.listing.specs.StepLaws.{line_shown_lem, head_long, head_short}
 use Rattle.listing.proofs.head_step.Statement.{statement}
 use Rattle.listing.proofs.head_step.Tie as tie
 
-returns : tie.Need-returns-then-area-gt-MOST
-returns c =
-    line_shown_lem _ _ _ _ _ _ (omega arith) (short_fits (refused_fits why.TooLong)) c.put_refused.ensures c.line_of.ensures
-    ∙ ap (line_shown _) (head_long _ (omega arith))
-
-returns-2 : tie.Need-returns
-returns-2 c =
-    line_shown_lem _ _ _ _ _ _ (omega arith) (short_fits (head_fits _ (omega arith))) c.put_head.ensures c.line_of-2.ensures
-    ∙ ap (line_shown _) (head_short _ (omega arith))
-
 pub head_step_spec : {M : Type 1} → statement M
 head_step_spec =
     tie.close
@@ -27,8 +17,12 @@ head_step_spec =
     (λ c κs. search rules)
     (λ c κs. search rules)
     (λ c. search rules)
-    returns
+    (λ c.
+    line_shown_lem _ _ _ _ _ _ (omega arith) (short_fits (refused_fits why.TooLong)) c.put_refused.ensures c.line_of.ensures
+    ∙ ap (line_shown _) (head_long _ (omega arith)))
     (λ c κs. search rules)
     (λ c κs. search rules)
     (λ c. search rules)
-    returns-2)
+    (λ c.
+    line_shown_lem _ _ _ _ _ _ (omega arith) (short_fits (head_fits _ (omega arith))) c.put_head.ensures c.line_of-2.ensures
+    ∙ ap (line_shown _) (head_short _ (omega arith))))

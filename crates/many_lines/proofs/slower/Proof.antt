@@ -9,35 +9,6 @@ use Rattle.many_lines.specs.BodiesLaws.{take_fits, answers_none, answers_exact, 
 use Rattle.many_lines.proofs.slower.Statement.{statement}
 use Rattle.many_lines.proofs.slower.Tie as tie
 
-returns : tie.Need-returns-then-n-eq0
-returns c = answers_none crate_rule _ _ _ _ _ _ _ _ c.turns-x.ensures c.if-n-eq0.true _ c.told.ensures
-
-returns-2 : tie.Need-returns-then-x
-returns-2 c = answers_exact crate_rule _ _ _ _ _ _ _ _ c.turns-x.ensures c.if-n-eq0.false c.if-x.true
-
-mul-refill : tie.Need-overflow_mul-n
-mul-refill c =
-    let h = c.turns-x.ensures in
-    omega (arith, h.inexact c.if-x.false, h.size)
-
-slice-relend-prefix-refill : tie.Need-slice_bounds-refill-end
-slice-relend-prefix-refill c =
-    let h = c.turns-x.ensures in
-    omega (arith, h.inexact c.if-x.false, h.size)
-
-slice-aggregate-refill : tie.Need-slice_bounds-refill-end-2
-slice-aggregate-refill c =
-    let h = c.turns-x.ensures in
-    sym (length-take-le _ _ (omega (arith, h.inexact c.if-x.false, h.size)))
-
-refill-requires : tie.Need-refill-next-requires
-refill-requires c κs =
-    let h = c.turns-x.ensures in
-    take_fits _ _ c.if-n-eq0.false (omega (arith, h.inexact c.if-x.false, h.size))
-
-returns-3 : tie.Need-returns
-returns-3 c = answers_again crate_rule _ _ _ _ _ _ _ _ c.turns-x.ensures c.if-n-eq0.false c.if-x.false _ _ c.refill-next.ensures
-
 pub slower_spec : {M : Type 1} → statement M
 slower_spec =
     tie.close
@@ -45,12 +16,20 @@ slower_spec =
     (λ c κs. search rules)
     (λ c κs. search rules)
     (λ c. search rules)
-    returns
+    (λ c. answers_none crate_rule _ _ _ _ _ _ _ _ c.turns-x.ensures c.if-n-eq0.true _ c.told.ensures)
     (λ c. search rules)
-    returns-2
-    mul-refill
-    slice-relend-prefix-refill
-    slice-aggregate-refill
-    refill-requires
+    (λ c. answers_exact crate_rule _ _ _ _ _ _ _ _ c.turns-x.ensures c.if-n-eq0.false c.if-x.true)
+    (λ c.
+    let h = c.turns-x.ensures in
+    omega (arith, h.inexact c.if-x.false, h.size))
+    (λ c.
+    let h = c.turns-x.ensures in
+    omega (arith, h.inexact c.if-x.false, h.size))
+    (λ c.
+    let h = c.turns-x.ensures in
+    sym (length-take-le _ _ (omega (arith, h.inexact c.if-x.false, h.size))))
+    (λ c κs.
+    let h = c.turns-x.ensures in
+    take_fits _ _ c.if-n-eq0.false (omega (arith, h.inexact c.if-x.false, h.size)))
     (λ c. search rules)
-    returns-3)
+    (λ c. answers_again crate_rule _ _ _ _ _ _ _ _ c.turns-x.ensures c.if-n-eq0.false c.if-x.false _ _ c.refill-next.ensures))

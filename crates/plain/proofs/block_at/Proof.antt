@@ -6,18 +6,6 @@ use Rattle.plain.specs.RecordLaws.{line_bytes_max, block_short, block_odd, block
 use Rattle.plain.proofs.block_at.Statement.{statement}
 use Rattle.plain.proofs.block_at.Tie as tie
 
-returns-2 : tie.Need-returns-then-size-line_bytes
-returns-2 c =
-    block_odd _ _ _ (omega arith) (omega arith) _ _ _ c.u32_at-n.ensures c.u32_at-size.ensures c.line_bytes.ensures c.if-size-line_bytes.true
-
-returns-3 : tie.Need-returns-then-left-size
-returns-3 c =
-    block_cut _ _ _ (omega arith) (omega arith) _ _ _ c.u32_at-n.ensures c.u32_at-size.ensures c.line_bytes.ensures c.if-size-line_bytes.false c.if-left-size.true
-
-returns-4 : tie.Need-returns
-returns-4 c =
-    block_goes _ _ _ (omega arith) (omega arith) _ _ _ c.u32_at-n.ensures c.u32_at-size.ensures c.line_bytes.ensures c.if-size-line_bytes.false c.if-left-size.false
-
 pub block_at_spec : {M : Type 1} → statement M
 block_at_spec =
     tie.close
@@ -31,6 +19,9 @@ block_at_spec =
     (λ c. search rules)
     (λ c κs. search rules)
     (λ c. omega (arith, c.line_bytes.ensures, line_bytes_max c.args.columns c.u32_at-n.result))
-    returns-2
-    returns-3
-    returns-4)
+    (λ c.
+    block_odd _ _ _ (omega arith) (omega arith) _ _ _ c.u32_at-n.ensures c.u32_at-size.ensures c.line_bytes.ensures c.if-size-line_bytes.true)
+    (λ c.
+    block_cut _ _ _ (omega arith) (omega arith) _ _ _ c.u32_at-n.ensures c.u32_at-size.ensures c.line_bytes.ensures c.if-size-line_bytes.false c.if-left-size.true)
+    (λ c.
+    block_goes _ _ _ (omega arith) (omega arith) _ _ _ c.u32_at-n.ensures c.u32_at-size.ensures c.line_bytes.ensures c.if-size-line_bytes.false c.if-left-size.false))

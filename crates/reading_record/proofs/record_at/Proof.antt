@@ -9,10 +9,6 @@ use Rattle.reading_record.specs.RecordLaws.{spot_lies, lent_fits, lent_is, other
 use Rattle.reading_record.proofs.record_at.Statement.{statement}
 use Rattle.reading_record.proofs.record_at.Tie as tie
 
-returns : tie.Need-returns-in-At
-returns c =
-    lent_is _ _ _ _ _ _ _ _ (ap told_spot (sym c.in-At.is) ∙ c.spot_in.ensures) (add-sub_cancel_left _ _) c.record_of.ensures
-
 pub record_at_spec : {M : Type 1} → statement M
 record_at_spec =
     tie.close
@@ -26,6 +22,7 @@ record_at_spec =
     (λ c κs. lent_fits _ _ _ _ _ _ (ap told_spot (sym c.in-At.is) ∙ c.spot_in.ensures) (add-sub_cancel_left _ _))
     (λ c. search rules)
     (λ c. search rules)
-    returns
+    (λ c.
+    lent_is _ _ _ _ _ _ _ _ (ap told_spot (sym c.in-At.is) ∙ c.spot_in.ensures) (add-sub_cancel_left _ _) c.record_of.ensures)
     (λ c. other_is _ _ _ _ _ _ (ap told_spot (sym c.in-None.is) ∙ c.spot_in.ensures))
     (λ c. other_is _ _ _ _ _ _ (ap told_spot (sym c.in-Refused.is) ∙ c.spot_in.ensures)))

@@ -6,25 +6,16 @@ use Rattle.symbol_lines.specs.SymbolLaws.{better_other, better_new, better_old}
 use Rattle.symbol_lines.proofs.better_slot.Statement.{statement}
 use Rattle.symbol_lines.proofs.better_slot.Tie as tie
 
-returns : tie.Need-returns-then-head-offset
-returns c =
-    let a = c.args in
-    better_new a.section a.offset (told_header a.head) _ _ (omega arith) (omega arith)
-
-returns-2 : tie.Need-returns-else-head-offset
-returns-2 c =
-    let a = c.args in
-    better_old a.section a.offset (told_header a.head) _ _ (omega arith) (omega arith)
-
-returns-3 : tie.Need-returns-else-head-section
-returns-3 c =
-    let a = c.args in
-    better_other a.section a.offset (told_header a.head) _ _ (omega arith)
-
 pub better_slot_spec : {M : Type 1} → statement M
 better_slot_spec =
     tie.close
     (tie.spec
-    returns
-    returns-2
-    returns-3)
+    (λ c.
+    let a = c.args in
+    better_new a.section a.offset (told_header a.head) _ _ (omega arith) (omega arith))
+    (λ c.
+    let a = c.args in
+    better_old a.section a.offset (told_header a.head) _ _ (omega arith) (omega arith))
+    (λ c.
+    let a = c.args in
+    better_other a.section a.offset (told_header a.head) _ _ (omega arith)))

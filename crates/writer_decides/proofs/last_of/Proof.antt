@@ -10,15 +10,6 @@ use Rattle.writer_decides.specs.CallLaws.{kind_same, kind_other}
 use Rattle.writer_decides.proofs.last_of.Statement.{statement}
 use Rattle.writer_decides.proofs.last_of.Tie as tie
 
-returns : tie.Need-returns-in_default
-returns c = ap (λ (o : Option Last). of_kind c.args.wanted o) (ap told_plain (sym c.in_default.is) ∙ c.last_at.ensures)
-
-returns-2 : tie.Need-returns-then-kind-wanted
-returns-2 c = kind_same _ _ _ (ap told_plain (sym c.in-Yes.is) ∙ c.last_at.ensures) c.if-kind-wanted.true
-
-returns-3 : tie.Need-returns
-returns-3 c = kind_other _ _ _ (ap told_plain (sym c.in-Yes.is) ∙ c.last_at.ensures) c.if-kind-wanted.false
-
 pub last_of_spec : {M : Type 1} → statement M
 last_of_spec =
     tie.close
@@ -26,6 +17,6 @@ last_of_spec =
     (λ c κs. search rules)
     (λ c. search rules)
     (λ c. search rules)
-    returns
-    returns-2
-    returns-3)
+    (λ c. ap (λ (o : Option Last). of_kind c.args.wanted o) (ap told_plain (sym c.in_default.is) ∙ c.last_at.ensures))
+    (λ c. kind_same _ _ _ (ap told_plain (sym c.in-Yes.is) ∙ c.last_at.ensures) c.if-kind-wanted.true)
+    (λ c. kind_other _ _ _ (ap told_plain (sym c.in-Yes.is) ∙ c.last_at.ensures) c.if-kind-wanted.false))

@@ -8,20 +8,14 @@ use lib.Dec.{eqb}
 use Rattle.writer_decides.proofs.opaque_rule.Statement.{statement}
 use Rattle.writer_decides.proofs.opaque_rule.Tie as tie
 
-returns : tie.Need-returns-then-is_opaque
-returns c =
-    let a = c.args in
-    ap (λ (t : Bool). t && eqb (a.n % 4) 0) (sym c.if-is_opaque.true ∙ c.is_opaque.ensures)
-
-returns-2 : tie.Need-returns
-returns-2 c =
-    let a = c.args in
-    ap (λ (t : Bool). t && eqb (a.n % 4) 0) (sym c.if-is_opaque.false ∙ c.is_opaque.ensures)
-
 pub opaque_rule_spec : {M : Type 1} → statement M
 opaque_rule_spec =
     tie.close
     (tie.spec
     (λ c κs. search rules)
-    returns
-    returns-2)
+    (λ c.
+    let a = c.args in
+    ap (λ (t : Bool). t && eqb (a.n % 4) 0) (sym c.if-is_opaque.true ∙ c.is_opaque.ensures))
+    (λ c.
+    let a = c.args in
+    ap (λ (t : Bool). t && eqb (a.n % 4) 0) (sym c.if-is_opaque.false ∙ c.is_opaque.ensures)))
