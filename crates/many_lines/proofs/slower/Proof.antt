@@ -18,18 +18,18 @@ slower_spec =
     (λ c. search rules)
     (λ c. answers_none crate_rule _ _ _ _ _ _ _ _ c.turns-x.ensures c.if-n-eq0.true _ c.told.ensures)
     (λ c. search rules)
-    (λ c. answers_exact crate_rule _ _ _ _ _ _ _ _ c.turns-x.ensures c.if-n-eq0.false c.if-x.true)
+    (λ c. answers_exact crate_rule _ _ _ _ _ _ _ _ c.turns-x.ensures c.if-n-eq0.false (search rules))
     (λ c.
     let h = c.turns-x.ensures in
-    omega (arith, h.inexact c.if-x.false, h.size))
+    omega (arith, h.inexact (search rules), h.size))
     (λ c.
     let h = c.turns-x.ensures in
-    omega (arith, h.inexact c.if-x.false, h.size))
+    omega (arith, h.inexact (search rules), h.size))
     (λ c.
     let h = c.turns-x.ensures in
-    sym (length-take-le _ _ (omega (arith, h.inexact c.if-x.false, h.size))))
+    sym (length-take-le _ _ (omega (arith, h.inexact (search rules), h.size))))
     (λ c κs.
     let h = c.turns-x.ensures in
-    take_fits _ _ c.if-n-eq0.false (omega (arith, h.inexact c.if-x.false, h.size)))
+    take_fits _ _ c.if-n-eq0.false (omega (arith, h.inexact (search rules), h.size)))
     (λ c. search rules)
-    (λ c. answers_again crate_rule _ _ _ _ _ _ _ _ c.turns-x.ensures c.if-n-eq0.false c.if-x.false _ _ c.refill-next.ensures))
+    (λ c. answers_again crate_rule _ _ _ _ _ _ _ _ c.turns-x.ensures c.if-n-eq0.false (search rules) _ _ c.refill-next.ensures))
