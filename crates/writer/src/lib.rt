@@ -64,7 +64,11 @@ fn copy(bytes: &[u8], free: &mut [u8])
     requires { length bytes.now ≤ length free.old }
     ensures { free.new ≡ take (length bytes.now) bytes.now ++ drop (length bytes.now) free.old }
 {
-    free[..bytes.len()].copy_from_slice(bytes);
+    let mut i: usize = 0;
+    while i < bytes.len() {
+        free[i] = bytes[i];
+        i += 1;
+    }
 }
 
 // A whole subsection.
