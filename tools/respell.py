@@ -176,7 +176,7 @@ def main():
             if len(olds) > 1:
                 print('in one module:', os.path.relpath(path, top), new, sorted(olds))
     if not say:
-        with open('/tmp/respelled-names.txt', 'w', encoding='utf-8') as file:
+        with open(os.path.join(top, 'tools', 'respelled-names.txt'), 'w', encoding='utf-8') as file:
             for old in sorted(rename):
                 file.write('%s %s\n' % (old, rename[old]))
 
