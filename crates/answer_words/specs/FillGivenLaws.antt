@@ -1,6 +1,6 @@
 -- Laws of a call that gives many records: each way out of it, that only an answer changes the words lent for records, and that nothing comes behind the
 -- last ones.
-use Prim.Native.Nat.{ℕ, zero, suc, ◌+◌, ◌/◌, ◌≤◌, ◌<◌}
+use Prim.Native.Nat.{ℕ, zero, suc, ◌/◌, ◌≤◌, ◌<◌}
 use Rattle.std.specs.Prelude.{◌≡◌, refl, ◌⊎◌, List, [], ◌∷◌, Bool, true, false, cond, length, leb, ltb}
 use Rattle.std.proofs.Common.{sym, ap, ◌∙◌, subst, inl, inr, ⊎_elim, arith, le-div_iff_mul-le, length-append}
 use Rattle.std.proofs.Math.Path.{subst⁻¹}
@@ -8,7 +8,7 @@ use borrow.Author.Tests.{ltb-false}
 use Rattle.word.specs.Word.{put}
 use Rattle.walk.specs.Cases.{by_cases}
 use Rattle.walk.specs.Listing.{Answer, gives, none, refuses}
-use Rattle.walk.specs.Many.{Many, then_many, as_many, many}
+use Rattle.walk.specs.Many.{then_many, as_many, many}
 use Rattle.refusal.specs.Told.{Told}
 use Rattle.answer_words.specs.Given.{given, Gives, status_in, short_given}
 use Rattle.answer_words.specs.GivenLaws.{gives_put, gives_fits, gives_as, room_changes, room_keeps, room_still}

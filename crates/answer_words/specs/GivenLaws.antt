@@ -90,6 +90,9 @@ module _ (o : List ℕ) (at : ℕ) (s : List ℕ) (t : List ℕ) (i : ℕ) (e : 
   pub gives_copied : (status : ℕ) → at + length s ≤ length o → i ≤ length s → length s ≤ i → Gives o (given status at s) status t
   gives_copied status room l h = rw (copied_all l h) (gives_put o (given status at s) room)
 
+  pub stores_copied : at + length s ≤ length o → i ≤ length s → length s ≤ i → t ≡ store o at s
+  stores_copied room l h = (gives_copied 1 room l h).words
+
 -- ---- a call that changes other lent memory m too, which it leaves as n
 
 module _ {M : Type 0} (k : ℕ) (o : List ℕ) (g : Given) (m n : M) where

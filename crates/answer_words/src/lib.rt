@@ -33,55 +33,44 @@ pub const REFUSAL_WORDS: usize = 2;
 // The words of a walk over a table.
 pub const TABLE_STATE_WORDS: usize = 4;
 
-// Puts the words of an answer, and answers its status.
+// Puts the words of an answer, and answers its status. By a loop, since std's copy of a slice would have the library call memmove, and of the C library
+// it calls memcpy alone; so do the next two.
+#[tactic(auto, using(crate::specs::GivenLaws::copied_turn))]
 pub fn put(out: &mut [u64], at: usize, words: &[u64], status: u32) -> u32
     ensures { Gives out.old (given status at words.now) result out.new }
 {
-    if out.len() < at {
+    if out.len() < at || out.len() - at < words.len() {
         return TOO_SHORT;
     }
-    if out.len() - at < words.len() {
-        return TOO_SHORT;
-    }
-    let mut i: usize = 0;
-    while i < words.len() {
-        out[at + i] = words[i];
-        i += 1;
+    for (i, &w) in words.iter().enumerate() {
+        out[at + i] = w;
     }
     status
 }
 
 // Puts the words of a record, of 32 bits each. Where they do not fit nothing is put.
+#[tactic(auto, using(crate::specs::GivenLaws::copied_turn, word::specs::WordLaws::store_none))]
 pub fn put32(records: &mut [u32], at: usize, words: &[u32])
     ensures { records.new ≡ store records.old at words.now }
 {
-    if records.len() < at {
+    if records.len() < at || records.len() - at < words.len() {
         return;
     }
-    if records.len() - at < words.len() {
-        return;
-    }
-    let mut i: usize = 0;
-    while i < words.len() {
-        records[at + i] = words[i];
-        i += 1;
+    for (i, &w) in words.iter().enumerate() {
+        records[at + i] = w;
     }
 }
 
 // Puts words of 32 bits into words of 64. Where they do not fit nothing is put.
+#[tactic(auto, using(crate::specs::GivenLaws::copied_turn, word::specs::WordLaws::store_none))]
 pub fn put_wide(out: &mut [u64], at: usize, words: &[u32])
     ensures { out.new ≡ store out.old at words.now }
 {
-    if out.len() < at {
+    if out.len() < at || out.len() - at < words.len() {
         return;
     }
-    if out.len() - at < words.len() {
-        return;
-    }
-    let mut i: usize = 0;
-    while i < words.len() {
-        out[at + i] = words[i] as u64;
-        i += 1;
+    for (i, &w) in words.iter().enumerate() {
+        out[at + i] = w as u64;
     }
 }
 
@@ -96,18 +85,19 @@ pub fn answer_status(last: bool) -> u32
 pub fn put_refusal(out: &mut [u64], state: usize, why: Refusal) -> u32
     ensures { Gives out.old (refusal_given state (told why)) result out.new }
 {
-    let pair = numbers(why);
-    put(out, state, &[pair.0, pair.1], REFUSED)
+    let (number, carried) = numbers(why);
+    put(out, state, &[number, carried], REFUSED)
 }
 
 // A word of a walk's state; a word that was not lent is 0.
 pub fn state_word(out: &[u64], i: usize) -> u64
     ensures { result ≡ get_or out.now i 0 }
 {
-    if i < out.len() { out[i] } else { 0 }
+    out.get(i).copied().unwrap_or(0)
 }
 
 // The walk over a table that the first `TABLE_STATE_WORDS` words say.
+#[tactic(auto, using(crate::specs::TableWordsLaws::walk_new, crate::specs::TableWordsLaws::walk_goes))]
 pub fn walk_in(out: &[u64]) -> TableWalk
     ensures { result ≡ walk_in out.now }
 {
@@ -125,6 +115,7 @@ pub fn walk_in(out: &[u64]) -> TableWalk
 #[derive(Clone, Copy)]
 pub struct Four(pub u64, pub u64, pub u64, pub u64);
 
+#[tactic(auto, using(crate::specs::TableWordsLaws::walk_is))]
 pub fn walk_words(walk: TableWalk) -> Four
     ensures { walk_words walk ≡ result.0 ∷ result.1 ∷ result.2 ∷ result.3 ∷ [] }
 {
@@ -138,8 +129,5 @@ pub fn walk_words(walk: TableWalk) -> Four
 pub fn over_table(walk: TableWalk) -> bool
     ensures { result ≡ over_table walk }
 {
-    match walk {
-        TableWalk::New => false,
-        TableWalk::In { start: _, len, at } => at == len,
-    }
+    matches!(walk, TableWalk::In { len, at, .. } if at == len)
 }

@@ -21,7 +21,6 @@ use Rattle.area.specs.PartsLaws.{parts_step, parts_ind, Bitten, bitten}
 use Rattle.kinds.specs.Kind.{SYMBOLS, COFF_SYMBOL_RVA, IGNORE, Sort, known, skipped, unknown, on_sort, crate_rule}
 use Rattle.kinds.proofs.KindLaws.{rule_range}
 use Rattle.area.specs.Subs.{Sub, sub_of, placed, subs_from, first_of, step_at, bodies_in, bodies, place_behind, WalkStep, crate_step}
-use Rattle.area.specs.declared.SubStep.{SubStep}
 use Rattle.area.specs.Told.{told_step}
 
 -- a whole subsection of kind k at p with n bytes of body
@@ -384,10 +383,7 @@ step_right rule s p = by (subs_from rule s p) (subs_chained rule s p)
 pub steps_are : (rule : ℕ → Sort) (s : List ℕ) (n p : ℕ) → calls (step_at rule s) n p ≡ replies n (subs_from rule s p)
 steps_are rule s = calls_are (step_at rule s) (subs_from rule s) (step_right rule s)
 
--- a walk's step whose answer and whose place behind it are read off what the same call answered, h
-pub stepped : (s : List ℕ) (p : ℕ) (h a g : SubStep) → told_step h ≡ step_at crate_rule s p → h ≡ a → h ≡ g
-    → record { answer = told_step a; behind = place_behind (told_step g) p } ≡ crate_step s p
+-- a walk's step, by what it answers
+pub stepped : (s : List ℕ) (p : ℕ) (a : Answer ℕ Sub Told) → a ≡ step_at crate_rule s p → record { answer = a; behind = place_behind a p } ≡ crate_step s p
 unfolding crate_step
-stepped s p h a g e qa qg =
-    let told : (x : SubStep) → h ≡ x → told_step x ≡ step_at crate_rule s p = λ x q. ap told_step (sym q) ∙ e in
-    λ i. record { answer = told a qa i; behind = place_behind (told g qg i) p }
+stepped s p a e = λ i. record { answer = e i; behind = place_behind (e i) p }

@@ -18,24 +18,24 @@ use kinds::{
 use refusal::{LONGEST, Refusal};
 use word::u32_at;
 
-// What stands at a place of the area: a known subsection, one that is skipped with its body, or nothing.
+// A subsection: its kind, and where its body stands in the area.
+#[derive(Clone, Copy)]
+pub struct Sub {
+    pub kind: u32,
+    pub start: usize,
+    pub len: usize,
+}
+
+// What stands at a place of the area: a known subsection, or one that is skipped with its body; each with the place behind it.
 #[derive(Clone, Copy)]
 enum Head {
-    Sub {
-        kind: u32,
-        start: usize,
-        len: usize,
-        next: usize,
-    },
-    Skip {
-        next: usize,
-    },
-    End,
-    Refused(Refusal),
+    Sub(Sub, usize),
+    Skip(usize),
 }
 
 // A subsection whose header and body are whole: the one decision over its kind.
-fn whole(kind: u32, at: usize, len: usize) -> Head
+#[tactic(auto, using(crate::specs::SubsLaws::whole_skipped, crate::specs::SubsLaws::whole_known, crate::specs::SubsLaws::whole_low, crate::specs::SubsLaws::whole_high))]
+fn whole(kind: u32, at: usize, len: usize) -> Result<Option<Head>, Refusal>
     requires { at + 8 + len < 2 ^ 64 }
     ensures { told_head result ≡ whole_as crate_rule kind at len }
 {
@@ -52,81 +52,59 @@ fn whole(kind: u32, at: usize, len: usize) -> Head
         | FUNC_MDTOKEN_MAP
         | TYPE_MDTOKEN_MAP
         | MERGED_ASSEMBLY_INPUT
-        | COFF_SYMBOL_RVA => Head::Sub {
-            kind,
-            start: at + 8,
-            len,
-            next: at + 8 + len,
-        },
-        IGNORE => Head::Skip { next: at + 8 + len },
-        _ => Head::Refused(Refusal::UnknownKind(kind)),
+        | COFF_SYMBOL_RVA => {
+            let sub = Sub {
+                kind,
+                start: at + 8,
+                len,
+            };
+            Ok(Some(Head::Sub(sub, at + 8 + len)))
+        }
+        IGNORE => Ok(Some(Head::Skip(at + 8 + len))),
+        _ => Err(Refusal::UnknownKind(kind)),
     }
 }
 
-fn head_at(area: &[u8], at: usize) -> Head
+#[tactic(auto, using(crate::specs::SubsLaws::head_long, crate::specs::SubsLaws::head_past, crate::specs::SubsLaws::head_end, crate::specs::SubsLaws::head_short, crate::specs::SubsLaws::head_cut, crate::specs::SubsLaws::head_whole))]
+fn head_at(area: &[u8], at: usize) -> Result<Option<Head>, Refusal>
     ensures { told_head result ≡ head_at crate_rule area.now at }
 {
     if LONGEST < area.len() {
-        return Head::Refused(Refusal::TooLong);
+        return Err(Refusal::TooLong);
     }
     if area.len() < at {
-        return Head::Refused(Refusal::Cut);
+        return Err(Refusal::Cut);
     }
     let left = area.len() - at;
     if left == 0 {
-        return Head::End;
+        return Ok(None);
     }
     if left < 8 {
-        return Head::Refused(Refusal::Cut);
+        return Err(Refusal::Cut);
     }
     let kind = u32_at(area, at);
     let len = u32_at(area, at + 4) as usize;
     if left - 8 < len {
-        return Head::Refused(Refusal::Cut);
+        return Err(Refusal::Cut);
     }
     whole(kind, at, len)
 }
 
-// The subsection at a place, or behind what is skipped there: its kind, its body's start and length, and the place behind it.
-#[derive(Clone, Copy)]
-pub enum SubStep {
-    Sub {
-        kind: u32,
-        start: usize,
-        len: usize,
-        next: usize,
-    },
-    None,
-    Refused(Refusal),
-}
-
-pub fn sub_at(area: &[u8], at: usize) -> SubStep
+// The subsection at a place, or behind what is skipped there, and the place behind it.
+pub fn sub_at(area: &[u8], at: usize) -> Result<Option<(Sub, usize)>, Refusal>
     ensures { told_step result ≡ step_at crate_rule area.now at }
 {
     let mut p = at;
     loop {
-        match head_at(area, p) {
-            Head::Sub {
-                kind,
-                start,
-                len,
-                next,
-            } => {
-                return SubStep::Sub {
-                    kind,
-                    start,
-                    len,
-                    next,
-                };
+        match head_at(area, p)? {
+            Some(Head::Sub(sub, next)) => {
+                return Ok(Some((sub, next)));
             }
-            Head::Skip { next } => {
+            Some(Head::Skip(next)) => {
                 p = next;
             }
-            Head::End => {
-                return SubStep::None;
-            }
-            Head::Refused(why) => {
-                return SubStep::Refused(why);
+            None => {
+                return Ok(None);
             }
         }
     }
@@ -141,7 +119,7 @@ pub struct SubWalk {
 // A step of a walk over the subsections: the answer, and the walk behind it.
 #[derive(Clone, Copy)]
 pub struct Stepped {
-    pub step: SubStep,
+    pub step: Result<Option<(Sub, usize)>, Refusal>,
     pub walk: SubWalk,
 }
 
@@ -155,20 +133,19 @@ impl SubWalk {
     pub fn step(self, area: &[u8]) -> Stepped
         ensures { told_stepped result ≡ crate_step area.now self.at }
     {
-        let at = self.at;
-        let step = sub_at(area, at);
-        match step {
-            SubStep::Sub {
-                kind: _,
-                start: _,
-                len: _,
-                next,
-            } => Stepped {
-                step,
+        match sub_at(area, self.at) {
+            Ok(Some((sub, next))) => Stepped {
+                step: Ok(Some((sub, next))),
                 walk: SubWalk { at: next },
             },
-            SubStep::None => Stepped { step, walk: self },
-            SubStep::Refused(_) => Stepped { step, walk: self },
+            Ok(None) => Stepped {
+                step: Ok(None),
+                walk: self,
+            },
+            Err(why) => Stepped {
+                step: Err(why),
+                walk: self,
+            },
         }
     }
 }

@@ -1,6 +1,6 @@
 -- Names for the proofs of the lines of a body: a held record as the words that it was made of, and what each loop keeps.
 -- Definitions only; of public contracts that of `body_lines` alone cites them, and no answer of another call depends on it.
-use Rattle.std.specs.Prelude.{false, ℕ, ◌+◌, ◌*◌, ◌<◌, ◌≤◌, ◌≡◌, List, length, take}
+use Rattle.std.specs.Prelude.{false, ℕ, ◌+◌, ◌*◌, ◌<◌, ◌≤◌, ◌≡◌, List, length, take, Option, None, Some}
 use Rattle.walk.specs.Listing.{nothing}
 use Rattle.word.specs.Word.{u32_at, store}
 use Rattle.refusal.specs.Told.{longest}
@@ -11,8 +11,6 @@ use Rattle.line_record.specs.Flags.{is_marker}
 use Rattle.line_record.specs.declared.LineRecord.{LineRecord}
 use Rattle.line_state_words.specs.LineWords.{record_size, record_words}
 use Rattle.line_step.specs.Turn.{source_of, with_held, lines_on, next_block}
-use Rattle.line_step.specs.declared.Held.{Held}
-use Rattle.line_step.specs.declared.Held.TheVariants.{Nothing, One}
 use Rattle.line_step.specs.declared.Rest.{Rest}
 use Rattle.line_step.specs.declared.Place.{Place}
 use Rattle.line_step.specs.declared.LineWalk.{LineWalk}
@@ -43,7 +41,7 @@ pub record LinePut (s : List ℕ) (p : Place) (x : LineHeld) (a g : ℕ) (o : Li
   pub words : o' ≡ store o (record_size * x.n) (record_words (closed_at p.head.section (p.head.offset + a) (held_record p x.offset x.flags x.word)))
 
 abbrev pub inside_at : Place → Rest → LineHeld → LineWalk
-inside_at p t x = Inside (lines_on p x.done) (with_held t (One (held_record p x.offset x.flags x.word)))
+inside_at p t x = Inside (lines_on p x.done) (with_held t (Some (held_record p x.offset x.flags x.word)))
 
 -- from x to y, the words o being o' then
 pub record LinesPut (rule : ℕ → Sort) (s : List ℕ) (p : Place) (room : ℕ) (x : LineHeld) (o : List ℕ) (y : LineHeld) (o' : List ℕ) : Type 0 where
@@ -54,11 +52,11 @@ pub record LinesPut (rule : ℕ → Sort) (s : List ℕ) (p : Place) (room : ℕ
   pub turns : (v : List ℕ) (t : Rest) → TurnsPut rule s v room x.n (inside_at p t x) o y.n (inside_at p t y) o'
 
 -- how many records are put where `held` is closed by an end, and the words then
-abbrev pub PutAs : Held → ℕ → ℕ → ℕ → List ℕ → ℕ → List ℕ → Type 0
-PutAs Nothing section end n o m o' = (m ≡ n) × (o' ≡ o)
-PutAs (One q) section end n o m o' = (m ≡ n + 1) × (o' ≡ store o (record_size * n) (record_words (closed_at section end q)))
+abbrev pub PutAs : Option LineRecord → ℕ → ℕ → ℕ → List ℕ → ℕ → List ℕ → Type 0
+PutAs None section end n o m o' = (m ≡ n) × (o' ≡ o)
+PutAs (Some q) section end n o m o' = (m ≡ n + 1) × (o' ≡ store o (record_size * n) (record_words (closed_at section end q)))
 
-pub record HeldPut (held : Held) (section end n : ℕ) (o : List ℕ) (m : ℕ) (o' : List ℕ) : Type 0 where
+pub record HeldPut (held : Option LineRecord) (section end n : ℕ) (o : List ℕ) (m : ℕ) (o' : List ℕ) : Type 0 where
   pub words : PutAs held section end n o m o'
 
 -- a and g are the words of the place's line, which gives a record
@@ -69,7 +67,7 @@ pub record FirstLine (s : List ℕ) (p : Place) (a g : ℕ) : Type 0 where
   pub sum : p.head.offset + a ≤ max_offset
 
 -- from a place of a body, with a held record or none and n records put, to another place of it
-pub record BlockPut (rule : ℕ → Sort) (s : List ℕ) (room : ℕ) (p : Place) (held : Held) (n : ℕ) (o : List ℕ) (r : InBody) (o' : List ℕ) : Type 0 where
+pub record BlockPut (rule : ℕ → Sort) (s : List ℕ) (room : ℕ) (p : Place) (held : Option LineRecord) (n : ℕ) (o : List ℕ) (r : InBody) (o' : List ℕ) : Type 0 where
   pub most : r.n ≤ room
   pub size : length o' ≡ length o
   pub fit : LinesFit s r.place
@@ -85,7 +83,7 @@ pub record Used (s : List ℕ) (p : Place) : Type 0 where
   pub over : nothing ≡ next_block (take p.end s) p
 
 -- from a place of a body on, to its end if the walk is not stuck, and then there is room for another record
-pub record BodyPut (rule : ℕ → Sort) (s : List ℕ) (room : ℕ) (p : Place) (held : Held) (n : ℕ) (o : List ℕ) (r : InBody) (o' : List ℕ) : Type 0 where
+pub record BodyPut (rule : ℕ → Sort) (s : List ℕ) (room : ℕ) (p : Place) (held : Option LineRecord) (n : ℕ) (o : List ℕ) (r : InBody) (o' : List ℕ) : Type 0 where
   pub size : length o' ≡ length o
   pub head : r.place.head ≡ p.head
   pub end : r.place.end ≡ p.end

@@ -1,5 +1,5 @@
 -- Laws of the lines of a body: each line is a turn.
-use Rattle.std.specs.Prelude.{ℕ, ◌+◌, ◌-◌, ◌*◌, ◌/◌, ◌≤◌, ◌<◌, ◌≡◌, refl, List, Bool, true, false, length, take, drop}
+use Rattle.std.specs.Prelude.{ℕ, ◌+◌, ◌-◌, ◌*◌, ◌/◌, ◌≤◌, ◌<◌, ◌≡◌, refl, List, Bool, true, false, length, take, drop, Option, None, Some}
 use Rattle.std.proofs.Common.{sym, ap, ◌∙◌, subst, arith, length-take-le}
 use Rattle.word.specs.Word.{u32_at, store}
 use Rattle.word.specs.WordLaws.{u32_drop, u32_take, put_length_lem}
@@ -16,8 +16,6 @@ use Rattle.line_state_words.specs.LineWords.{record_size, record_words}
 use Rattle.line_state_words.specs.LineWordsLaws.{record_length, record_is}
 use Rattle.line_step.specs.Turn.{source_of, line_entry_at, with_held, lines_on, past_lines, hold_in, line_of, line_turn, next_block, block_turn, turn_of}
 use Rattle.line_step.specs.TurnLaws.{entry_in_lem, past_lines_are, next_block_opens, block_is, inside_block, inside_line, turn_is}
-use Rattle.line_step.specs.declared.Held.{Held}
-use Rattle.line_step.specs.declared.Held.TheVariants.{Nothing, One}
 use Rattle.line_step.specs.declared.Rest.{Rest}
 use Rattle.line_step.specs.declared.Place.{Place}
 use Rattle.line_step.specs.declared.LineWalk.TheVariants.{Inside}
@@ -88,22 +86,22 @@ module _ (rule : ℕ → Sort) (s v : List ℕ) (p : Place) (f : LinesFit s p) (
         ∙ ap (line_of (lines_on p i) t) (entry_marker _ _ _ _ m ∙ entry_words)
         ∙ line_turn_is t
 
-    turn_line : is_marker g ≡ false → p.head.offset + o ≤ max_offset → (t : Rest) (h : Held)
-        → hold_in h (held_record p (p.head.offset + o) g w) (Inside (lines_on p (i + 1)) (with_held t (One (held_record p (p.head.offset + o) g w))))
+    turn_line : is_marker g ≡ false → p.head.offset + o ≤ max_offset → (t : Rest) (h : Option LineRecord)
+        → hold_in h (held_record p (p.head.offset + o) g w) (Inside (lines_on p (i + 1)) (with_held t (Some (held_record p (p.head.offset + o) g w))))
         ≡ turn_of rule s v (Inside (lines_on p i) (with_held t h))
     turn_line m k t h =
-        ap (λ q. hold_in h (held_record p (p.head.offset + o) g w) (Inside q (with_held t (One (held_record p (p.head.offset + o) g w))))) (sym past_line)
+        ap (λ q. hold_in h (held_record p (p.head.offset + o) g w) (Inside q (with_held t (Some (held_record p (p.head.offset + o) g w))))) (sym past_line)
         ∙ ap (line_of (lines_on p i) (with_held t h)) (entry_line _ _ _ _ m k ∙ entry_words)
         ∙ line_turn_is (with_held t h)
 
     pub turn_first : is_marker g ≡ false → p.head.offset + o ≤ max_offset → (t : Rest)
-        → pass (Inside (lines_on p (i + 1)) (with_held t (One (held_record p (p.head.offset + o) g w)))) ≡ turn_of rule s v (Inside (lines_on p i) (with_held t Nothing))
-    turn_first m k t = turn_line m k t Nothing
+        → pass (Inside (lines_on p (i + 1)) (with_held t (Some (held_record p (p.head.offset + o) g w)))) ≡ turn_of rule s v (Inside (lines_on p i) (with_held t None))
+    turn_first m k t = turn_line m k t None
 
     pub turn_next : is_marker g ≡ false → p.head.offset + o ≤ max_offset → (t : Rest) (r : LineRecord)
-        → item (closed_at p.head.section (p.head.offset + o) r) (Inside (lines_on p (i + 1)) (with_held t (One (held_record p (p.head.offset + o) g w))))
-        ≡ turn_of rule s v (Inside (lines_on p i) (with_held t (One r)))
-    turn_next m k t r = turn_line m k t (One r)
+        → item (closed_at p.head.section (p.head.offset + o) r) (Inside (lines_on p (i + 1)) (with_held t (Some (held_record p (p.head.offset + o) g w))))
+        ≡ turn_of rule s v (Inside (lines_on p i) (with_held t (Some r)))
+    turn_next m k t r = turn_line m k t (Some r)
 
 -- a record put where it fits leaves as many words
 pub stored_length : (o : List ℕ) (at : ℕ) (r : LineRecord) (o' : List ℕ) → o' ≡ store o at (record_words r) → at + record_size ≤ length o → length o' ≡ length o
@@ -124,8 +122,8 @@ module _ (rule : ℕ → Sort) (s : List ℕ) (p : Place) (room : ℕ) (x : Line
       inside = omega arith;
       size = h.size;
       turns = λ v t. turns_put_on rule s v room (h.turns v t)
-          (turns_put_pass rule s v room less (Inside (lines_on p (y.done + 1)) (with_held t (One (held_record p y.offset y.flags y.word))))
-          (turn_marker rule s v p f y.done l (u32_at s (p.line + 8 * y.done)) g (u32_at s (p.column + 4 * y.done)) refl eg refl m (with_held t (One (held_record p y.offset y.flags y.word)))));
+          (turns_put_pass rule s v room less (Inside (lines_on p (y.done + 1)) (with_held t (Some (held_record p y.offset y.flags y.word))))
+          (turn_marker rule s v p f y.done l (u32_at s (p.line + 8 * y.done)) g (u32_at s (p.column + 4 * y.done)) refl eg refl m (with_held t (Some (held_record p y.offset y.flags y.word)))));
     }
 
     pub lines_put_line : (a g : ℕ) (z : LineHeld) (o'' : List ℕ) → a ≡ u32_at s (p.line + 8 * y.done) → g ≡ u32_at s (p.line + 8 * y.done + 4) → is_marker g ≡ false
@@ -139,32 +137,32 @@ module _ (rule : ℕ → Sort) (s : List ℕ) (p : Place) (room : ℕ) (x : Line
           inside = omega (arith, d.done);
           size = stored_length o' (record_size * y.n) c o'' d.words (omega (arith, h.size)) ∙ h.size;
           turns = λ v t. turns_put_on rule s v room (h.turns v t)
-              (rw (d.n, d.done, d.offset, d.flags) (turns_put_record rule s v room less c (Inside (lines_on p (y.done + 1)) (with_held t (One (held_record p (p.head.offset + a) g z.word)))) o''
+              (rw (d.n, d.done, d.offset, d.flags) (turns_put_record rule s v room less c (Inside (lines_on p (y.done + 1)) (with_held t (Some (held_record p (p.head.offset + a) g z.word)))) o''
               (turn_next rule s v p f y.done l a g z.word ea eg d.word m k t r) d.words));
         }
 
 -- ---- the first line of a block
 
-module _ (h : Held) (section end n : ℕ) (o : List ℕ) where
-  pub held_none : h ≡ Nothing → HeldPut h section end n o n o
+module _ (h : Option LineRecord) (section end n : ℕ) (o : List ℕ) where
+  pub held_none : h ≡ None → HeldPut h section end n o n o
   held_none e = record { words = rw e (refl, refl) }
 
-  pub held_some : (q k : LineRecord) (o' : List ℕ) → h ≡ One q → k ≡ closed_at section end q → o' ≡ store o (record_size * n) (record_words k) → HeldPut h section end n o (n + 1) o'
+  pub held_some : (q k : LineRecord) (o' : List ℕ) → h ≡ Some q → k ≡ closed_at section end q → o' ≡ store o (record_size * n) (record_words k) → HeldPut h section end n o (n + 1) o'
   held_some q k o' e ek eo = record { words = rw e (refl, eo ∙ ap (λ x. store o (record_size * n) (record_words x)) ek) }
 
 module _ (section end n m : ℕ) (o o₁ : List ℕ) where
-  most_put : (h : Held) → PutAs h section end n o m o₁ → (room : ℕ) → n < room → m ≤ room
-  most_put Nothing q room l = omega (arith, q.0)
-  most_put (One r) q room l = omega (arith, q.0)
+  most_put : (h : Option LineRecord) → PutAs h section end n o m o₁ → (room : ℕ) → n < room → m ≤ room
+  most_put None q room l = omega (arith, q.0)
+  most_put (Some r) q room l = omega (arith, q.0)
 
-  size_put : (h : Held) → PutAs h section end n o m o₁ → record_size * n + record_size ≤ length o → length o₁ ≡ length o
-  size_put Nothing q l = ap length q.1
-  size_put (One r) q l = stored_length o (record_size * n) (closed_at section end r) o₁ q.1 l
+  size_put : (h : Option LineRecord) → PutAs h section end n o m o₁ → record_size * n + record_size ≤ length o → length o₁ ≡ length o
+  size_put None q l = ap length q.1
+  size_put (Some r) q l = stored_length o (record_size * n) (closed_at section end r) o₁ q.1 l
 
-  pub held_most : (h : Held) → HeldPut h section end n o m o₁ → (room : ℕ) → n < room → m ≤ room
+  pub held_most : (h : Option LineRecord) → HeldPut h section end n o m o₁ → (room : ℕ) → n < room → m ≤ room
   held_most h put = most_put h put.words
 
-  pub held_size : (h : Held) → HeldPut h section end n o m o₁ → record_size * n + record_size ≤ length o → length o₁ ≡ length o
+  pub held_size : (h : Option LineRecord) → HeldPut h section end n o m o₁ → record_size * n + record_size ≤ length o → length o₁ ≡ length o
   held_size h put = size_put h put.words
 
 pub false_not : {A : Type 0} → false ≡ true → A
@@ -195,7 +193,7 @@ lines_fit_on s p f i h =
 past_fit : (s : List ℕ) (p : Place) → LinesFit s p → (i : ℕ) → i ≤ p.lines → (q : Place) → q ≡ past_lines p i → q ≡ lines_on p i
 past_fit s p f i h = past_lines_are p i (omega (arith, f.short, f.end, f.lines)) (omega (arith, f.short, f.end, f.columns))
 
-module _ (rule : ℕ → Sort) (s : List ℕ) (room : ℕ) (p : Place) (held : Held) (n : ℕ) (o : List ℕ) (f : LinesFit s p) (less : n < room) where
+module _ (rule : ℕ → Sort) (s : List ℕ) (room : ℕ) (p : Place) (held : Option LineRecord) (n : ℕ) (o : List ℕ) (f : LinesFit s p) (less : n < room) where
   -- it stays
   pub block_put_same : (stuck : Bool) → BlockPut rule s room p held n o (record { n = n; place = p; held = held; stuck = stuck }) o
   block_put_same stuck =
@@ -225,7 +223,7 @@ module _ (rule : ℕ → Sort) (s : List ℕ) (room : ℕ) (p : Place) (held : H
       abbrev first : LineHeld
       first = record { n = m; done = 1; offset = p.head.offset + a; flags = g; word = w }
 
-      first_turns : (v : List ℕ) (t : Rest) (h : Held) → PutAs h p.head.section (p.head.offset + a) n o m o₁
+      first_turns : (v : List ℕ) (t : Rest) (h : Option LineRecord) → PutAs h p.head.section (p.head.offset + a) n o m o₁
           → TurnsPut rule s v room n (Inside p (with_held t h)) o m (inside_at p t first) o₁
       first_turns v t h q =
           let e₀ : p.line ≡ p.line + 8 * 0 = omega arith in
@@ -235,19 +233,19 @@ module _ (rule : ℕ → Sort) (s : List ℕ) (room : ℕ) (p : Place) (held : H
           let ec = ew ∙ ap (λ (x : ℕ). column_if (columned p.head.flags) (u32_at s x)) e₁ in
           let l₀ : 0 < p.lines = omega arith in
           go h q
-          (λ x. turn_first rule s v p f 0 l₀ a g w ea eg ec d.line d.sum x ∙ ap (λ y. turn_of rule s v (Inside y (with_held x Nothing))) (at_none p))
-          (λ r x. turn_next rule s v p f 0 l₀ a g w ea eg ec d.line d.sum x r ∙ ap (λ y. turn_of rule s v (Inside y (with_held x (One r)))) (at_none p))
+          (λ x. turn_first rule s v p f 0 l₀ a g w ea eg ec d.line d.sum x ∙ ap (λ y. turn_of rule s v (Inside y (with_held x None))) (at_none p))
+          (λ r x. turn_next rule s v p f 0 l₀ a g w ea eg ec d.line d.sum x r ∙ ap (λ y. turn_of rule s v (Inside y (with_held x (Some r)))) (at_none p))
         where
-          go : (h : Held) → PutAs h p.head.section (p.head.offset + a) n o m o₁
-              → ((x : Rest) → pass (Inside (lines_on p 1) (with_held x (One (held_record p (p.head.offset + a) g w)))) ≡ turn_of rule s v (Inside p (with_held x Nothing)))
-              → ((r : LineRecord) (x : Rest) → item (closed_at p.head.section (p.head.offset + a) r) (Inside (lines_on p 1) (with_held x (One (held_record p (p.head.offset + a) g w)))) ≡ turn_of rule s v (Inside p (with_held x (One r))))
+          go : (h : Option LineRecord) → PutAs h p.head.section (p.head.offset + a) n o m o₁
+              → ((x : Rest) → pass (Inside (lines_on p 1) (with_held x (Some (held_record p (p.head.offset + a) g w)))) ≡ turn_of rule s v (Inside p (with_held x None)))
+              → ((r : LineRecord) (x : Rest) → item (closed_at p.head.section (p.head.offset + a) r) (Inside (lines_on p 1) (with_held x (Some (held_record p (p.head.offset + a) g w)))) ≡ turn_of rule s v (Inside p (with_held x (Some r))))
               → TurnsPut rule s v room n (Inside p (with_held t h)) o m (inside_at p t first) o₁
-          go Nothing q one two = rw (q.0, q.1) (turns_put_pass rule s v room less (inside_at p t first) (one t))
-          go (One r) q one two =
+          go None q one two = rw (q.0, q.1) (turns_put_pass rule s v room less (inside_at p t first) (one t))
+          go (Some r) q one two =
               rw q.0 (turns_put_record rule s v room less (closed_at p.head.section (p.head.offset + a) r) (inside_at p t first) o₁ (two r t) q.1)
 
       pub block_put_first : (x : LineHeld) (o₂ : List ℕ) (q : Place) (r : LineRecord) (stuck : Bool) → LinesPut rule s p room first o₁ x o₂ → q ≡ past_lines p x.done
-          → r ≡ held_record p x.offset x.flags x.word → BlockPut rule s room p held n o (record { n = x.n; place = q; held = One r; stuck = stuck }) o₂
+          → r ≡ held_record p x.offset x.flags x.word → BlockPut rule s room p held n o (record { n = x.n; place = q; held = Some r; stuck = stuck }) o₂
       block_put_first x o₂ q r stuck k eq er =
           rw (past_fit s p f x.done k.inside q eq, er) (record {
             most = k.most;
@@ -262,7 +260,7 @@ module _ (rule : ℕ → Sort) (s : List ℕ) (room : ℕ) (p : Place) (held : H
 -- ---- block after block: what the loop keeps
 
 -- x stands in the body of p, with room for another record
-pub record BlocksPut (rule : ℕ → Sort) (s : List ℕ) (room : ℕ) (p : Place) (held : Held) (n : ℕ) (o : List ℕ) (x : InBody) (o' : List ℕ) : Type 0 where
+pub record BlocksPut (rule : ℕ → Sort) (s : List ℕ) (room : ℕ) (p : Place) (held : Option LineRecord) (n : ℕ) (o : List ℕ) (x : InBody) (o' : List ℕ) : Type 0 where
   pub fit : LinesFit s x.place
   pub less : x.n < room
   pub size : length o' ≡ length o
@@ -270,7 +268,7 @@ pub record BlocksPut (rule : ℕ → Sort) (s : List ℕ) (room : ℕ) (p : Plac
   pub end : x.place.end ≡ p.end
   pub turns : (v : List ℕ) (t : Rest) → TurnsPut rule s v room n (Inside p (with_held t held)) o x.n (Inside x.place (with_held t x.held)) o'
 
-module _ (rule : ℕ → Sort) (s : List ℕ) (room : ℕ) (p : Place) (held : Held) (n : ℕ) (o : List ℕ) where
+module _ (rule : ℕ → Sort) (s : List ℕ) (room : ℕ) (p : Place) (held : Option LineRecord) (n : ℕ) (o : List ℕ) where
   pub blocks_put_start : LinesFit s p → n < room → (stuck : Bool) → BlocksPut rule s room p held n o (record { n = n; place = p; held = held; stuck = stuck }) o
   blocks_put_start f l stuck = record { fit = f; less = l; size = refl; head = refl; end = refl; turns = λ v t. turns_put_same rule s v room }
 

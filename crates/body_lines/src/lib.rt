@@ -13,7 +13,7 @@ ghost use Rattle.body_lines.specs.BodyLines.{held_record, LinesFit, LinePut, Lin
 
 use line_record::{LineRecord, closed, is_marker, record_of};
 use line_state_words::{RECORD_WORDS, put_row};
-use line_step::{Held, NextBlock, Place, next_block, past_lines, source_of};
+use line_step::{Place, next_block, past_lines, source_of};
 use lines::has_columns;
 use refusal::LONGEST;
 use word::u32_at;
@@ -25,6 +25,7 @@ struct Line {
     flags: u32,
 }
 
+#[tactic(auto, using(crate::specs::BodyLinesLaws::part_word))]
 fn line_at(area: &[u8], at: usize) -> Line
     requires { at + 8 ≤ length area.now }
     ensures { (result.offset ≡ u32_at area.now at) × (result.flags ≡ u32_at area.now (at + 4)) }
@@ -36,6 +37,7 @@ fn line_at(area: &[u8], at: usize) -> Line
 }
 
 // The column word of a line, if there are columns.
+#[tactic(auto, using(crate::specs::BodyLinesLaws::part_word, crate::specs::BodyLinesLaws::no_columns_lem))]
 fn column_at(area: &[u8], columns: bool, at: usize) -> u32
     requires { at + 4 ≤ length area.now }
     ensures { column_if columns result ≡ column_if columns (u32_at area.now at) }
@@ -64,6 +66,7 @@ pub struct LineHeld {
 }
 
 // A record whose words have room. They are put as a part of their own, of a length that is known.
+#[tactic(auto, using(answer_words::specs::PiecesLaws::put_part, line_state_words::specs::LineWordsLaws::record_length))]
 fn put_words(out: &mut [u32], at: usize, r: LineRecord)
     requires { at + record_size ≤ length out.old }
     ensures { out.new ≡ store out.old at (record_words r) }
@@ -73,6 +76,7 @@ fn put_words(out: &mut [u32], at: usize, r: LineRecord)
 
 // A line that gives a record: the held one is put, closed by it, and the line's own is held. A line that lies before the held one closes nothing; that is
 // told apart here, where the held one is known to have no length, since a walk takes 4 % fewer instructions so (docs/SPEED.md, 62).
+#[tactic(auto, using(crate::specs::BodyLinesLaws::columns_as, crate::specs::BodyLinesLaws::put_before, crate::specs::BodyLinesLaws::put_closed))]
 fn put_line(area: &[u8], p: Place, x: LineHeld, e: Line, out: &mut [u32]) -> LineHeld
     requires lines_fit { LinesFit area.now p }
     requires done_lt_lines { (x.done < p.lines) × (record_size * x.n + record_size ≤ length out.old) × (p.head.offset + e.offset ≤ max_offset) }
@@ -125,13 +129,13 @@ fn put_lines(area: &[u8], p: Place, first: LineHeld, room: usize, out: &mut [u32
 }
 
 // Puts the record that is held, if there is one, as an end closes it; how many records there are then.
-fn put_held(out: &mut [u32], n: usize, held: Held, section: u16, end: u32) -> usize
+fn put_held(out: &mut [u32], n: usize, held: Option<LineRecord>, section: u16, end: u32) -> usize
     requires { record_size * n + record_size ≤ length out.old }
     ensures { HeldPut held section end n out.old result out.new }
 {
     match held {
-        Held::Nothing => n,
-        Held::One(q) => {
+        None => n,
+        Some(q) => {
             let more = n + 1;
             put_words(out, RECORD_WORDS * n, closed(q, section, end));
             more
@@ -144,7 +148,7 @@ fn put_held(out: &mut [u32], n: usize, held: Held, section: u16, end: u32) -> us
 pub struct InBody {
     pub n: usize,
     pub place: Place,
-    pub held: Held,
+    pub held: Option<LineRecord>,
     pub stuck: bool,
 }
 
@@ -152,7 +156,7 @@ pub struct InBody {
 fn first_line(
     area: &[u8],
     p: Place,
-    held: Held,
+    held: Option<LineRecord>,
     n: usize,
     e: Line,
     room: usize,
@@ -181,13 +185,20 @@ fn first_line(
     InBody {
         n: x.n,
         place,
-        held: Held::One(r),
+        held: Some(r),
         stuck: x.n == room,
     }
 }
 
 // The lines of a block, of which there is one at least.
-fn block_lines(area: &[u8], p: Place, held: Held, n: usize, room: usize, out: &mut [u32]) -> InBody
+fn block_lines(
+    area: &[u8],
+    p: Place,
+    held: Option<LineRecord>,
+    n: usize,
+    room: usize,
+    out: &mut [u32],
+) -> InBody
     requires lines_fit { LinesFit area.now p }
     requires le_lines { (1 ≤ p.lines) × (n < room) × (record_size * room ≤ length out.old) }
     ensures block_put { BlockPut crate_rule area.now room p held n out.old result out.new }
@@ -256,14 +267,14 @@ fn blocks(area: &[u8], first: InBody, room: usize, out: &mut [u32]) -> InBody
         if p.lines == 0 {
             let end = p.end;
             match next_block(&area[..end], p) {
-                NextBlock::In(q) => {
+                Ok(Some(q)) => {
                     x.place = q;
                 }
-                NextBlock::Done => {
+                Ok(None) => {
                     x.stuck = false;
                     return x;
                 }
-                NextBlock::Refused(_) => {
+                Err(_) => {
                     x.stuck = true;
                     return x;
                 }
@@ -278,7 +289,13 @@ fn blocks(area: &[u8], first: InBody, room: usize, out: &mut [u32]) -> InBody
 }
 
 // The lines of a body from a place on, as many as there is room for. Where anything is unusual the walk stands before it.
-pub fn body_lines(area: &[u8], place: Place, held: Held, n: usize, out: &mut [u32]) -> InBody
+pub fn body_lines(
+    area: &[u8],
+    place: Place,
+    held: Option<LineRecord>,
+    n: usize,
+    out: &mut [u32],
+) -> InBody
     ensures { BodyPut crate_rule area.now (length out.old / record_size) place held n out.old result out.new }
 {
     let room = out.len() / RECORD_WORDS;

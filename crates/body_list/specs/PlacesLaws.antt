@@ -1,5 +1,5 @@
 -- Where a line subsection begins a search for its body may begin, too: 8 bytes before the body, which is what the search looks at first.
-use Rattle.std.specs.Prelude.{ℕ, ◌+◌, ◌-◌, ◌<◌, ◌≤◌, ◌≡◌, refl, ◌⊎◌, List, map, length, eqb}
+use Rattle.std.specs.Prelude.{ℕ, ◌+◌, ◌-◌, ◌<◌, ◌≤◌, ◌≡◌, refl, List, map, length, eqb}
 use Rattle.std.proofs.Common.{sym, ◌∙◌}
 use Rattle.std.proofs.Math.Path.{ap, subst⁻¹}
 use Rattle.std.proofs.Math.Logic.{⊎_elim}

@@ -13,9 +13,10 @@ ghost use Rattle.body_list.specs.Search.{halved, is_areas, begin_in, begin_held,
 ghost use Rattle.body_list.specs.Looks.{holds};
 ghost use Rattle.body_list.specs.Told.{told_located};
 
-use area::{SubStep, sub_at};
+use area::sub_at;
+use find::Span;
 use kinds::LINES;
-use lines::{Counted, Named, count_lines, slot_body};
+use lines::{count_lines, slot_body};
 use refusal::Refusal;
 
 // The starts of the line bodies, in the order of the area.
@@ -28,22 +29,17 @@ fn fill(area: &[u8], bodies: &mut [u32])
     let mut p: usize = 0;
     loop {
         match sub_at(area, p) {
-            SubStep::Sub {
-                kind,
-                start,
-                len: _,
-                next,
-            } => {
-                if kind == LINES {
-                    bodies[n] = start as u32;
+            Ok(Some((sub, next))) => {
+                if sub.kind == LINES {
+                    bodies[n] = sub.start as u32;
                     n += 1;
                 }
                 p = next;
             }
-            SubStep::None => {
+            Ok(None) => {
                 return;
             }
-            SubStep::Refused(_) => {
+            Err(_) => {
                 return;
             }
         }
@@ -51,20 +47,16 @@ fn fill(area: &[u8], bodies: &mut [u32])
 }
 
 // The tests over the whole area come first, then that the slots suffice. A call that is refused writes nothing.
-pub fn body_list(area: &[u8], bodies: &mut [u32]) -> Counted
+pub fn body_list(area: &[u8], bodies: &mut [u32]) -> Result<usize, Refusal>
     ensures result_value { told_counted result ≡ body_list crate_rule area.now (length bodies.old) }
     ensures bodies_after { bodies.new ≡ bodies_after crate_rule area.now bodies.old }
 {
-    match count_lines(area) {
-        Counted::Lines(n) => {
-            if bodies.len() < n {
-                return Counted::Refused(Refusal::NoRoom);
-            }
-            fill(area, bodies);
-            Counted::Lines(n)
-        }
-        Counted::Refused(why) => Counted::Refused(why),
+    let n = count_lines(area)?;
+    if bodies.len() < n {
+        return Err(Refusal::NoRoom);
     }
+    fill(area, bodies);
+    Ok(n)
 }
 
 // What a call has found out so far: nothing; that the lent list is the area's, and that the subsections come to the place where a search may begin; or
@@ -79,7 +71,7 @@ pub enum Known {
 // The body that a slot names, and what is known behind it.
 #[derive(Clone, Copy)]
 pub struct Located {
-    pub named: Named,
+    pub named: Result<Span, Refusal>,
     pub known: Known,
 }
 
@@ -105,6 +97,7 @@ fn halved(bodies: &[u32], body: usize) -> bool
 }
 
 // Does the slot at i hold `body`?
+#[tactic(auto, using(crate::specs::StepLaws::holds_past, crate::specs::StepLaws::holds_is))]
 fn holds(bodies: &[u32], i: usize, body: usize) -> bool
     ensures { result ≡ holds body bodies.now i }
 {
@@ -122,24 +115,19 @@ fn is_areas(area: &[u8], bodies: &[u32]) -> bool
     let mut p: usize = 0;
     loop {
         match sub_at(area, p) {
-            SubStep::Sub {
-                kind,
-                start,
-                len: _,
-                next,
-            } => {
-                if kind == LINES {
-                    if !holds(bodies, n, start) {
+            Ok(Some((sub, next))) => {
+                if sub.kind == LINES {
+                    if !holds(bodies, n, sub.start) {
                         return false;
                     }
                     n += 1;
                 }
                 p = next;
             }
-            SubStep::None => {
+            Ok(None) => {
                 return n == bodies.len();
             }
-            SubStep::Refused(_) => {
+            Err(_) => {
                 return n == bodies.len();
             }
         }
@@ -154,6 +142,7 @@ struct Begin {
 }
 
 // At the header of a body that stands in the list.
+#[tactic(auto, using(crate::specs::StepLaws::in_low, crate::specs::StepLaws::in_found, crate::specs::StepLaws::in_missed))]
 fn begin_in(bodies: &[u32], body: usize, scan: usize) -> usize
     ensures { result ≡ begin_in bodies.now body scan }
 {
@@ -167,6 +156,7 @@ fn begin_in(bodies: &[u32], body: usize, scan: usize) -> usize
 }
 
 // The list is held against the area.
+#[tactic(auto, using(crate::specs::StepLaws::held_areas, crate::specs::StepLaws::held_other))]
 fn begin_held(area: &[u8], bodies: &[u32], body: usize, scan: usize) -> Begin
     ensures { result ≡ begin_held crate_rule area.now bodies.now body scan }
 {
@@ -183,6 +173,7 @@ fn begin_held(area: &[u8], bodies: &[u32], body: usize, scan: usize) -> Begin
 }
 
 // A body that does not lie behind `scan` is a step back, which would be searched for from the area's start: it is worth a look at the list.
+#[tactic(auto, using(crate::specs::StepLaws::nothing_on, crate::specs::StepLaws::nothing_back, crate::specs::StepLaws::bodies_in_lem, crate::specs::StepLaws::other_on))]
 fn begin_of(area: &[u8], bodies: &[u32], known: Known, body: usize, scan: usize) -> Begin
     ensures { result ≡ begin_of crate_rule area.now bodies.now known body scan }
 {
@@ -209,6 +200,7 @@ fn begin_of(area: &[u8], bodies: &[u32], known: Known, body: usize, scan: usize)
 
 // The line body that a slot names, as `slot_body` finds it. `scan` is where the search may begin: the end of the body that was named last, or 0.
 // `bodies` is the area's list of bodies, or any other; `known` is what the call before answered, or `Nothing`.
+#[tactic(auto, using(crate::specs::StepLaws::found_missing, crate::specs::StepLaws::found_begin))]
 pub fn find_body(
     area: &[u8],
     slots: &[u32],
@@ -221,7 +213,7 @@ pub fn find_body(
 {
     if slots.len() <= slot {
         return Located {
-            named: Named::Refused(Refusal::WrongSlot),
+            named: Err(Refusal::WrongSlot),
             known,
         };
     }

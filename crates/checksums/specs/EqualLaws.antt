@@ -1,5 +1,6 @@
 -- Laws of the comparison of two checksums: a law for each way out of the code, and what "equal" says.
-use Rattle.std.specs.Prelude.{ℕ, ◌+◌, ◌<◌, ◌≤◌, ◌≡◌, refl, List, [], ◌∷◌, Bool, true, false, cond, length, drop, get_or, eqb}
+use Rattle.std.specs.Prelude.{ℕ, ◌+◌, ◌<◌, ◌≤◌, ◌≡◌, refl, List, [], ◌∷◌, Bool, true, false, cond, length, drop, get_or, eqb, ◌&&◌}
+use Rattle.std.specs.Cmp.Lexicographic.{pointwise}
 use Rattle.std.proofs.Math.Path.{sym}
 use Rattle.std.proofs.Common.{◌∙◌, arith, eq-eqb, eqb-true}
 use Rattle.std.proofs.Math.Numerals.{add-one}
@@ -9,7 +10,7 @@ use Rattle.std.proofs.lemmas.Bool.{eqb-false}
 use Rattle.walk.specs.Cases.{tests, by_cases}
 use Rattle.checksums.specs.Equal.{equal_bytes, equal_sums}
 
--- ---- the loop over the bytes
+-- ---- the bytes, one behind the other
 
 pub bytes_longer : (a b : List ℕ) → (length a ≡ length b → ⊥) → false ≡ equal_bytes a b
 unfolding equal_bytes
@@ -36,6 +37,18 @@ module _ (a b : List ℕ) (i : ℕ) (e : equal_bytes (drop i a) (drop i b) ≡ e
   unfolding equal_bytes
   bytes_end ha hb = sym (rw (drop_of_length-le a ha, drop_of_length-le b hb) refl) ∙ e
 
+-- the comparison of two slices is that of their bytes
+slices_are : (a b : List ℕ) → pointwise eqb a b ≡ equal_bytes a b
+unfolding equal_bytes
+slices_are [] [] = refl
+slices_are [] (y ∷ b) = refl
+slices_are (x ∷ a) [] = refl
+slices_are (x ∷ a) (y ∷ b) = by (eqb x y) (slices_are a b)
+  where
+    by : (t : Bool) {r q : Bool} → r ≡ q → (t && r) ≡ cond t q false
+    by true e = e
+    by false e = refl
+
 -- ---- the tests of `checksums_equal`
 
 module _ (k : ℕ) (a : List ℕ) (j : ℕ) (b : List ℕ) where
@@ -51,6 +64,9 @@ module _ (k : ℕ) (a : List ℕ) (j : ℕ) (b : List ℕ) where
     pub sums_bytes : k ≡ j → equal_bytes a b ≡ equal_sums k a j b
     unfolding equal_sums
     sums_bytes h = simp tests
+
+    pub sums_slices : k ≡ j → pointwise eqb a b ≡ equal_sums k a j b
+    sums_slices h = slices_are a b ∙ sums_bytes h
 
 -- ---- what "equal" says
 

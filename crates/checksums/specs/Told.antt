@@ -1,15 +1,14 @@
 -- What the answers of this crate tell. Source: document 01, "Refusal numbers", and the values that it names for each.
 -- Definitions only; a reader must believe them.
-use Rattle.std.specs.Prelude.{ℕ}
-use Rattle.walk.specs.Listing.{Answer, gives, none, refuses, Reply, gave, refused}
-use Rattle.refusal.specs.Told.{Told, told}
+use Rattle.std.specs.Prelude.{ℕ, Option, Result}
+use Rattle.walk.specs.Listing.{Answer, Reply}
+use Rattle.refusal.specs.Told.{Told}
+use Rattle.refusal.specs.Answers.{told_result, told_answer}
+use Rattle.refusal.specs.declared.Refusal.{Refusal}
 use Rattle.checksums.specs.Entry.{Entry}
+use Rattle.checksums.specs.declared as code
 use Rattle.checksums.specs.declared.ChecksumKind.{ChecksumKind}
 use Rattle.checksums.specs.declared.ChecksumKind.TheVariants as kind
-use Rattle.checksums.specs.declared.ParsedKind.{ParsedKind}
-use Rattle.checksums.specs.declared.ParsedKind.TheVariants as parsed
-use Rattle.checksums.specs.declared.EntryStep.{EntryStep}
-use Rattle.checksums.specs.declared.EntryStep.TheVariants as step
 
 -- cvinfo.h, `CV_SourceChksum_t`
 abbrev pub told_kind : ChecksumKind → ℕ
@@ -18,11 +17,11 @@ told_kind kind.Md5 = 1
 told_kind kind.Sha1 = 2
 told_kind kind.Sha256 = 3
 
-abbrev pub told_parsed : ParsedKind → Reply ℕ Told
-told_parsed (parsed.Kind k) = gave (told_kind k)
-told_parsed (parsed.Refused r) = refused (told r)
+abbrev pub told_parsed : Result ChecksumKind Refusal → Reply ℕ Told
+told_parsed = told_result told_kind
 
-abbrev pub told_entry : EntryStep → Answer ℕ Entry Told
-told_entry (step.Entry i k a n x) = gives (record { name = i; kind = told_kind k; start = a; len = n }) x
-told_entry step.None = none
-told_entry (step.Refused r) = refuses (told r)
+abbrev pub told_one_entry : code.Entry.Entry → Entry
+told_one_entry e = record { name = e.name; kind = told_kind e.kind; start = e.start; len = e.len }
+
+abbrev pub told_entry : Result (Option (code.Entry.Entry × ℕ)) Refusal → Answer ℕ Entry Told
+told_entry = told_answer told_one_entry

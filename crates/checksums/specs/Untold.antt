@@ -1,18 +1,14 @@
 -- Nothing is lost in what the answers of this crate tell: no second one tells the same.
-use Rattle.std.specs.Prelude.{ℕ, ◌≡◌, refl, List, [], ◌∷◌, get_or}
-use Rattle.std.proofs.Common.{ap}
-use Rattle.walk.specs.Listing.{Answer, gives, none, refuses, Reply, gave, nothing, refused}
+use Rattle.std.specs.Prelude.{ℕ, ◌≡◌, refl, List, [], ◌∷◌, get_or, Option, Result}
+use Rattle.walk.specs.Listing.{Answer, Reply}
 use Rattle.refusal.specs.Told.{Told}
-use Rattle.refusal.specs.Untold.{untold, untold_told}
-use Rattle.refusal.specs.declared.Refusal.TheVariants as why
+use Rattle.refusal.specs.Untold.{untold_result, untold_result_lem, untold_answer, untold_answer_lem}
+use Rattle.refusal.specs.declared.Refusal.{Refusal}
 use Rattle.checksums.specs.Entry.{Entry}
+use Rattle.checksums.specs.declared as code
 use Rattle.checksums.specs.declared.ChecksumKind.{ChecksumKind}
 use Rattle.checksums.specs.declared.ChecksumKind.TheVariants as kind
-use Rattle.checksums.specs.declared.ParsedKind.{ParsedKind}
-use Rattle.checksums.specs.declared.ParsedKind.TheVariants as parsed
-use Rattle.checksums.specs.declared.EntryStep.{EntryStep}
-use Rattle.checksums.specs.declared.EntryStep.TheVariants as step
-use Rattle.checksums.specs.Told.{told_kind, told_parsed, told_entry}
+use Rattle.checksums.specs.Told.{told_kind, told_parsed, told_one_entry, told_entry}
 
 abbrev kinds : List ChecksumKind
 kinds = kind.None ∷ kind.Md5 ∷ kind.Sha1 ∷ kind.Sha256 ∷ []
@@ -26,22 +22,20 @@ untold_kind_lem kind.Md5 = refl
 untold_kind_lem kind.Sha1 = refl
 untold_kind_lem kind.Sha256 = refl
 
--- no answer tells `nothing`
-abbrev pub untold_parsed : Reply ℕ Told → ParsedKind
-untold_parsed (gave k) = parsed.Kind (untold_kind k)
-untold_parsed nothing = parsed.Refused why.Cut
-untold_parsed (refused t) = parsed.Refused (untold t)
+abbrev pub untold_parsed : Reply ℕ Told → Result ChecksumKind Refusal
+untold_parsed = untold_result told_kind untold_kind untold_kind_lem
 
-pub untold_parsed_lem : (p : ParsedKind) → untold_parsed (told_parsed p) ≡ p
-untold_parsed_lem (parsed.Kind k) = ap parsed.Kind (untold_kind_lem k)
-untold_parsed_lem (parsed.Refused r) = ap parsed.Refused (untold_told r)
+pub untold_parsed_lem : (p : Result ChecksumKind Refusal) → untold_parsed (told_parsed p) ≡ p
+untold_parsed_lem = untold_result_lem told_kind untold_kind untold_kind_lem
 
-abbrev pub untold_entry : Answer ℕ Entry Told → EntryStep
-untold_entry (gives e x) = step.Entry e.name (untold_kind e.kind) e.start e.len x
-untold_entry none = step.None
-untold_entry (refuses t) = step.Refused (untold t)
+abbrev pub untold_one_entry : Entry → code.Entry.Entry
+untold_one_entry e = record { name = e.name; kind = untold_kind e.kind; start = e.start; len = e.len }
 
-pub untold_entry_lem : (h : EntryStep) → untold_entry (told_entry h) ≡ h
-untold_entry_lem (step.Entry i k a n x) = ap (λ (j : ChecksumKind). step.Entry i j a n x) (untold_kind_lem k)
-untold_entry_lem step.None = refl
-untold_entry_lem (step.Refused r) = ap step.Refused (untold_told r)
+pub untold_one_entry_lem : (e : code.Entry.Entry) → untold_one_entry (told_one_entry e) ≡ e
+untold_one_entry_lem e = λ i. record { name = e.name; kind = untold_kind_lem e.kind i; start = e.start; len = e.len }
+
+abbrev pub untold_entry : Answer ℕ Entry Told → Result (Option (code.Entry.Entry × ℕ)) Refusal
+untold_entry = untold_answer told_one_entry untold_one_entry untold_one_entry_lem
+
+pub untold_entry_lem : (h : Result (Option (code.Entry.Entry × ℕ)) Refusal) → untold_entry (told_entry h) ≡ h
+untold_entry_lem = untold_answer_lem told_one_entry untold_one_entry untold_one_entry_lem

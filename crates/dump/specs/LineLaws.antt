@@ -1,6 +1,6 @@
 -- What the steps of a text tell of its lines: how many there are, few enough to be counted in a machine word, and how long the last one is, by which a
 -- refusal is known.
-use Rattle.std.specs.Prelude.{ℕ, zero, suc, ◌*◌, ◌≤◌, ◌<◌, ◌≡◌, List, Bool, cond, length}
+use Rattle.std.specs.Prelude.{ℕ, zero, suc, ◌*◌, ◌≤◌, ◌<◌, ◌≡◌, List, Bool, cond, length, Option, Result}
 use Rattle.std.proofs.Math.Path.{refl, ap}
 use Rattle.std.proofs.Common.{sym, ◌∙◌}
 use Rattle.std.proofs.Math.Bool.{true, false}
@@ -10,6 +10,7 @@ use Rattle.std.proofs.Math.Dec.{ltb}
 use borrow.Author.Tests.{ltb-false, lt-ltb, le-ltb}
 use Rattle.walk.specs.Listing.{Listing, more, ends, fails, Answer, gives, none, refuses, Reply, gave, nothing, refused, on_move, moved}
 use Rattle.refusal.specs.Told.{Told, told}
+use Rattle.refusal.specs.declared.Refusal.{Refusal}
 use Rattle.refusal.specs.declared.Refusal.TheVariants as why
 use Rattle.kinds.specs.Kind.{Sort}
 use Rattle.lines.specs.Lines.{count_lines}
@@ -23,7 +24,6 @@ use Rattle.listing.specs.Told.{told_text}
 use Rattle.listing.specs.RoomLaws.{room_taken}
 use Rattle.listing.specs.LessLaws.{text_left, text_less}
 use Rattle.listing.specs.DumpLaws.{lines_from, text_right, lines_new, slots_suffice}
-use Rattle.listing.specs.declared.TextStep.{TextStep}
 use Rattle.listing.specs.declared.TextWalk.{TextWalk}
 use Rattle.listing.specs.declared.TextWalk.TheVariants.{Head, Subs, Done}
 
@@ -77,7 +77,8 @@ module _ (rule : ℕ → Sort) (s v : List ℕ) where
 
   -- ---- what `next_text` answers where it has the room says both
 
-  text_sized : (r q : TextStep) (b y : List ℕ) (w : TextWalk) → r ≡ q → both (told_text r) y ≡ text_step b (step_of rule s v w) → longest_line ≤ length b
+  text_sized : (r q : Result (Option (ℕ × TextWalk)) Refusal)
+      (b y : List ℕ) (w : TextWalk) → r ≡ q → both (told_text r) y ≡ text_step b (step_of rule s v w) → longest_line ≤ length b
       → sized (step_of rule s v w) ≡ told_text q
   unfolding text_step line_shown
   text_sized r q b y w er e h = by (step_of rule s v w) (e ∙ rw (le-ltb (length b) longest_line h)) ∙ ap told_text er
@@ -87,11 +88,13 @@ module _ (rule : ℕ → Sort) (s v : List ℕ) where
       by none z = ap (λ (k : Both). k.answer) (sym z)
       by (refuses t) z = ap (λ (k : Both). k.answer) (sym z)
 
-  pub text_counts : (r q : TextStep) (b y : List ℕ) (w : TextWalk) → r ≡ q → both (told_text r) y ≡ text_step b (step_of rule s v w) → longest_line ≤ length b
+  pub text_counts : (r q : Result (Option (ℕ × TextWalk)) Refusal)
+      (b y : List ℕ) (w : TextWalk) → r ≡ q → both (told_text r) y ≡ text_step b (step_of rule s v w) → longest_line ≤ length b
       → size_from w ≡ counted (told_text q)
   text_counts r q b y w er e h = size_step w ∙ ap counted (text_sized r q b y w er e h)
 
-  pub text_lasts : (r q : TextStep) (b y : List ℕ) (k : ℕ) (w : TextWalk) → r ≡ q → both (told_text r) y ≡ text_step b (step_of rule s v w) → longest_line ≤ length b
+  pub text_lasts : (r q : Result (Option (ℕ × TextWalk)) Refusal)
+      (b y : List ℕ) (k : ℕ) (w : TextWalk) → r ≡ q → both (told_text r) y ≡ text_step b (step_of rule s v w) → longest_line ≤ length b
       → last_from k w ≡ lasting k (told_text q)
   text_lasts r q b y k w er e h = last_step k w ∙ ap (lasting k) (text_sized r q b y w er e h)
 

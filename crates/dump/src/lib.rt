@@ -12,7 +12,7 @@ ghost use Rattle.listing.specs.DumpLaws.{lines_from};
 ghost use Rattle.listing.specs.declared.TextWalk.TheVariants.{Head};
 ghost use Rattle.dump.specs.LineLaws.{last_size};
 
-use listing::{LINE, TextStep, TextWalk, next_text};
+use listing::{LINE, TextWalk, next_text};
 use order::order_list;
 use std::io;
 
@@ -70,7 +70,7 @@ fn print_lines(rt: &impl Print, area: &[u8], slots: &[u32], block: &mut [u8]) ->
         used = held.used;
         written = held.written;
         let step = next_text(area, slots, walk, &mut block[used..]);
-        let TextStep::Line { len, next } = step else {
+        let Ok(Some((len, next))) = step else {
             return Printed {
                 lines,
                 refused: END < last,
@@ -91,7 +91,7 @@ pub fn print(rt: &impl Print, area: &[u8]) -> Printed
     ensures refused { result.refused ≡ sheet_refused crate_rule area.now }
 {
     let mut slots = [0u32; 3277];
-    order_list(area, &mut slots);
+    let _ = order_list(area, &mut slots);
     let mut block = [0u8; 65536];
     print_lines(rt, area, &slots, &mut block)
 }

@@ -14,10 +14,10 @@ use answer_words::{
     GIVEN, NONE, REFUSAL_WORDS, TABLE_STATE_WORDS, TOO_SHORT, answer_status, over_table, put,
     put_refusal, walk_in, walk_words,
 };
-use checksums::number;
-use files::{FileAnswer, FileStep, checksum_body};
-use find::Found;
-use many_files::{FilesStep, next_files};
+use checksums::{Entry, number};
+use files::checksum_body;
+use many_files::next_files;
+use refusal::Refusal;
 
 // The words of `out` that a call for many files asks for: a walk's state, and those of a refusal.
 const ASKED: usize = TABLE_STATE_WORDS + REFUSAL_WORDS;
@@ -27,16 +27,9 @@ pub fn next_file(area: &[u8], out: &mut [u64]) -> u32
     ensures { Gives out.old (file_given crate_rule area.now out.old) result out.new }
 {
     match files::next_file(area, walk_in(out)) {
-        FileStep::File {
-            index,
-            name,
-            kind,
-            start,
-            len,
-            next,
-        } => {
+        Ok(Some((file, next))) => {
             let w = walk_words(next);
-            let k = number(kind) as u64;
+            let k = number(file.entry.kind) as u64;
             put(
                 out,
                 0,
@@ -45,17 +38,17 @@ pub fn next_file(area: &[u8], out: &mut [u64]) -> u32
                     w.1,
                     w.2,
                     w.3,
-                    index as u64,
-                    name as u64,
+                    file.index as u64,
+                    file.entry.name as u64,
                     k,
-                    start as u64,
-                    len as u64,
+                    file.entry.start as u64,
+                    file.entry.len as u64,
                 ],
                 GIVEN,
             )
         }
-        FileStep::None => NONE,
-        FileStep::Refused(why) => put_refusal(out, TABLE_STATE_WORDS, why),
+        Ok(None) => NONE,
+        Err(why) => put_refusal(out, TABLE_STATE_WORDS, why),
     }
 }
 
@@ -71,31 +64,31 @@ pub fn files(area: &[u8], records: &mut [u32], out: &mut [u64]) -> u32
         return TOO_SHORT;
     }
     match next_files(area, walk_in(out), records) {
-        FilesStep::Files { count, next } => {
+        Ok(Some((count, next))) => {
             let status = answer_status(over_table(next));
             let w = walk_words(next);
             put(out, 0, &[w.0, w.1, w.2, w.3, count as u64], status)
         }
-        FilesStep::None => NONE,
-        FilesStep::Refused(why) => put_refusal(out, TABLE_STATE_WORDS, why),
+        Ok(None) => NONE,
+        Err(why) => put_refusal(out, TABLE_STATE_WORDS, why),
     }
 }
 
 // What is known of a file. Words: its name, its checksum's kind, and the place and the length of the bytes.
-fn put_info(out: &mut [u64], answer: FileAnswer) -> u32
+fn put_info(out: &mut [u64], answer: Result<Entry, Refusal>) -> u32
     ensures { Gives out.old (reply_given info_words (told_info answer)) result out.new }
 {
     match answer {
-        FileAnswer::File {
-            name,
-            kind,
-            start,
-            len,
-        } => {
-            let k = number(kind) as u64;
-            put(out, 0, &[name as u64, k, start as u64, len as u64], GIVEN)
+        Ok(entry) => {
+            let k = number(entry.kind) as u64;
+            put(
+                out,
+                0,
+                &[entry.name as u64, k, entry.start as u64, entry.len as u64],
+                GIVEN,
+            )
         }
-        FileAnswer::Refused(why) => put_refusal(out, 0, why),
+        Err(why) => put_refusal(out, 0, why),
     }
 }
 
@@ -111,9 +104,9 @@ pub fn checksums(area: &[u8], out: &mut [u64]) -> u32
     ensures { Gives out.old (checksums_given crate_rule area.now) result out.new }
 {
     match checksum_body(area) {
-        Found::At { start, len } => put(out, 0, &[start as u64, len as u64], GIVEN),
-        Found::None => put(out, 0, &[0, 0], GIVEN),
-        Found::Refused(why) => put_refusal(out, 0, why),
+        Ok(Some(body)) => put(out, 0, &[body.start as u64, body.len as u64], GIVEN),
+        Ok(None) => put(out, 0, &[0, 0], GIVEN),
+        Err(why) => put_refusal(out, 0, why),
     }
 }
 

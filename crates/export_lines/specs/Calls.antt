@@ -3,12 +3,11 @@
 -- The word of the state, or the parameter, that should name a reading of end lines is looked at first.
 -- Source: docs/DECISIONS.md, 32 and 59.
 -- Definitions only; a reader must believe them.
-use Rattle.std.specs.Prelude.{ℕ, List, Bool, true, false, not, cond, eqb, length}
+use Rattle.std.specs.Prelude.{ℕ, List, Bool, false, not, cond, eqb, length, Option, is_some}
 use Rattle.kinds.specs.Kind.{Sort}
 use Rattle.order.specs.Order.{ordered, slots_after}
 use Rattle.body_list.specs.BodyList.{body_list, bodies_after}
-use Rattle.line_step.specs.declared.Held.{Held}
-use Rattle.line_step.specs.declared.Held.TheVariants.{Nothing, One}
+use Rattle.line_record.specs.declared.LineRecord.{LineRecord}
 use Rattle.line_step.specs.declared.Rest.{Rest}
 use Rattle.line_step.specs.declared.LineWalk.{LineWalk}
 use Rattle.line_step.specs.declared.LineWalk.TheVariants.{New, Between, Inside}
@@ -42,9 +41,8 @@ abbrev pub symbol_given : (ℕ → Sort) → List ℕ → List ℕ → ℕ → �
 symbol_given rule s v section offset n = if_chosen choice_given (λ how. reply_given line_walk_words (symbol_walk how rule s v section offset)) (how_named n)
 
 -- whether no record comes behind a walk: no subsection is left, and no record held
-abbrev pub holds_one : Held → Bool
-holds_one Nothing = false
-holds_one (One r) = true
+abbrev pub holds_one : Option LineRecord → Bool
+holds_one h = is_some h
 
 abbrev pub over_rest : Rest → Bool
 over_rest t = cond (eqb t.left 0) (not (holds_one t.held)) false

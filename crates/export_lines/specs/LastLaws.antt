@@ -1,7 +1,7 @@
 -- Behind the last records there is none: status 4 of the call for many records says so.
-use Rattle.std.specs.Prelude.{ℕ, ◌+◌, ◌≤◌, ◌<◌, ◌≡◌, refl, List, [], ◌∷◌, ◌++◌, Bool, true, false, not, cond, length, drop, eqb}
-use Rattle.std.proofs.Common.{sym, ap, ◌∙◌, subst, ⊎_elim, append_assoc, arith, eqb-true}
-use Rattle.std.proofs.Math.Option.{Option, some}
+use Rattle.std.specs.Prelude.{ℕ, ◌+◌, ◌≤◌, ◌<◌, ◌≡◌, refl, List, [], ◌∷◌, Bool, true, false, not, length, drop, eqb, Option, None, Some}
+use Rattle.std.proofs.Common.{sym, ap, ◌∙◌, ⊎_elim, append_assoc, arith, eqb-true}
+use Rattle.std.proofs.Math.Option.{some}
 use Rattle.std.proofs.Math.Option as option
 use Rattle.word.specs.Word.{put}
 use Rattle.walk.specs.Cases.{by_cases, le_or_gt}
@@ -12,10 +12,8 @@ use Rattle.kinds.specs.Kind.{Sort}
 use Rattle.line_record.specs.declared.LineRecord.{LineRecord}
 use Rattle.line_state_words.specs.LineWords.{record_size, state_size, line_walk_in, line_walk_words, line_words, record_words}
 use Rattle.line_state_words.specs.ReadBackLaws.{FitsHeld, state_read}
-use Rattle.line_step.specs.Turn.{finish_in, turn_of}
+use Rattle.line_step.specs.Turn.{finish_in}
 use Rattle.line_step.specs.TurnLaws.{between_end, turn_is, turn_long}
-use Rattle.line_step.specs.declared.Held.{Held}
-use Rattle.line_step.specs.declared.Held.TheVariants.{Nothing, One}
 use Rattle.line_step.specs.declared.Rest.{Rest}
 use Rattle.line_step.specs.declared.LineWalk.{LineWalk}
 use Rattle.line_step.specs.declared.LineWalk.TheVariants.{New, Between, Inside}
@@ -46,9 +44,9 @@ over_read (Between how t) o n e =
     ap line_walk_in (append_assoc (line_walk_words (Between how t)) (n ∷ []) (drop (0 + length (count_words line_walk_words n (Between how t))) o))
     ∙ state_read (Between how t) (n ∷ drop (0 + length (count_words line_walk_words n (Between how t))) o) (fits t.held (rest_over t e).1)
   where
-    fits : (h : Held) → holds_one h ≡ false → FitsHeld h
-    fits Nothing q = tt
-    fits (One r) q = not_true (sym q)
+    fits : (h : Option LineRecord) → holds_one h ≡ false → FitsHeld h
+    fits None q = tt
+    fits (Some r) q = not_true (sym q)
 over_read (Inside p t) o n e = not_true e
 
 module _ (rule : ℕ → Sort) (s v : List ℕ) where
@@ -59,9 +57,9 @@ module _ (rule : ℕ → Sort) (s v : List ℕ) where
       let q = rest_over t e in
       sym (next_is rule s v (Between how t) over (held t.held q.1 ∙ between_end rule s v how t q.0 ∙ turn_is rule s v (Between how t) f (Between how t) refl))
     where
-      held : (h : Held) → holds_one h ≡ false → over ≡ finish_in how h t
-      held Nothing q = refl
-      held (One r) q = not_true (sym q)
+      held : (h : Option LineRecord) → holds_one h ≡ false → over ≡ finish_in how h t
+      held None q = refl
+      held (Some r) q = not_true (sym q)
   over_none f (Inside p t) e = not_true e
 
   -- an area of which a step gives a record is not too long
@@ -87,7 +85,7 @@ module _ (rule : ℕ → Sort) (s v : List ℕ) where
       line : LineWalk → Given
       line w = step_given state_size line_words (next_of rule s v w)
 
-      by : (m : Option LineWalk) → Gives o (if_chosen choice_given (λ w. fill_given state_size over_walk line_walk_words o (lines_of rule s v (length x) w)) m) 4 left
+      by : (m : option.Option LineWalk) → Gives o (if_chosen choice_given (λ w. fill_given state_size over_walk line_walk_words o (lines_of rule s v (length x) w)) m) 4 left
           → line_given rule s v left ≡ none_given
       by option.none g = let q = (gives_fits g (λ e. omega arith)).0 in absurd (omega arith)
       by (some w) g =

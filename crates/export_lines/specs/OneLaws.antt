@@ -1,5 +1,5 @@
 -- One record by a call with room for one: it is the step's, and its words are those that the call put.
-use Rattle.std.specs.Prelude.{ℕ, ◌+◌, ◌/◌, ◌≤◌, ◌≡◌, refl, List, [], ◌∷◌, ◌++◌, length}
+use Rattle.std.specs.Prelude.{ℕ, ◌+◌, ◌≤◌, ◌≡◌, refl, List, [], ◌∷◌, ◌++◌, length}
 use Rattle.std.proofs.Common.{sym, ◌∙◌, subst, append-nil, arith, drop_of_length-le}
 use Rattle.std.proofs.Math.Path.{ap}
 use Rattle.word.specs.Word.{put}

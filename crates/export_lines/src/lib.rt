@@ -9,7 +9,7 @@ ghost use Rattle.kinds.specs.Kind.{crate_rule};
 ghost use Rattle.answer_words.specs.Given.{Gives, given, step_given};
 ghost use Rattle.answer_words.specs.FillGiven.{answer_status, asked_size, fill_given, fill_left};
 ghost use Rattle.export_lines.specs.Calls.{order_given, slots_left, bodies_given, bodies_left, line_given};
-ghost use Rattle.export_lines.specs.Calls.{symbol_given, holds_one, over_walk, lines_given, records_left};
+ghost use Rattle.export_lines.specs.Calls.{symbol_given, over_walk, lines_given, records_left};
 ghost use Rattle.line_state_words.specs.LineWords.{state_size, line_walk_words, line_words, record_words};
 ghost use Rattle.line_walk.specs.Next.{next_of};
 ghost use Rattle.many_lines.specs.Lines.{lines_of};
@@ -18,13 +18,10 @@ use answer_words::{
     GIVEN, NO_SUCH_CHOICE, NONE, REFUSAL_WORDS, TOO_SHORT, answer_status, put, put_refusal,
 };
 use line_state_words::{
-    NamedHow, RECORD_WORDS, STATE_WORDS, WalkIn, how_named, line_walk_in, put_line, put_line_walk,
+    RECORD_WORDS, STATE_WORDS, how_named, line_walk_in, put_line, put_line_walk,
 };
-use line_step::{Held, LineWalk};
-use lines::Counted;
-use many_lines::{LinesStep, next_lines};
-use order::Ordered;
-use symbol_lines::SymbolLines;
+use line_step::LineWalk;
+use many_lines::next_lines;
 
 // The words of `out` that a call for many records asks for: a walk's state, and those of a refusal.
 const ASKED: usize = STATE_WORDS + REFUSAL_WORDS;
@@ -40,8 +37,8 @@ pub fn order_list(area: &[u8], slots: &mut [u32], out: &mut [u64]) -> u32
         return TOO_SHORT;
     }
     match order::order_list(area, slots) {
-        Ordered::Lines(n) => put(out, 0, &[n as u64], GIVEN),
-        Ordered::Refused(why) => put_refusal(out, 0, why),
+        Ok(n) => put(out, 0, &[n as u64], GIVEN),
+        Err(why) => put_refusal(out, 0, why),
     }
 }
 
@@ -56,8 +53,8 @@ pub fn body_list(area: &[u8], bodies: &mut [u32], out: &mut [u64]) -> u32
         return TOO_SHORT;
     }
     match body_list::body_list(area, bodies) {
-        Counted::Lines(n) => put(out, 0, &[n as u64], GIVEN),
-        Counted::Refused(why) => put_refusal(out, 0, why),
+        Ok(n) => put(out, 0, &[n as u64], GIVEN),
+        Err(why) => put_refusal(out, 0, why),
     }
 }
 
@@ -69,9 +66,9 @@ fn line_from(area: &[u8], slots: &[u32], bodies: &[u32], walk: LineWalk, out: &m
 {
     let mut row = [0u32; RECORD_WORDS];
     match next_lines(area, slots, bodies, walk, &mut row) {
-        LinesStep::Lines { count: _, next } => put_line(out, next, &row),
-        LinesStep::None => NONE,
-        LinesStep::Refused(why) => put_refusal(out, STATE_WORDS, why),
+        Ok(Some((_, next))) => put_line(out, next, &row),
+        Ok(None) => NONE,
+        Err(why) => put_refusal(out, STATE_WORDS, why),
     }
 }
 
@@ -80,8 +77,8 @@ pub fn next_line(area: &[u8], slots: &[u32], bodies: &[u32], out: &mut [u64]) ->
     ensures { Gives out.old (line_given crate_rule area.now slots.now out.old) result out.new }
 {
     match line_walk_in(out) {
-        WalkIn::Walk(walk) => line_from(area, slots, bodies, walk, out),
-        WalkIn::NoSuchChoice => NO_SUCH_CHOICE,
+        Some(walk) => line_from(area, slots, bodies, walk, out),
+        None => NO_SUCH_CHOICE,
     }
 }
 
@@ -99,22 +96,12 @@ pub fn lines_for_symbol(
         (symbol_given crate_rule area.now slots.now section offset end_lines)
         result out.new }
 {
-    let NamedHow::Is(how) = how_named(end_lines as u64) else {
+    let Some(how) = how_named(end_lines as u64) else {
         return NO_SUCH_CHOICE;
     };
     match symbol_lines::lines_for_symbol(area, slots, bodies, section, offset, how) {
-        SymbolLines::Lines(walk) => put_line_walk(out, walk),
-        SymbolLines::Refused(why) => put_refusal(out, 0, why),
-    }
-}
-
-// Is a record held back?
-fn holds_one(held: Held) -> bool
-    ensures { result ≡ holds_one held }
-{
-    match held {
-        Held::Nothing => false,
-        Held::One(_) => true,
+        Ok(walk) => put_line_walk(out, walk),
+        Err(why) => put_refusal(out, 0, why),
     }
 }
 
@@ -123,15 +110,8 @@ fn is_over(walk: LineWalk) -> bool
     ensures { result ≡ over_walk walk }
 {
     match walk {
-        LineWalk::New(_) => false,
-        LineWalk::Between(_, t) => {
-            let held = t.held;
-            if t.left == 0 {
-                return !holds_one(held);
-            }
-            false
-        }
-        LineWalk::Inside(_, _) => false,
+        LineWalk::Between(_, t) => t.left == 0 && t.held.is_none(),
+        LineWalk::New(_) | LineWalk::Inside(_, _) => false,
     }
 }
 
@@ -166,9 +146,9 @@ fn lines_from(
         return TOO_SHORT;
     }
     match next_lines(area, slots, bodies, walk, records) {
-        LinesStep::Lines { count, next } => put_lines(out, count, next),
-        LinesStep::None => NONE,
-        LinesStep::Refused(why) => put_refusal(out, STATE_WORDS, why),
+        Ok(Some((count, next))) => put_lines(out, count, next),
+        Ok(None) => NONE,
+        Err(why) => put_refusal(out, STATE_WORDS, why),
     }
 }
 
@@ -187,7 +167,7 @@ pub fn lines(
     ensures records_after { records.new ≡ records_left crate_rule area.now slots.now records.old out.old }
 {
     match line_walk_in(out) {
-        WalkIn::Walk(walk) => lines_from(area, slots, bodies, walk, records, out),
-        WalkIn::NoSuchChoice => NO_SUCH_CHOICE,
+        Some(walk) => lines_from(area, slots, bodies, walk, records, out),
+        None => NO_SUCH_CHOICE,
     }
 }

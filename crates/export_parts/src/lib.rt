@@ -7,9 +7,9 @@ ghost use Rattle.answer_words.specs.Given.{Gives};
 ghost use Rattle.export_parts.specs.Calls.{sub_given, names_given, name_given, symbols_given, lines_part_given, tables_part_given};
 
 use answer_words::{GIVEN, NONE, put, put_refusal, state_word};
-use area::{SubStep, sub_at};
-use modi::{ModuleSizes, Part, SymbolsAnswer};
-use strings::{NameAnswer, TableAnswer, name_at};
+use area::sub_at;
+use modi::ModuleSizes;
+use strings::name_at;
 
 // The words of a walk over subsections: its place.
 const SUB_STATE_WORDS: usize = 1;
@@ -19,19 +19,19 @@ pub fn next_sub(area: &[u8], out: &mut [u64]) -> u32
     ensures { Gives out.old (sub_given crate_rule area.now out.old) result out.new }
 {
     match sub_at(area, state_word(out, 0) as usize) {
-        SubStep::Sub {
-            kind,
-            start,
-            len,
-            next,
-        } => put(
+        Ok(Some((sub, next))) => put(
             out,
             0,
-            &[next as u64, kind as u64, start as u64, len as u64],
+            &[
+                next as u64,
+                sub.kind as u64,
+                sub.start as u64,
+                sub.len as u64,
+            ],
             GIVEN,
         ),
-        SubStep::None => NONE,
-        SubStep::Refused(why) => put_refusal(out, SUB_STATE_WORDS, why),
+        Ok(None) => NONE,
+        Err(why) => put_refusal(out, SUB_STATE_WORDS, why),
     }
 }
 
@@ -40,8 +40,8 @@ pub fn string_table(stream: &[u8], out: &mut [u64]) -> u32
     ensures { Gives out.old (names_given stream.now) result out.new }
 {
     match strings::string_table(stream) {
-        TableAnswer::Names { start, len } => put(out, 0, &[start as u64, len as u64], GIVEN),
-        TableAnswer::Refused(why) => put_refusal(out, 0, why),
+        Ok(names) => put(out, 0, &[names.start as u64, names.len as u64], GIVEN),
+        Err(why) => put_refusal(out, 0, why),
     }
 }
 
@@ -50,8 +50,8 @@ pub fn name(stream: &[u8], offset: u32, out: &mut [u64]) -> u32
     ensures { Gives out.old (name_given stream.now offset) result out.new }
 {
     match name_at(stream, offset) {
-        NameAnswer::At { start, len } => put(out, 0, &[start as u64, len as u64], GIVEN),
-        NameAnswer::Refused(why) => put_refusal(out, 0, why),
+        Ok(name) => put(out, 0, &[name.start as u64, name.len as u64], GIVEN),
+        Err(why) => put_refusal(out, 0, why),
     }
 }
 
@@ -60,8 +60,8 @@ pub fn module_symbols(stream: &[u8], symbols: u32, c11: u32, c13: u32, out: &mut
     ensures { Gives out.old (symbols_given stream.now symbols c11 c13) result out.new }
 {
     match modi::module_symbols(stream, ModuleSizes { symbols, c11, c13 }) {
-        SymbolsAnswer::Yes => GIVEN,
-        SymbolsAnswer::Refused(why) => put_refusal(out, 0, why),
+        Ok(()) => GIVEN,
+        Err(why) => put_refusal(out, 0, why),
     }
 }
 
@@ -70,8 +70,8 @@ pub fn lines_part(stream: &[u8], symbols: u32, c11: u32, c13: u32, out: &mut [u6
     ensures { Gives out.old (lines_part_given stream.now symbols c11 c13) result out.new }
 {
     match modi::lines_part(stream, ModuleSizes { symbols, c11, c13 }) {
-        Part::At { start, len } => put(out, 0, &[start as u64, len as u64], GIVEN),
-        Part::Refused(why) => put_refusal(out, 0, why),
+        Ok(part) => put(out, 0, &[part.start as u64, part.len as u64], GIVEN),
+        Err(why) => put_refusal(out, 0, why),
     }
 }
 
@@ -80,7 +80,7 @@ pub fn tables_part(stream: &[u8], symbols: u32, c11: u32, c13: u32, out: &mut [u
     ensures { Gives out.old (tables_part_given stream.now symbols c11 c13) result out.new }
 {
     match modi::tables_part(stream, ModuleSizes { symbols, c11, c13 }) {
-        Part::At { start, len } => put(out, 0, &[start as u64, len as u64], GIVEN),
-        Part::Refused(why) => put_refusal(out, 0, why),
+        Ok(part) => put(out, 0, &[part.start as u64, part.len as u64], GIVEN),
+        Err(why) => put_refusal(out, 0, why),
     }
 }

@@ -14,19 +14,19 @@ ghost use Rattle.export_tables.specs.Calls.{list_given, places_left, listed_give
 use answer_words::{
     GIVEN, NONE, REFUSAL_WORDS, TABLE_STATE_WORDS, TOO_SHORT, put, put_refusal, walk_in, walk_words,
 };
-use exports::{Count, CrossModuleExport, ExportAt, ExportBody, ExportStep, Lookup};
-use imports::{ImportList, ImportStep, Resolved};
-use inlinees::InlineeStep;
-use table::{WordAnswer, word_in};
+use exports::CrossModuleExport;
+use imports::CrossModuleRef;
+use refusal::Refusal;
+use table::word_in;
 
 // One of the words that a record says by their place and their number.
 pub fn word(area: &[u8], words: usize, count: usize, i: usize, out: &mut [u64]) -> u32
     ensures { Gives out.old (word_given area.now words count i) result out.new }
 {
     match word_in(area, words, count, i) {
-        WordAnswer::Word(word) => put(out, 0, &[word as u64], GIVEN),
-        WordAnswer::None => NONE,
-        WordAnswer::Refused(why) => put_refusal(out, 0, why),
+        Ok(Some(word)) => put(out, 0, &[word as u64], GIVEN),
+        Ok(None) => NONE,
+        Err(why) => put_refusal(out, 0, why),
     }
 }
 
@@ -35,14 +35,7 @@ pub fn next_inlinee(area: &[u8], out: &mut [u64]) -> u32
     ensures { Gives out.old (inlinee_given crate_rule area.now out.old) result out.new }
 {
     match inlinees::next_inlinee(area, walk_in(out)) {
-        InlineeStep::Inlinee {
-            inlinee,
-            file,
-            line,
-            extra,
-            count,
-            next,
-        } => {
+        Ok(Some((line, next))) => {
             let w = walk_words(next);
             put(
                 out,
@@ -52,17 +45,17 @@ pub fn next_inlinee(area: &[u8], out: &mut [u64]) -> u32
                     w.1,
                     w.2,
                     w.3,
-                    inlinee as u64,
-                    file as u64,
-                    line as u64,
-                    extra as u64,
-                    count as u64,
+                    line.inlinee as u64,
+                    line.file as u64,
+                    line.line as u64,
+                    line.extra as u64,
+                    line.count as u64,
                 ],
                 GIVEN,
             )
         }
-        InlineeStep::None => NONE,
-        InlineeStep::Refused(why) => put_refusal(out, TABLE_STATE_WORDS, why),
+        Ok(None) => NONE,
+        Err(why) => put_refusal(out, TABLE_STATE_WORDS, why),
     }
 }
 
@@ -71,32 +64,35 @@ pub fn next_import(area: &[u8], out: &mut [u64]) -> u32
     ensures { Gives out.old (module_given crate_rule area.now out.old) result out.new }
 {
     match imports::next_import(area, walk_in(out)) {
-        ImportStep::Module {
-            name,
-            words,
-            count,
-            next,
-        } => {
+        Ok(Some((module, next))) => {
             let w = walk_words(next);
             put(
                 out,
                 0,
-                &[w.0, w.1, w.2, w.3, name as u64, words as u64, count as u64],
+                &[
+                    w.0,
+                    w.1,
+                    w.2,
+                    w.3,
+                    module.name as u64,
+                    module.words as u64,
+                    module.count as u64,
+                ],
                 GIVEN,
             )
         }
-        ImportStep::None => NONE,
-        ImportStep::Refused(why) => put_refusal(out, TABLE_STATE_WORDS, why),
+        Ok(None) => NONE,
+        Err(why) => put_refusal(out, TABLE_STATE_WORDS, why),
     }
 }
 
 // A reference: the name of its module, and its word there.
-fn put_ref(out: &mut [u64], found: Resolved) -> u32
+fn put_ref(out: &mut [u64], found: Result<CrossModuleRef, Refusal>) -> u32
     ensures { Gives out.old (reply_given ref_words (told_resolved found)) result out.new }
 {
     match found {
-        Resolved::Ref { name, word } => put(out, 0, &[name as u64, word as u64], GIVEN),
-        Resolved::Refused(why) => put_refusal(out, 0, why),
+        Ok(found) => put(out, 0, &[found.name as u64, found.word as u64], GIVEN),
+        Err(why) => put_refusal(out, 0, why),
     }
 }
 
@@ -118,8 +114,8 @@ pub fn import_list(area: &[u8], places: &mut [u32], out: &mut [u64]) -> u32
         return TOO_SHORT;
     }
     match imports::import_list(area, places) {
-        ImportList::Modules(n) => put(out, 0, &[n as u64], GIVEN),
-        ImportList::Refused(why) => put_refusal(out, 0, why),
+        Ok(slots) => put(out, 0, &[slots as u64], GIVEN),
+        Err(why) => put_refusal(out, 0, why),
     }
 }
 
@@ -156,13 +152,13 @@ pub fn next_export(area: &[u8], out: &mut [u64]) -> u32
     ensures { Gives out.old (export_given crate_rule area.now out.old) result out.new }
 {
     match exports::next_export(area, walk_in(out)) {
-        ExportStep::Export { export, next } => {
+        Ok(Some((export, next))) => {
             let w = walk_words(next);
             let e = export_words(export);
             put(out, 0, &[w.0, w.1, w.2, w.3, e.0, e.1, e.2], GIVEN)
         }
-        ExportStep::None => NONE,
-        ExportStep::Refused(why) => put_refusal(out, TABLE_STATE_WORDS, why),
+        Ok(None) => NONE,
+        Err(why) => put_refusal(out, TABLE_STATE_WORDS, why),
     }
 }
 
@@ -171,18 +167,18 @@ pub fn export_count(area: &[u8], out: &mut [u64]) -> u32
     ensures { Gives out.old (count_given crate_rule area.now) result out.new }
 {
     match exports::export_count(area) {
-        Count::Exports(n) => put(out, 0, &[n as u64], GIVEN),
-        Count::Refused(why) => put_refusal(out, 0, why),
+        Ok(count) => put(out, 0, &[count as u64], GIVEN),
+        Err(why) => put_refusal(out, 0, why),
     }
 }
 
-fn put_lookup(out: &mut [u64], found: Lookup) -> u32
-    ensures { Gives out.old (reply_given one (told_lookup found)) result out.new }
+fn put_lookup(out: &mut [u64], lookup: Result<Option<u32>, Refusal>) -> u32
+    ensures { Gives out.old (reply_given one (told_lookup lookup)) result out.new }
 {
-    match found {
-        Lookup::Global(global) => put(out, 0, &[global as u64], GIVEN),
-        Lookup::None => NONE,
-        Lookup::Refused(why) => put_refusal(out, 0, why),
+    match lookup {
+        Ok(Some(global)) => put(out, 0, &[global as u64], GIVEN),
+        Ok(None) => NONE,
+        Err(why) => put_refusal(out, 0, why),
     }
 }
 
@@ -198,8 +194,8 @@ pub fn export_body(area: &[u8], out: &mut [u64]) -> u32
     ensures { Gives out.old (body_given crate_rule area.now) result out.new }
 {
     match exports::export_body(area) {
-        ExportBody::At { start, len } => put(out, 0, &[start as u64, len as u64], GIVEN),
-        ExportBody::Refused(why) => put_refusal(out, 0, why),
+        Ok(body) => put(out, 0, &[body.start as u64, body.len as u64], GIVEN),
+        Err(why) => put_refusal(out, 0, why),
     }
 }
 
@@ -208,12 +204,12 @@ pub fn export_at(body: &[u8], i: usize, out: &mut [u64]) -> u32
     ensures { Gives out.old (export_at_given body.now i) result out.new }
 {
     match exports::export_at(body, i) {
-        ExportAt::Export(export) => {
+        Ok(Some(export)) => {
             let x = export_words(export);
             put(out, 0, &[x.0, x.1, x.2], GIVEN)
         }
-        ExportAt::None => NONE,
-        ExportAt::Refused(why) => put_refusal(out, 0, why),
+        Ok(None) => NONE,
+        Err(why) => put_refusal(out, 0, why),
     }
 }
 

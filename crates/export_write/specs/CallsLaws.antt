@@ -8,7 +8,7 @@ use Rattle.refusal.specs.declared.Refusal.TheVariants as why
 use Rattle.reading.specs.Reading.{Item}
 use Rattle.plain.specs.Plain.{plain_of}
 use Rattle.writer_decides.specs.Calls.{Act, goes, stops, act, patch, wrote, kept, answered, buffer_after}
-use Rattle.answer_words.specs.Given.{Given, Gives, refusal_size, refusal_given, one, reply_given}
+use Rattle.answer_words.specs.Given.{Gives, refusal_size, refusal_given, one, reply_given}
 use Rattle.answer_words.specs.GivenLaws.{gives_as, room_changes, room_keeps, Still, room_careful}
 use Rattle.export_write.specs.Calls.{wrote_given, buffer_left, last_given, plain_given}
 

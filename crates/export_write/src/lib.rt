@@ -11,9 +11,8 @@ ghost use Rattle.answer_words.specs.Given.{Gives, one, reply_given};
 ghost use Rattle.export_write.specs.Calls.{wrote_given, buffer_left, plain_given};
 
 use answer_words::{GIVEN, NONE, REFUSAL_WORDS, TOO_SHORT, put, put_refusal};
-use plain::{PlainAnswer, is_plain};
+use plain::is_plain;
 use refusal::{LONGEST, Refusal};
-use writer::Wrote;
 
 // Whether an area is plain; one of more than 16,777,216 bytes is refused with 11. Words: the place of its last header, and the kind and the mark of its
 // last subsection, all 0 in an empty area.
@@ -24,19 +23,22 @@ pub fn plain(area: &[u8], out: &mut [u64]) -> u32
         return put_refusal(out, 0, Refusal::TooLong);
     }
     match is_plain(area) {
-        PlainAnswer::Yes { header, kind, mark } => {
-            put(out, 0, &[header as u64, kind as u64, mark], GIVEN)
-        }
-        PlainAnswer::No => NONE,
+        Some(last) => put(
+            out,
+            0,
+            &[last.header as u64, last.kind as u64, last.mark],
+            GIVEN,
+        ),
+        None => NONE,
     }
 }
 
-fn put_wrote(out: &mut [u64], wrote: Wrote) -> u32
+fn put_wrote(out: &mut [u64], wrote: Result<usize, Refusal>) -> u32
     ensures { Gives out.old (reply_given one (told_wrote wrote)) result out.new }
 {
     match wrote {
-        Wrote::To(next) => put(out, 0, &[next as u64], GIVEN),
-        Wrote::Refused(why) => put_refusal(out, 0, why),
+        Ok(next) => put(out, 0, &[next as u64], GIVEN),
+        Err(why) => put_refusal(out, 0, why),
     }
 }
 

@@ -27,7 +27,6 @@ use Rattle.table.specs.Rows.{rows_placed, row_at, rows_from}
 use Rattle.table.specs.RowsLaws.{Bitten, bites_step, rows_step, rows_in}
 use Rattle.table.specs.Collect.{collected, listing_count}
 use Rattle.table.specs.CollectLaws.{mapped_same, collected_length}
-use Rattle.exports.specs.Told.{told_pair}
 use Rattle.exports.specs.Exports.{Export, a_type, anId, export_of, pair_size, unplaced, export_in, pairs_of, exports_of, export_count, above, ascends, global_of, lookup, pair_at, export_shown, export_step, pairs_from}
 
 -- ---- the kind of an export
@@ -79,9 +78,9 @@ shown_other start len k m q = ap (export_shown start len) q
 
 -- ---- a step of the walk
 
-pub export_steps : (rule : ℕ → Sort) (s : List ℕ) (w : TableWalk) → Steps pair_at export_in told_pair (first_sub rule CROSS_SCOPE_EXPORTS s) s w
+pub export_steps : (rule : ℕ → Sort) (s : List ℕ) (w : TableWalk) → Steps pair_at export_in (first_sub rule CROSS_SCOPE_EXPORTS s) s w
     (export_step rule s w)
-export_steps rule s w = steps pair_at export_in told_pair (first_sub rule CROSS_SCOPE_EXPORTS s) s w (first_finds rule CROSS_SCOPE_EXPORTS s)
+export_steps rule s w = steps pair_at export_in (first_sub rule CROSS_SCOPE_EXPORTS s) s w (first_finds rule CROSS_SCOPE_EXPORTS s)
 
 -- ---- the walk: a new walk's answers, taken until it ends, are the exports of the area
 

@@ -1,28 +1,20 @@
 -- Nothing is lost in what the answers of this crate tell: no second one tells the same.
-use Rattle.std.specs.Prelude.{ℕ, ◌≡◌, refl}
-use Rattle.std.proofs.Common.{ap}
-use Rattle.walk.specs.Listing.{Answer, gives, none, refuses, Reply, gave, nothing, refused}
+use Rattle.std.specs.Prelude.{ℕ, ◌≡◌, refl, Option, Result}
+use Rattle.walk.specs.Listing.{Answer, Reply}
 use Rattle.refusal.specs.Told.{Told}
-use Rattle.refusal.specs.Untold.{untold, untold_told}
+use Rattle.refusal.specs.Untold.{untold_result, untold_result_lem, untold_reply, untold_reply_lem, untold_answer, untold_answer_lem}
+use Rattle.refusal.specs.declared.Refusal.{Refusal}
 use Rattle.find.specs.Find.{Span}
+use Rattle.find.specs.Told.{told_span}
+use Rattle.find.specs.Untold.{untold_span}
+use Rattle.find.specs.declared as found
 use Rattle.body.specs.Exports.{Pair}
 use Rattle.table.specs.declared.TableWalk.{TableWalk}
 use Rattle.exports.specs.Exports.{Export, a_type, anId}
+use Rattle.exports.specs.declared as code
 use Rattle.exports.specs.declared.CrossModuleExport.{CrossModuleExport}
 use Rattle.exports.specs.declared.CrossModuleExport.TheVariants as export
-use Rattle.exports.specs.declared.PairStep.{PairStep}
-use Rattle.exports.specs.declared.PairStep.TheVariants as pair
-use Rattle.exports.specs.declared.ExportStep.{ExportStep}
-use Rattle.exports.specs.declared.ExportStep.TheVariants as step
-use Rattle.exports.specs.declared.Count.{Count}
-use Rattle.exports.specs.declared.Count.TheVariants as count
-use Rattle.exports.specs.declared.Lookup.{Lookup}
-use Rattle.exports.specs.declared.Lookup.TheVariants as found
-use Rattle.exports.specs.declared.ExportBody.{ExportBody}
-use Rattle.exports.specs.declared.ExportBody.TheVariants as body
-use Rattle.exports.specs.declared.ExportAt.{ExportAt}
-use Rattle.exports.specs.declared.ExportAt.TheVariants as one
-use Rattle.exports.specs.Told.{told_export, told_pair, told_export_step, told_count, told_lookup, told_body, told_export_at}
+use Rattle.exports.specs.Told.{told_export, told_one_pair, told_pair, told_export_step, told_count, told_lookup, told_body, told_export_at}
 
 abbrev pub untold_export : Export → CrossModuleExport
 untold_export (a_type l g) = export.Type l g
@@ -32,62 +24,41 @@ pub untold_export_lem : (e : CrossModuleExport) → untold_export (told_export e
 untold_export_lem (export.Type l g) = refl
 untold_export_lem (export.Id l g) = refl
 
-abbrev pub untold_pair : Answer ℕ Pair Told → PairStep
-untold_pair (gives p x) = pair.Pair p.local p.global x
-untold_pair none = pair.None
-untold_pair (refuses t) = pair.Refused (untold t)
+abbrev pub untold_one_pair : Pair → code.Pair.Pair
+untold_one_pair p = record { local = p.local; global = p.global }
 
-pub untold_pair_lem : (h : PairStep) → untold_pair (told_pair h) ≡ h
-untold_pair_lem (pair.Pair l g x) = refl
-untold_pair_lem pair.None = refl
-untold_pair_lem (pair.Refused r) = ap pair.Refused (untold_told r)
+abbrev pub untold_pair : Answer ℕ Pair Told → Result (Option (code.Pair.Pair × ℕ)) Refusal
+untold_pair = untold_answer told_one_pair untold_one_pair (λ p. refl)
 
-abbrev pub untold_step : Answer TableWalk Export Told → ExportStep
-untold_step (gives e w) = step.Export (untold_export e) w
-untold_step none = step.None
-untold_step (refuses t) = step.Refused (untold t)
+pub untold_pair_lem : (h : Result (Option (code.Pair.Pair × ℕ)) Refusal) → untold_pair (told_pair h) ≡ h
+untold_pair_lem = untold_answer_lem told_one_pair untold_one_pair (λ p. refl)
 
-pub untold_step_lem : (h : ExportStep) → untold_step (told_export_step h) ≡ h
-untold_step_lem (step.Export e w) = ap (λ (x : CrossModuleExport). step.Export x w) (untold_export_lem e)
-untold_step_lem step.None = refl
-untold_step_lem (step.Refused r) = ap step.Refused (untold_told r)
+abbrev pub untold_step : Answer TableWalk Export Told → Result (Option (CrossModuleExport × TableWalk)) Refusal
+untold_step = untold_answer told_export untold_export untold_export_lem
 
--- a count is never `nothing`
-abbrev pub untold_count : Reply ℕ Told → Count
-untold_count (gave n) = count.Exports n
-untold_count nothing = count.Exports 0
-untold_count (refused t) = count.Refused (untold t)
+pub untold_step_lem : (h : Result (Option (CrossModuleExport × TableWalk)) Refusal) → untold_step (told_export_step h) ≡ h
+untold_step_lem = untold_answer_lem told_export untold_export untold_export_lem
 
-pub untold_count_lem : (h : Count) → untold_count (told_count h) ≡ h
-untold_count_lem (count.Exports n) = refl
-untold_count_lem (count.Refused r) = ap count.Refused (untold_told r)
+abbrev pub untold_count : Reply ℕ Told → Result ℕ Refusal
+untold_count = untold_result (λ n. n) (λ n. n) (λ n. refl)
 
-abbrev pub untold_lookup : Reply ℕ Told → Lookup
-untold_lookup (gave g) = found.Global g
-untold_lookup nothing = found.None
-untold_lookup (refused t) = found.Refused (untold t)
+pub untold_count_lem : (h : Result ℕ Refusal) → untold_count (told_count h) ≡ h
+untold_count_lem = untold_result_lem (λ n. n) (λ n. n) (λ n. refl)
 
-pub untold_lookup_lem : (h : Lookup) → untold_lookup (told_lookup h) ≡ h
-untold_lookup_lem (found.Global g) = refl
-untold_lookup_lem found.None = refl
-untold_lookup_lem (found.Refused r) = ap found.Refused (untold_told r)
+abbrev pub untold_lookup : Reply ℕ Told → Result (Option ℕ) Refusal
+untold_lookup = untold_reply (λ g. g) (λ g. g) (λ g. refl)
 
--- a body is never answered with `nothing`
-abbrev pub untold_body : Reply Span Told → ExportBody
-untold_body (gave a) = body.At a.start a.len
-untold_body nothing = body.At 0 0
-untold_body (refused t) = body.Refused (untold t)
+pub untold_lookup_lem : (h : Result (Option ℕ) Refusal) → untold_lookup (told_lookup h) ≡ h
+untold_lookup_lem = untold_reply_lem (λ g. g) (λ g. g) (λ g. refl)
 
-pub untold_body_lem : (h : ExportBody) → untold_body (told_body h) ≡ h
-untold_body_lem (body.At a n) = refl
-untold_body_lem (body.Refused r) = ap body.Refused (untold_told r)
+abbrev pub untold_body : Reply Span Told → Result found.Span.Span Refusal
+untold_body = untold_result told_span untold_span (λ a. refl)
 
-abbrev pub untold_export_at : Reply Export Told → ExportAt
-untold_export_at (gave e) = one.Export (untold_export e)
-untold_export_at nothing = one.None
-untold_export_at (refused t) = one.Refused (untold t)
+pub untold_body_lem : (h : Result found.Span.Span Refusal) → untold_body (told_body h) ≡ h
+untold_body_lem = untold_result_lem told_span untold_span (λ a. refl)
 
-pub untold_export_at_lem : (h : ExportAt) → untold_export_at (told_export_at h) ≡ h
-untold_export_at_lem (one.Export e) = ap one.Export (untold_export_lem e)
-untold_export_at_lem one.None = refl
-untold_export_at_lem (one.Refused r) = ap one.Refused (untold_told r)
+abbrev pub untold_export_at : Reply Export Told → Result (Option CrossModuleExport) Refusal
+untold_export_at = untold_reply told_export untold_export untold_export_lem
+
+pub untold_export_at_lem : (h : Result (Option CrossModuleExport) Refusal) → untold_export_at (told_export_at h) ≡ h
+untold_export_at_lem = untold_reply_lem told_export untold_export untold_export_lem

@@ -24,7 +24,6 @@ use Rattle.table.specs.declared.TableWalk.TheVariants as walk
 use Rattle.body.specs.Checksums.{Checksum, checksums}
 use Rattle.checksums.specs.Entry.{Entry, entry_at, entries_from, shown}
 use Rattle.checksums.specs.Entry as entry
-use Rattle.checksums.specs.Told.{told_entry}
 use Rattle.checksums.specs.EntryLaws.{EntryWithin, entry_within, entry_none, entry_lies, entries_step, entries_mean, In, entries_in, Stands, entries_stand}
 use Rattle.lines.specs.Lines.{count_lines}
 use Rattle.files.specs.Files.{File, entry_moved, file_of, files_sub, file_step, files_in}
@@ -56,9 +55,9 @@ module _ (rule : ℕ → Sort) (s : List ℕ) where
 
 -- ---- a walk
 
-pub file_steps : (rule : ℕ → Sort) (s : List ℕ) (w : TableWalk) → Steps entry_at file_of told_entry (files_sub rule s) s w (file_step rule s w)
+pub file_steps : (rule : ℕ → Sort) (s : List ℕ) (w : TableWalk) → Steps entry_at file_of (files_sub rule s) s w (file_step rule s w)
 unfolding file_step
-file_steps rule s w = steps entry_at file_of told_entry (files_sub rule s) s w (files_finds rule s)
+file_steps rule s w = steps entry_at file_of (files_sub rule s) s w (files_finds rule s)
 
 -- an entry, its index being its place
 pub file_entry : (start len at : ℕ) (b : List ℕ) (e : Entry) (x : ℕ) (out : Answer TableWalk File Told) → gives e x ≡ entry_at b at

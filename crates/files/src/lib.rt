@@ -15,24 +15,24 @@ ghost use Rattle.table.specs.Told.{told_spot};
 ghost use Rattle.files.specs.Files.{files_sub, file_step, file_in, file_in_part, file_at, part_of};
 ghost use Rattle.files.specs.Told.{told_file, told_info};
 
-use checksums::{ChecksumKind, EntryStep, entry_at};
-use find::{Found, last_of};
+use checksums::{Entry, entry_at};
+use find::{Span, last_of};
 use kinds::FILE_CHECKSUMS;
-use lines::{Counted, count_lines};
+use lines::count_lines;
 use refusal::{LONGEST, Refusal};
 use table::{Spot, TableWalk, spot_in, spot_new};
 
 // Where the checksum body stands.
-pub fn checksum_body(area: &[u8]) -> Found
+#[tactic(auto, using(crate::proofs::FilesLaws::body_passed, crate::proofs::FilesLaws::body_refused))]
+pub fn checksum_body(area: &[u8]) -> Result<Option<Span>, Refusal>
     ensures { told_found result ≡ files_sub crate_rule area.now }
 {
-    match count_lines(area) {
-        Counted::Lines(_) => last_of(area, FILE_CHECKSUMS),
-        Counted::Refused(why) => Found::Refused(why),
-    }
+    count_lines(area)?;
+    last_of(area, FILE_CHECKSUMS)
 }
 
-fn spot_files(area: &[u8], walk: TableWalk) -> Spot
+#[tactic(auto, using(table::specs::TableLaws::spot_new_is, table::specs::TableLaws::spot_in_is))]
+fn spot_files(area: &[u8], walk: TableWalk) -> Result<Option<Spot>, Refusal>
     ensures { told_spot result ≡ spot_of (files_sub crate_rule area.now) area.now walk }
 {
     match walk {
@@ -41,119 +41,75 @@ fn spot_files(area: &[u8], walk: TableWalk) -> Spot
     }
 }
 
-// A file of an area, and the walk behind it.
+// A file of an area: the place of its checksum counts from the area's start.
 #[derive(Clone, Copy)]
-pub enum FileStep {
-    File {
-        index: u32,
-        name: u32,
-        kind: ChecksumKind,
-        start: usize,
-        len: usize,
-        next: TableWalk,
-    },
-    None,
-    Refused(Refusal),
+pub struct File {
+    pub index: u32,
+    pub entry: Entry,
 }
 
-pub fn next_file(area: &[u8], walk: TableWalk) -> FileStep
+// A file of an area, and the walk behind it.
+pub fn next_file(area: &[u8], walk: TableWalk) -> Result<Option<(File, TableWalk)>, Refusal>
     ensures { told_file result ≡ file_step crate_rule area.now walk }
 {
-    match spot_files(area, walk) {
-        Spot::At { start, len, at } => match entry_at(&area[start..start + len], at) {
-            EntryStep::Entry {
-                name,
-                kind,
-                start: bytes,
-                len: size,
-                next,
-            } => FileStep::File {
-                index: at as u32,
-                name,
-                kind,
-                start: start + bytes,
-                len: size,
-                next: TableWalk::In {
-                    start,
-                    len,
-                    at: next,
-                },
-            },
-            EntryStep::None => FileStep::None,
-            EntryStep::Refused(why) => FileStep::Refused(why),
+    let Some(spot) = spot_files(area, walk)? else {
+        return Ok(None);
+    };
+    let body = &area[spot.start..spot.start + spot.len];
+    let Some((entry, at)) = entry_at(body, spot.at)? else {
+        return Ok(None);
+    };
+    let file = File {
+        index: spot.at as u32,
+        entry: Entry {
+            start: spot.start + entry.start,
+            ..entry
         },
-        Spot::None => FileStep::None,
-        Spot::Refused(why) => FileStep::Refused(why),
-    }
+    };
+    let behind = TableWalk::In {
+        start: spot.start,
+        len: spot.len,
+        at,
+    };
+    Ok(Some((file, behind)))
 }
 
 // What is known of a file: its name, and its checksum.
-#[derive(Clone, Copy)]
-pub enum FileAnswer {
-    File {
-        name: u32,
-        kind: ChecksumKind,
-        start: usize,
-        len: usize,
-    },
-    Refused(Refusal),
-}
-
+//
 // The file at an index of a checksum body that is lent alone: the place of its checksum counts from the body's start. Whoever has found the body once
 // (`checksum_body`) asks here for each index.
-pub fn file_in(body: &[u8], index: u32) -> FileAnswer
+#[tactic(auto, using(crate::proofs::FilesLaws::in_long))]
+pub fn file_in(body: &[u8], index: u32) -> Result<Entry, Refusal>
     ensures { told_info result ≡ file_in body.now index }
 {
     if LONGEST < body.len() {
-        return FileAnswer::Refused(Refusal::TooLong);
+        return Err(Refusal::TooLong);
     }
-    match entry_at(body, index as usize) {
-        EntryStep::Entry {
-            name,
-            kind,
-            start,
-            len,
-            next: _,
-        } => FileAnswer::File {
-            name,
-            kind,
-            start,
-            len,
-        },
-        EntryStep::None => FileAnswer::Refused(Refusal::NoFile(index)),
-        EntryStep::Refused(why) => FileAnswer::Refused(why),
+    match entry_at(body, index as usize)? {
+        Some((entry, _)) => Ok(entry),
+        None => Err(Refusal::NoFile(index)),
     }
 }
 
 // The file at an index of the body of `len` bytes at `start`.
-fn file_in_part(area: &[u8], start: usize, len: usize, index: u32) -> FileAnswer
+fn file_in_part(area: &[u8], start: usize, len: usize, index: u32) -> Result<Entry, Refusal>
     requires { start + len ≤ length area.now }
     ensures { told_info result ≡ file_in_part area.now index (gave (record { start = start; len = len })) }
 {
-    match file_in(&area[start..start + len], index) {
-        FileAnswer::File {
-            name,
-            kind,
-            start: place,
-            len: size,
-        } => FileAnswer::File {
-            name,
-            kind,
-            start: start + place,
-            len: size,
-        },
-        FileAnswer::Refused(why) => FileAnswer::Refused(why),
-    }
+    let entry = file_in(&area[start..start + len], index)?;
+    Ok(Entry {
+        start: start + entry.start,
+        ..entry
+    })
 }
 
 // The file at an index. Without a checksum subsection the body is empty.
-pub fn file_at(area: &[u8], index: u32) -> FileAnswer
+pub fn file_at(area: &[u8], index: u32) -> Result<Entry, Refusal>
     ensures { told_info result ≡ file_at crate_rule area.now index }
 {
-    match checksum_body(area) {
-        Found::At { start, len } => file_in_part(area, start, len, index),
-        Found::None => file_in_part(area, 0, 0, index),
-        Found::Refused(why) => FileAnswer::Refused(why),
+    match checksum_body(area)? {
+        Some(span) => file_in_part(area, span.start, span.len, index),
+        None => file_in_part(area, 0, 0, index),
     }
 }
 
@@ -162,8 +118,8 @@ pub fn checksum_bytes(area: &[u8], start: usize, len: usize) -> &[u8]
     ensures { HandsSpan area.entry (part_of area.now start len) result }
 {
     match spot_in(area, start, len, 0) {
-        Spot::At { start, len, at: _ } => &area[start..start + len],
-        Spot::None => &area[..0],
-        Spot::Refused(_) => &area[..0],
+        Ok(Some(spot)) => &area[spot.start..spot.start + spot.len],
+        Ok(None) => &area[..0],
+        Err(_) => &area[..0],
     }
 }

@@ -25,7 +25,6 @@ use Rattle.table.specs.RowsLaws.{Bitten, rows_step, rows_in, row_next, row_end, 
 use Rattle.table.specs.Collect.{collected, of_nth}
 use Rattle.table.specs.CollectLaws.{mapped_same, mapped_mapped, sought, sought_is}
 use Rattle.table.specs.WordsLaws.{words_nth, words_none, words_part}
-use Rattle.imports.specs.Told.{told_module}
 use Rattle.imports.specs.Imports.{modules_of, Ref, scope_of, id_of, if_ref, ref_in, ref_of, ModuleAt, module_of, module_shown, module_size, in_area, imports_of, module_at, import_step, modules_from}
 
 -- ---- the tests of `module_at`
@@ -203,9 +202,9 @@ module _ (b : List ℕ) (index n : ℕ) (best : Reply Ref Told) (p : ℕ) where
 
 -- ---- a step of the walk
 
-pub import_steps : (rule : ℕ → Sort) (s : List ℕ) (w : TableWalk) → Steps module_at in_area told_module (first_sub rule CROSS_SCOPE_IMPORTS s) s w
+pub import_steps : (rule : ℕ → Sort) (s : List ℕ) (w : TableWalk) → Steps module_at in_area (first_sub rule CROSS_SCOPE_IMPORTS s) s w
     (import_step rule s w)
-import_steps rule s w = steps module_at in_area told_module (first_sub rule CROSS_SCOPE_IMPORTS s) s w (first_finds rule CROSS_SCOPE_IMPORTS s)
+import_steps rule s w = steps module_at in_area (first_sub rule CROSS_SCOPE_IMPORTS s) s w (first_finds rule CROSS_SCOPE_IMPORTS s)
 
 -- ---- the theorems
 

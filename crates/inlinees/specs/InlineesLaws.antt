@@ -17,15 +17,14 @@ use Rattle.body.specs.Inlinees.{Inlinee}
 use Rattle.table.specs.Collect.{of_nth}
 use Rattle.table.specs.WordsLaws.{words_part, word_of}
 use Rattle.inlinees.specs.Inlinees.{SourceLine, source_line_at, source_lines_from, show, inlinee_step, inlinees_in, inlinee_spelt, inlinees_of}
-use Rattle.inlinees.specs.Told.{told_source_line}
 use Rattle.inlinees.specs.SourceLineLaws.{lines_step, In, lines_in, lines_mean}
 
 -- ---- a walk over the inlinees of an area
 
-pub inlinee_steps : (rule : ℕ → Sort) (s : List ℕ) (w : TableWalk) → Steps source_line_at show told_source_line (first_sub rule INLINEE_LINES s) s w
+pub inlinee_steps : (rule : ℕ → Sort) (s : List ℕ) (w : TableWalk) → Steps source_line_at show (first_sub rule INLINEE_LINES s) s w
     (inlinee_step rule s w)
 unfolding inlinee_step
-inlinee_steps rule s w = steps source_line_at show told_source_line (first_sub rule INLINEE_LINES s) s w (first_finds rule INLINEE_LINES s)
+inlinee_steps rule s w = steps source_line_at show (first_sub rule INLINEE_LINES s) s w (first_finds rule INLINEE_LINES s)
 
 -- THE WALK: n calls from a new walk on answer the inlinees in order, and then the end, or the same refusal, again and again
 pub inlinees_walk : (rule : ℕ → Sort) (s : List ℕ) (n : ℕ) → calls (inlinee_step rule s) n walk.New ≡ replies n (inlinees_in rule s)

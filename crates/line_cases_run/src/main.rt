@@ -15,16 +15,14 @@
 // the sheet.
 #![tactic(auto)]
 
-use line_record::{
-    Column, EndLines, Length, LineKind, LineRecord, end_line, is_marker, kind, start_line,
-};
+use line_record::{EndLines, LineKind, LineRecord, end_line, is_marker, kind, start_line};
 use line_step::LineWalk;
-use line_walk::{LineStep, next_line};
+use line_walk::next_line;
 use order::order_list;
 use refusal::Refusal;
 use std::io;
 use std::io::Read;
-use symbol_lines::{SymbolLines, lines_for_symbol};
+use symbol_lines::lines_for_symbol;
 use word::{u8_at, u16_at, u32_at};
 
 // The calls: the lines of an area, by its order list, by no slots, by one slot and by two; the lines of a symbol; any other number is the sheet.
@@ -87,17 +85,11 @@ fn place(rt: &impl Print, section: u16, offset: u32) -> io::Result<()> {
     hex(rt, offset as u64, 1)
 }
 
-fn length(rt: &impl Print, l: Length) -> io::Result<()> {
-    match l {
-        Length::Is(n) => spaced(rt, n as u64),
-        Length::Unset => say(rt, b" -"),
-    }
-}
-
-fn column(rt: &impl Print, c: Column) -> io::Result<()> {
-    match c {
-        Column::At(n) => spaced(rt, n as u64),
-        Column::None => say(rt, b" -"),
+// A length or a column, if there is one.
+fn if_any(rt: &impl Print, n: Option<u32>) -> io::Result<()> {
+    match n {
+        Some(n) => spaced(rt, n as u64),
+        None => say(rt, b" -"),
     }
 }
 
@@ -116,12 +108,12 @@ fn record(rt: &impl Print, r: LineRecord, positions: bool) -> io::Result<()> {
     let k = r.kind;
     say(rt, b"line ")?;
     place(rt, r.section, r.offset)?;
-    length(rt, l)?;
+    if_any(rt, l)?;
     spaced(rt, r.file as u64)?;
     spaced(rt, r.start_line as u64)?;
     spaced(rt, r.end_line as u64)?;
-    column(rt, s)?;
-    column(rt, e)?;
+    if_any(rt, s)?;
+    if_any(rt, e)?;
     kind_text(rt, k)?;
     if positions {
         say(rt, b" @")?;
@@ -252,14 +244,14 @@ fn walk_lines(
     let mut turns = u64::MAX;
     while turns > 0 {
         match next_line(area, slots, walk) {
-            LineStep::Line(r, next) => {
+            Ok(Some((r, next))) => {
                 record(rt, r, positions)?;
                 walk = next;
             }
-            LineStep::None => {
+            Ok(None) => {
                 return say(rt, b"end\n");
             }
-            LineStep::Refused(why) => {
+            Err(why) => {
                 return refused(rt, why);
             }
         }
@@ -271,8 +263,8 @@ fn walk_lines(
 fn symbol(rt: &impl Print, area: &[u8], slots: &[u32], call: Call) -> io::Result<()> {
     let how = call.how;
     match lines_for_symbol(area, slots, &[], call.section, call.second, how) {
-        SymbolLines::Lines(walk) => walk_lines(rt, area, slots, walk, call.positions),
-        SymbolLines::Refused(why) => refused(rt, why),
+        Ok(walk) => walk_lines(rt, area, slots, walk, call.positions),
+        Err(why) => refused(rt, why),
     }
 }
 
@@ -282,7 +274,7 @@ fn answer(rt: &impl Print, area: &[u8], call: Call) -> io::Result<()> {
     let how = call.how;
     let positions = call.positions;
     let mut slots = [0u32; 32];
-    order_list(area, &mut slots);
+    let _ = order_list(area, &mut slots);
     match what {
         LINES => walk_lines(rt, area, &slots, LineWalk::New(how), positions),
         NO_SLOTS => walk_lines(rt, area, &[], LineWalk::New(how), positions),

@@ -11,36 +11,23 @@ ghost use Rattle.line_record.specs.Told.{told_line_entry};
 
 use refusal::Refusal;
 
-// A length, or none yet.
-#[derive(Clone, Copy)]
-pub enum Length {
-    Unset,
-    Is(u32),
-}
-
-// A column, or none.
-#[derive(Clone, Copy)]
-pub enum Column {
-    None,
-    At(u32),
-}
-
 #[derive(Clone, Copy)]
 pub enum LineKind {
     Expression,
     Statement,
 }
 
+// A line: no length as long as no end has set it, and no columns where its body has none.
 #[derive(Clone, Copy)]
 pub struct LineRecord {
     pub section: u16,
     pub offset: u32,
-    pub length: Length,
+    pub length: Option<u32>,
     pub file: u32,
     pub start_line: u32,
     pub end_line: u32,
-    pub column_start: Column,
-    pub column_end: Column,
+    pub column_start: Option<u32>,
+    pub column_end: Option<u32>,
     pub kind: LineKind,
     // Where the body starts that it was read from, counted from the area's start.
     pub body: u32,
@@ -62,12 +49,12 @@ impl LineRecord {
         LineRecord {
             section: 0,
             offset: 0,
-            length: Length::Unset,
+            length: None,
             file: 0,
             start_line: 0,
             end_line: 0,
-            column_start: Column::None,
-            column_end: Column::None,
+            column_start: None,
+            column_end: None,
             kind: LineKind::Statement,
             body: LineRecord::NO_POSITION,
         }
@@ -91,6 +78,7 @@ pub enum EndLines {
 }
 
 // Bits 24 to 30 of the flags word.
+#[tactic(auto, using(crate::proofs::FieldLaws::field_is))]
 fn end_field(flags: u32) -> u32
     ensures { result ≡ end_field flags }
 {
@@ -98,20 +86,19 @@ fn end_field(flags: u32) -> u32
 }
 
 // The end line whose low seven bits are these: the first one from the start line on.
+#[tactic(auto, using(crate::proofs::EndLineLaws::end_below, crate::proofs::EndLineLaws::end_joined))]
 fn end_from(start: u32, low: u32) -> u32
     requires { (start ≤ max_start_line) × (low < 2 ^ 7) }
     ensures { result ≡ end_from start low }
 {
     let end = start - start % 128 + low;
-    if end < start {
-        return end + 128;
-    }
-    end
+    if end < start { end + 128 } else { end }
 }
 
 // The end line by a reading. The crate joins bits, and adds 128 where that lies below the start line; of the bits that it takes the step that adds is never
 // reached (`step_never` of proofs/EndLineLaws.antt) and the end line is always the start line (`end_is_start`), so that is what is taken here. This is the one
 // place where an end line is read.
+#[tactic(auto, using(crate::proofs::EndLineLaws::end_is_start))]
 pub fn end_line(how: EndLines, flags: u32) -> u32
     ensures { result ≡ end_line how flags }
 {
@@ -124,24 +111,23 @@ pub fn end_line(how: EndLines, flags: u32) -> u32
 }
 
 // Bit 31 of the flags word.
+#[tactic(auto, unfolding(crate::specs::Flags::line_kind))]
 pub fn kind(flags: u32) -> LineKind
     ensures { result ≡ line_kind flags }
 {
     if flags < 0x8000_0000 {
-        return LineKind::Expression;
+        LineKind::Expression
+    } else {
+        LineKind::Statement
     }
-    LineKind::Statement
 }
 
 // The two start lines that are no lines.
+#[tactic(auto, unfolding(crate::specs::Flags::is_marker))]
 pub fn is_marker(flags: u32) -> bool
     ensures { result ≡ is_marker flags }
 {
-    let line = start_line(flags);
-    if line == 0xfeefee {
-        return true;
-    }
-    line == 0xf00f00
+    matches!(start_line(flags), 0xfeefee | 0xf00f00)
 }
 
 // What the lines of a block have in common: the section and the start of their subsection, where in the area its body stands, their file, whether they have
@@ -157,111 +143,82 @@ pub struct LineSource {
 }
 
 // The start column: the low half of the column word, if there are columns.
-fn column_start(columns: bool, word: u32) -> Column
+fn column_start(columns: bool, word: u32) -> Option<u32>
     ensures { result ≡ start_column (column_if columns word) }
 {
-    if columns {
-        return Column::At(word % 65536);
-    }
-    Column::None
+    columns.then_some(word % 65536)
 }
 
 // The end column: the high half.
-fn column_end(columns: bool, word: u32) -> Column
+fn column_end(columns: bool, word: u32) -> Option<u32>
     ensures { result ≡ end_column (column_if columns word) }
 {
-    if columns {
-        return Column::At(word / 65536);
-    }
-    Column::None
+    columns.then_some(word / 65536)
 }
 
 // The one place where a record is made of an entry: `offset` is the one in the section, and `word` the column word, if there are columns.
 pub fn record_of(source: LineSource, offset: u32, flags: u32, word: u32) -> LineRecord
     ensures { result ≡ record_of source offset flags (column_if source.columns word) }
 {
-    let start = start_line(flags);
-    let how = source.how;
-    let end = end_line(how, flags);
-    let a = column_start(source.columns, word);
-    let b = column_end(source.columns, word);
-    let k = kind(flags);
     LineRecord {
         section: source.section,
         offset,
-        length: Length::Unset,
+        length: None,
         file: source.file,
-        start_line: start,
-        end_line: end,
-        column_start: a,
-        column_end: b,
-        kind: k,
+        start_line: start_line(flags),
+        end_line: end_line(source.how, flags),
+        column_start: column_start(source.columns, word),
+        column_end: column_end(source.columns, word),
+        kind: kind(flags),
         body: source.body,
     }
 }
 
-// What a line entry says: a record whose length is unset, or a marker, which gives none.
-#[derive(Clone, Copy)]
-pub enum Entry {
-    Line(LineRecord),
-    Marker,
-    Refused(Refusal),
-}
-
-// The entry of these words, whose offset is the one in the subsection. A marker forms no sum.
-pub fn entry_of(source: LineSource, offset: u32, flags: u32, word: u32) -> Entry
+// What the entry of these words says, whose offset is the one in the subsection: a record whose length is unset, or none for a marker, which forms no sum.
+#[tactic(auto, unfolding(crate::specs::Record::entry_of))]
+pub fn entry_of(
+    source: LineSource,
+    offset: u32,
+    flags: u32,
+    word: u32,
+) -> Result<Option<LineRecord>, Refusal>
     ensures { told_line_entry result ≡ entry_of source offset flags (column_if source.columns word) }
 {
     if is_marker(flags) {
-        return Entry::Marker;
+        return Ok(None);
     }
-    if LineRecord::MAX_OFFSET - source.base < offset {
-        return Entry::Refused(Refusal::OffsetTooLarge);
-    }
-    Entry::Line(record_of(source, source.base + offset, flags, word))
+    let at = source
+        .base
+        .checked_add(offset)
+        .ok_or(Refusal::OffsetTooLarge)?;
+    Ok(Some(record_of(source, at, flags, word)))
 }
 
 // The shorter of a length and n.
-fn shorter(length: Length, n: u32) -> Length
+#[tactic(auto, unfolding(crate::specs::Record::shorter_of))]
+fn shorter(length: Option<u32>, n: u32) -> Option<u32>
     ensures { result ≡ shorter_of length n }
 {
     match length {
-        Length::Unset => Length::Is(n),
-        Length::Is(m) => { if n < m { Length::Is(n) } else { Length::Is(m) } }
+        None => Some(n),
+        Some(m) => Some(m.min(n)),
     }
 }
 
 // The one place where a length is changed.
-fn with_length(r: LineRecord, length: Length) -> LineRecord
+fn with_length(r: LineRecord, length: Option<u32>) -> LineRecord
     ensures { result ≡ with_length r length }
 {
-    let a = r.column_start;
-    let b = r.column_end;
-    let k = r.kind;
-    LineRecord {
-        section: r.section,
-        offset: r.offset,
-        length,
-        file: r.file,
-        start_line: r.start_line,
-        end_line: r.end_line,
-        column_start: a,
-        column_end: b,
-        kind: k,
-        body: r.body,
-    }
+    LineRecord { length, ..r }
 }
 
 // The record with an end at `end` of `section`: in the same section and not before the record it sets the length, if unset or larger.
+#[tactic(auto, unfolding(crate::specs::Record::closed_at))]
 pub fn closed(r: LineRecord, section: u16, end: u32) -> LineRecord
     ensures { result ≡ closed_at section end r }
 {
-    if r.section != section {
+    if r.section != section || end < r.offset {
         return r;
     }
-    if end < r.offset {
-        return r;
-    }
-    let l = r.length;
-    with_length(r, shorter(l, end - r.offset))
+    with_length(r, shorter(r.length, end - r.offset))
 }

@@ -7,21 +7,16 @@
 -- Source: docs/DECISIONS.md, 32, 59, 61 and 62.
 -- Definitions only; a reader must believe them, but for `u16_of` to `line_walk_in`, `no_record` to `line_walk_words`: `walk_begins`, `walk_none`,
 -- `state_read` (line_state_words ReadBackLaws) say what these mean.
-use Rattle.std.specs.Prelude.{ℕ, ◌+◌, ◌%◌, List, [], ◌∷◌, ◌++◌, cond, get_or, replicate, eqb}
-use Rattle.std.proofs.Math.Option.{Option, none, some}
+use Rattle.std.specs.Prelude.{ℕ, ◌+◌, ◌%◌, List, [], ◌∷◌, ◌++◌, cond, get_or, replicate, eqb, Option, None, Some}
+use Rattle.std.proofs.Math.Option.{none, some}
+use Rattle.std.proofs.Math.Option as option
 use Rattle.line_record.specs.Told.{told_length, told_column, told_line_kind}
 use Rattle.line_record.specs.declared.EndLines.{EndLines}
 use Rattle.line_record.specs.declared.EndLines.TheVariants.{Crate, LowBits, Delta}
-use Rattle.line_record.specs.declared.Length.{Length}
-use Rattle.line_record.specs.declared.Length.TheVariants as lengths
-use Rattle.line_record.specs.declared.Column.{Column}
-use Rattle.line_record.specs.declared.Column.TheVariants as column
 use Rattle.line_record.specs.declared.LineKind.{LineKind}
 use Rattle.line_record.specs.declared.LineKind.TheVariants as kind
 use Rattle.line_record.specs.declared.LineRecord.{LineRecord}
 use Rattle.lines.specs.declared.LineHeader.{LineHeader}
-use Rattle.line_step.specs.declared.Held.{Held}
-use Rattle.line_step.specs.declared.Held.TheVariants as held
 use Rattle.line_step.specs.declared.Rest.{Rest}
 use Rattle.line_step.specs.declared.Place.{Place}
 use Rattle.line_step.specs.declared.LineWalk.{LineWalk}
@@ -58,13 +53,13 @@ how_word LowBits = 1
 how_word Delta = 2
 
 -- the reading that a number names; any other number names none
-unfoldable pub how_named : ℕ → Option EndLines
+unfoldable pub how_named : ℕ → option.Option EndLines
 how_named n = cond (eqb n 0) (some Crate) (cond (eqb n 1) (some LowBits) (cond (eqb n 2) (some Delta) none))
 
 -- ---- a record
 
 -- a number that may be missing: 0 and 0 without it, else 1 and the number
-abbrev pub option_words : Option ℕ → List ℕ
+abbrev pub option_words : option.Option ℕ → List ℕ
 option_words none = 0 ∷ 0 ∷ []
 option_words (some n) = 1 ∷ n ∷ []
 
@@ -86,11 +81,11 @@ u16_of x = x % 0x1_0000
 abbrev pub u32_of : ℕ → ℕ
 u32_of x = x % 0x1_0000_0000
 
-abbrev pub length_of : ℕ → ℕ → Length
-length_of t n = cond (eqb t 0) lengths.Unset (lengths.Is (u32_of n))
+abbrev pub length_of : ℕ → ℕ → Option ℕ
+length_of t n = cond (eqb t 0) None (Some (u32_of n))
 
-abbrev pub column_of : ℕ → ℕ → Column
-column_of t n = cond (eqb t 0) column.None (column.At (u32_of n))
+abbrev pub column_of : ℕ → ℕ → Option ℕ
+column_of t n = cond (eqb t 0) None (Some (u32_of n))
 
 abbrev pub kind_in : ℕ → LineKind
 kind_in t = cond (eqb t 0) kind.Expression kind.Statement
@@ -111,8 +106,8 @@ record_in o =
       body = u32_of (get_or o 17 0);
     }
 
-unfoldable pub held_in : List ℕ → Held
-held_in o = cond (eqb (get_or o held_at 0) 0) held.Nothing (held.One (record_in o))
+unfoldable pub held_in : List ℕ → Option LineRecord
+held_in o = cond (eqb (get_or o held_at 0) 0) None (Some (record_in o))
 
 abbrev pub rest_in : List ℕ → Rest
 rest_in o = record { slot = get_or o 1 0; left = get_or o 2 0; scan = get_or o 3 0; held = held_in o }
@@ -140,11 +135,11 @@ walk_by how o =
     (cond (eqb (get_or o 0 0) 1) (walk.Between how (rest_in o))
     (walk.Inside (place_in how o) (rest_in o)))
 
-abbrev pub walk_if : List ℕ → Option EndLines → Option LineWalk
+abbrev pub walk_if : List ℕ → option.Option EndLines → option.Option LineWalk
 walk_if o none = none
 walk_if o (some how) = some (walk_by how o)
 
-abbrev pub line_walk_in : List ℕ → Option LineWalk
+abbrev pub line_walk_in : List ℕ → option.Option LineWalk
 line_walk_in o = walk_if o (how_named (get_or o how_at 0))
 
 -- ---- put
@@ -152,9 +147,9 @@ line_walk_in o = walk_if o (how_named (get_or o how_at 0))
 abbrev no_record : List ℕ
 no_record = replicate record_size 0
 
-abbrev pub held_words : Held → List ℕ
-held_words held.Nothing = 0 ∷ no_record
-held_words (held.One r) = 1 ∷ record_words r
+abbrev pub held_words : Option LineRecord → List ℕ
+held_words None = 0 ∷ no_record
+held_words (Some r) = 1 ∷ record_words r
 
 abbrev pub rest_words : Rest → List ℕ
 rest_words t = t.slot ∷ t.left ∷ t.scan ∷ held_words t.held

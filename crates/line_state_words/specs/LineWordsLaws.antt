@@ -1,19 +1,14 @@
 -- Laws of a line walk in words: reading its state, and putting it piece by piece.
-use Rattle.std.specs.Prelude.{ℕ, ◌+◌, ◌≤◌, ◌≡◌, refl, List, [], ◌∷◌, ◌++◌, length, get_or}
+use Rattle.std.specs.Prelude.{ℕ, ◌+◌, ◌≤◌, ◌≡◌, refl, List, [], ◌∷◌, ◌++◌, length, get_or, Option, None, Some}
 use Rattle.std.proofs.Common.{sym, ◌∙◌, arith, length-append}
 use Rattle.std.proofs.Math.Path.{ap}
-use Rattle.std.proofs.Math.Option.{Option, none, some}
+use Rattle.std.proofs.Math.Option.{none, some}
+use Rattle.std.proofs.Math.Option as option
 use borrow.Author.Tests.{eq-eqb, ne_eqb}
 use Rattle.line_record.specs.Told.{told_length, told_column, told_line_kind}
 use Rattle.line_record.specs.declared.EndLines.{EndLines}
 use Rattle.line_record.specs.declared.EndLines.TheVariants.{Crate, LowBits, Delta}
-use Rattle.line_record.specs.declared.Length.{Length}
-use Rattle.line_record.specs.declared.Length.TheVariants as len
-use Rattle.line_record.specs.declared.Column.{Column}
-use Rattle.line_record.specs.declared.Column.TheVariants as col
 use Rattle.line_record.specs.declared.LineRecord.{LineRecord}
-use Rattle.line_step.specs.declared.Held.{Held}
-use Rattle.line_step.specs.declared.Held.TheVariants as held
 use Rattle.line_step.specs.declared.Rest.{Rest}
 use Rattle.line_step.specs.declared.Place.{Place}
 use Rattle.line_step.specs.declared.LineWalk.{LineWalk}
@@ -29,13 +24,13 @@ use Rattle.line_state_words.specs.LineWords.{record_in, held_in, rest_in, place_
 -- ---- read back
 
 module _ (o : List ℕ) (n : ℕ) (e : n ≡ get_or o held_at 0) where
-  pub held_nothing : n ≡ 0 → held.Nothing ≡ held_in o
+  pub held_nothing : n ≡ 0 → None ≡ held_in o
   unfolding held_in
   held_nothing z = rw (eq-eqb (get_or o held_at 0) 0 (sym e ∙ z))
 
-  pub held_one : (n ≡ 0 → ⊥) → (r : LineRecord) → r ≡ record_in o → held.One r ≡ held_in o
+  pub held_one : (n ≡ 0 → ⊥) → (r : LineRecord) → r ≡ record_in o → Some r ≡ held_in o
   unfolding held_in
-  held_one z r q = ap held.One q ∙ rw (ne_eqb (get_or o held_at 0) 0 (λ h. z (e ∙ h)))
+  held_one z r q = ap Some q ∙ rw (ne_eqb (get_or o held_at 0) 0 (λ h. z (e ∙ h)))
 
 module _ (how : EndLines) (o : List ℕ) (n : ℕ) (e : n ≡ get_or o 0 0) where
   pub walk_new : n ≡ 0 → walk.New how ≡ walk_by how o
@@ -71,26 +66,26 @@ module _ (n : ℕ) where
   named_none z u d = rw (ne_eqb n 0 z, ne_eqb n 1 u, ne_eqb n 2 d)
 
 -- n is the word for it, and x what it names
-pub walk_named : (o : List ℕ) (n : ℕ) → n ≡ get_or o how_at 0 → (x : Option EndLines) → x ≡ how_named n → walk_if o x ≡ line_walk_in o
+pub walk_named : (o : List ℕ) (n : ℕ) → n ≡ get_or o how_at 0 → (x : option.Option EndLines) → x ≡ how_named n → walk_if o x ≡ line_walk_in o
 walk_named o n e x q = ap (walk_if o) (q ∙ ap how_named e)
 
 -- ---- how many words
 
-two_length : (l : Length) → length (option_words (told_length l)) ≡ 2
-two_length len.Unset = refl
-two_length (len.Is n) = refl
+two_length : (l : Option ℕ) → length (option_words (told_length l)) ≡ 2
+two_length None = refl
+two_length (Some n) = refl
 
-two_column : (l : Column) → length (option_words (told_column l)) ≡ 2
-two_column col.None = refl
-two_column (col.At n) = refl
+two_column : (l : Option ℕ) → length (option_words (told_column l)) ≡ 2
+two_column None = refl
+two_column (Some n) = refl
 
 pub record_length : (r : LineRecord) → length (record_words r) ≡ record_size
 record_length r =
     simp length-append (omega (arith, two_length r.length, two_column r.column_start, two_column r.column_end))
 
-held_length : (h : Held) → length (held_words h) ≡ 1 + record_size
-held_length held.Nothing = refl
-held_length (held.One r) = omega (arith, record_length r)
+held_length : (h : Option LineRecord) → length (held_words h) ≡ 1 + record_size
+held_length None = refl
+held_length (Some r) = omega (arith, record_length r)
 
 pub rest_length : (tag : ℕ) (t : Rest) → length (tag ∷ rest_words t) ≡ rest_size
 rest_length tag t = omega (arith, held_length t.held)

@@ -1,21 +1,15 @@
 -- A state of the line walk in words is read back as that state, whatever stands behind its words, if its numbers fit the fields that hold them: a section
 -- and flags 16 bits, every other number of a record, a header or a file 32 bits. Those of each state that the code has do, by their types. Which words are a new
 -- walk, and which are none.
-use Rattle.std.specs.Prelude.{ℕ, ◌+◌, ◌<◌, ◌≡◌, refl, List, [], ◌∷◌, ◌++◌, get_or}
+use Rattle.std.specs.Prelude.{ℕ, ◌+◌, ◌<◌, ◌≡◌, refl, List, [], ◌∷◌, ◌++◌, get_or, Option, None, Some}
 use Rattle.std.proofs.Common.{sym, ap, ◌∙◌, append_assoc, arith, get_or-append-add}
 use Rattle.std.proofs.Math.Option.{none, some}
 use Rattle.line_record.specs.Told.{told_length, told_column, told_line_kind}
 use Rattle.line_record.specs.declared.EndLines.{EndLines}
 use Rattle.line_record.specs.declared.EndLines.TheVariants as ends
-use Rattle.line_record.specs.declared.Length.{Length}
-use Rattle.line_record.specs.declared.Length.TheVariants as len
-use Rattle.line_record.specs.declared.Column.{Column}
-use Rattle.line_record.specs.declared.Column.TheVariants as col
 use Rattle.line_record.specs.declared.LineKind.{LineKind}
 use Rattle.line_record.specs.declared.LineKind.TheVariants as kind
 use Rattle.line_record.specs.declared.LineRecord.{LineRecord}
-use Rattle.line_step.specs.declared.Held.{Held}
-use Rattle.line_step.specs.declared.Held.TheVariants as held
 use Rattle.line_step.specs.declared.Rest.{Rest}
 use Rattle.line_step.specs.declared.Place.{Place}
 use Rattle.line_step.specs.declared.LineWalk.{LineWalk}
@@ -31,13 +25,13 @@ Fits16 n = n < 0x1_0000
 abbrev pub Fits32 : ℕ → Type 0
 Fits32 n = n < 0x1_0000_0000
 
-abbrev pub FitsLength : Length → Type 0
-FitsLength len.Unset = Unit {0}
-FitsLength (len.Is n) = Fits32 n
+abbrev pub FitsLength : Option ℕ → Type 0
+FitsLength None = Unit {0}
+FitsLength (Some n) = Fits32 n
 
-abbrev pub FitsColumn : Column → Type 0
-FitsColumn col.None = Unit {0}
-FitsColumn (col.At n) = Fits32 n
+abbrev pub FitsColumn : Option ℕ → Type 0
+FitsColumn None = Unit {0}
+FitsColumn (Some n) = Fits32 n
 
 pub record FitsRecord (r : LineRecord) : Type 0 where
   pub section : Fits16 r.section
@@ -50,9 +44,9 @@ pub record FitsRecord (r : LineRecord) : Type 0 where
   pub column_end_lem : FitsColumn r.column_end
   pub body : Fits32 r.body
 
-abbrev pub FitsHeld : Held → Type 0
-FitsHeld held.Nothing = Unit {0}
-FitsHeld (held.One r) = FitsRecord r
+abbrev pub FitsHeld : Option LineRecord → Type 0
+FitsHeld None = Unit {0}
+FitsHeld (Some r) = FitsRecord r
 
 pub record FitsPlace (p : Place) : Type 0 where
   pub offset : Fits32 p.head.offset
@@ -80,13 +74,13 @@ record TwoWords {A : Type 0} (words : A → List ℕ) (back : ℕ → ℕ → A)
   is : words x ≡ first ∷ second ∷ []
   read : back first second ≡ x
 
-two_length : (l : Length) → FitsLength l → TwoWords (λ l. option_words (told_length l)) length_of l
-two_length len.Unset h = record { first = 0; second = 0; is = refl; read = refl }
-two_length (len.Is n) h = record { first = 1; second = n; is = refl; read = ap len.Is (u32_same n h) }
+two_length : (l : Option ℕ) → FitsLength l → TwoWords (λ l. option_words (told_length l)) length_of l
+two_length None h = record { first = 0; second = 0; is = refl; read = refl }
+two_length (Some n) h = record { first = 1; second = n; is = refl; read = ap Some (u32_same n h) }
 
-two_column : (c : Column) → FitsColumn c → TwoWords (λ c. option_words (told_column c)) column_of c
-two_column col.None h = record { first = 0; second = 0; is = refl; read = refl }
-two_column (col.At n) h = record { first = 1; second = n; is = refl; read = ap col.At (u32_same n h) }
+two_column : (c : Option ℕ) → FitsColumn c → TwoWords (λ c. option_words (told_column c)) column_of c
+two_column None h = record { first = 0; second = 0; is = refl; read = refl }
+two_column (Some n) h = record { first = 1; second = n; is = refl; read = ap Some (u32_same n h) }
 
 kind_same : (k : LineKind) → kind_in (told_line_kind k) ≡ k
 kind_same kind.Expression = refl
@@ -123,10 +117,10 @@ record_read a b c d r ws f =
       body = e₁₀ i;
     })
 
-held_read : (a b c d : ℕ) (h : Held) (ws : List ℕ) → FitsHeld h → held_in (a ∷ b ∷ c ∷ d ∷ (held_words h ++ ws)) ≡ h
+held_read : (a b c d : ℕ) (h : Option LineRecord) (ws : List ℕ) → FitsHeld h → held_in (a ∷ b ∷ c ∷ d ∷ (held_words h ++ ws)) ≡ h
 unfolding held_in
-held_read a b c d held.Nothing ws f = refl
-held_read a b c d (held.One r) ws f = ap held.One (record_read a b c d r ws f)
+held_read a b c d None ws f = refl
+held_read a b c d (Some r) ws f = ap Some (record_read a b c d r ws f)
 
 -- ---- a state
 

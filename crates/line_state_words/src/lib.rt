@@ -12,8 +12,8 @@ ghost use Rattle.line_state_words.specs.LineWords.{held_words, rest_words, place
 ghost use Rattle.line_state_words.specs.Told.{told_how, told_walk_in};
 
 use answer_words::{GIVEN, TOO_SHORT, state_word};
-use line_record::{Column, EndLines, Length, LineKind, LineRecord};
-use line_step::{Held, LineWalk, Place, Rest};
+use line_record::{EndLines, LineKind, LineRecord};
+use line_step::{LineWalk, Place, Rest};
 use lines::LineHeader;
 
 // The words of a line record.
@@ -48,25 +48,19 @@ fn how_word(how: EndLines) -> u64
 }
 
 // The reading that a number names. Any other number is no choice, and never taken for one.
-#[derive(Clone, Copy)]
-pub enum NamedHow {
-    Is(EndLines),
-    NoSuchChoice,
-}
-
-pub fn how_named(n: u64) -> NamedHow
+pub fn how_named(n: u64) -> Option<EndLines>
     ensures { told_how result ≡ how_named n }
 {
     if n == 0 {
-        return NamedHow::Is(EndLines::Crate);
+        return Some(EndLines::Crate);
     }
     if n == 1 {
-        return NamedHow::Is(EndLines::LowBits);
+        return Some(EndLines::LowBits);
     }
     if n == 2 {
-        return NamedHow::Is(EndLines::Delta);
+        return Some(EndLines::Delta);
     }
-    NamedHow::NoSuchChoice
+    None
 }
 
 // ---- read back
@@ -83,23 +77,14 @@ fn word32(out: &[u64], i: usize) -> u32
     (state_word(out, i) % 0x1_0000_0000) as u32
 }
 
-fn length_of(tag: u64, n: u64) -> Length
+// A length or a column: a tag, and the number where the tag is not 0.
+fn number_of(tag: u64, n: u64) -> Option<u32>
     ensures { result ≡ length_of tag n }
 {
     if tag == 0 {
-        Length::Unset
+        None
     } else {
-        Length::Is((n % 0x1_0000_0000) as u32)
-    }
-}
-
-fn column_of(tag: u64, n: u64) -> Column
-    ensures { result ≡ column_of tag n }
-{
-    if tag == 0 {
-        Column::None
-    } else {
-        Column::At((n % 0x1_0000_0000) as u32)
+        Some((n % 0x1_0000_0000) as u32)
     }
 }
 
@@ -116,9 +101,9 @@ fn kind_of(tag: u64) -> LineKind
 fn record_in(out: &[u64]) -> LineRecord
     ensures { result ≡ record_in out.now }
 {
-    let length = length_of(state_word(out, 7), state_word(out, 8));
-    let column_start = column_of(state_word(out, 12), state_word(out, 13));
-    let column_end = column_of(state_word(out, 14), state_word(out, 15));
+    let length = number_of(state_word(out, 7), state_word(out, 8));
+    let column_start = number_of(state_word(out, 12), state_word(out, 13));
+    let column_end = number_of(state_word(out, 14), state_word(out, 15));
     let kind = kind_of(state_word(out, 16));
     LineRecord {
         section: word16(out, 5),
@@ -134,13 +119,13 @@ fn record_in(out: &[u64]) -> LineRecord
     }
 }
 
-fn held_in(out: &[u64]) -> Held
+fn held_in(out: &[u64]) -> Option<LineRecord>
     ensures { result ≡ held_in out.now }
 {
     if state_word(out, HELD_AT) == 0 {
-        return Held::Nothing;
+        return None;
     }
-    Held::One(record_in(out))
+    Some(record_in(out))
 }
 
 fn rest_in(out: &[u64]) -> Rest
@@ -198,41 +183,22 @@ fn walk_by(how: EndLines, out: &[u64]) -> LineWalk
 }
 
 // The state of a line walk that the first `STATE_WORDS` words say, if its word for it names a reading of end lines.
-#[derive(Clone, Copy)]
-pub enum WalkIn {
-    Walk(LineWalk),
-    NoSuchChoice,
-}
-
-pub fn line_walk_in(out: &[u64]) -> WalkIn
+pub fn line_walk_in(out: &[u64]) -> Option<LineWalk>
     ensures { told_walk_in result ≡ line_walk_in out.now }
 {
-    match how_named(state_word(out, HOW_AT)) {
-        NamedHow::Is(how) => WalkIn::Walk(walk_by(how, out)),
-        NamedHow::NoSuchChoice => WalkIn::NoSuchChoice,
-    }
+    let how = how_named(state_word(out, HOW_AT))?;
+    Some(walk_by(how, out))
 }
 
 // ---- put
 
-#[derive(Clone, Copy)]
-struct Pair(u32, u32);
-
-fn length_words(l: Length) -> Pair
+// A length or a column as two words.
+fn number_words(l: Option<u32>) -> (u32, u32)
     ensures { option_words (told_length l) ≡ result.0 ∷ result.1 ∷ [] }
 {
     match l {
-        Length::Unset => Pair(0, 0),
-        Length::Is(n) => Pair(1, n),
-    }
-}
-
-fn column_words(l: Column) -> Pair
-    ensures { option_words (told_column l) ≡ result.0 ∷ result.1 ∷ [] }
-{
-    match l {
-        Column::None => Pair(0, 0),
-        Column::At(n) => Pair(1, n),
+        None => (0, 0),
+        Some(n) => (1, n),
     }
 }
 
@@ -245,82 +211,54 @@ fn kind_word(k: LineKind) -> u32
     }
 }
 
+// The words of a record.
+fn words_of(r: LineRecord) -> [u32; RECORD_WORDS]
+    ensures { result ≡ record_words r }
+{
+    let l = number_words(r.length);
+    let s = number_words(r.column_start);
+    let e = number_words(r.column_end);
+    let k = kind_word(r.kind);
+    [
+        r.section as u32,
+        r.offset,
+        l.0,
+        l.1,
+        r.file,
+        r.start_line,
+        r.end_line,
+        s.0,
+        s.1,
+        e.0,
+        e.1,
+        k,
+        r.body,
+    ]
+}
+
 // A record at a place, in words of 64 bits, as a state has it. Where its words do not fit nothing is put.
 fn put_record(out: &mut [u64], at: usize, r: LineRecord)
     ensures { out.new ≡ store out.old at (record_words r) }
 {
-    let length = r.length;
-    let column_start = r.column_start;
-    let column_end = r.column_end;
-    let kind = r.kind;
-    let l = length_words(length);
-    let s = column_words(column_start);
-    let e = column_words(column_end);
-    let k = kind_word(kind);
-    answer_words::put(
-        out,
-        at,
-        &[
-            r.section as u64,
-            r.offset as u64,
-            l.0 as u64,
-            l.1 as u64,
-            r.file as u64,
-            r.start_line as u64,
-            r.end_line as u64,
-            s.0 as u64,
-            s.1 as u64,
-            e.0 as u64,
-            e.1 as u64,
-            k as u64,
-            r.body as u64,
-        ],
-        GIVEN,
-    );
+    answer_words::put_wide(out, at, &words_of(r));
 }
 
 // The same in words of 32 bits, as a call for many records gives it.
 pub fn put_row(records: &mut [u32], at: usize, r: LineRecord)
     ensures { records.new ≡ store records.old at (record_words r) }
 {
-    let length = r.length;
-    let column_start = r.column_start;
-    let column_end = r.column_end;
-    let kind = r.kind;
-    let l = length_words(length);
-    let s = column_words(column_start);
-    let e = column_words(column_end);
-    let k = kind_word(kind);
-    answer_words::put32(
-        records,
-        at,
-        &[
-            r.section as u32,
-            r.offset,
-            l.0,
-            l.1,
-            r.file,
-            r.start_line,
-            r.end_line,
-            s.0,
-            s.1,
-            e.0,
-            e.1,
-            k,
-            r.body,
-        ],
-    );
+    answer_words::put32(records, at, &words_of(r));
 }
 
-fn put_held(out: &mut [u64], h: Held)
+fn put_held(out: &mut [u64], h: Option<LineRecord>)
     requires { state_size ≤ length out.old }
     ensures { out.new ≡ put out.old held_at (held_words h) }
 {
     match h {
-        Held::Nothing => {
+        None => {
             answer_words::put(out, HELD_AT, &[0; 1 + RECORD_WORDS], GIVEN);
         }
-        Held::One(r) => {
+        Some(r) => {
             answer_words::put(out, HELD_AT, &[1], GIVEN);
             put_record(out, HELD_RECORD, r);
         }

@@ -2,7 +2,7 @@
 -- crate `line_walk`. Source: document 01, "Line subsections": one record is held back until its end is known; the ends are the next non-marker
 -- line's offset, then section offset plus code size when a subsection's blocks are done; a place past the lent bytes is 1; 11 comes first.
 -- Definitions only; `walk_is` (line_walk WalkLaws) says what they mean.
-use Rattle.std.specs.Prelude.{ℕ, ◌+◌, ◌-◌, ◌*◌, ◌%◌, ◌^◌, Bool, true, false, cond, List, length, take, ◌==◌, nat_lt}
+use Rattle.std.specs.Prelude.{ℕ, ◌+◌, ◌-◌, ◌*◌, ◌%◌, ◌^◌, Bool, true, false, cond, List, length, take, ◌==◌, nat_lt, Option, None, Some}
 use Rattle.word.specs.Word.{u32_at}
 use Rattle.walk.specs.Listing.{Move, item, pass, over, fail, Answer, gives, none, refuses, Reply, gave, nothing, refused}
 use Rattle.refusal.specs.Told.{Told, told, longest}
@@ -19,8 +19,6 @@ use Rattle.lines.specs.Blocks.{LineBlock, block_at}
 use Rattle.lines.specs.Slots.{slot_at}
 use Rattle.lines.specs.Told.{told_header, untold_header}
 use Rattle.lines.specs.declared.LineHeader.{LineHeader}
-use Rattle.line_step.specs.declared.Held.{Held}
-use Rattle.line_step.specs.declared.Held.TheVariants.{Nothing, One}
 use Rattle.line_step.specs.declared.Rest.{Rest}
 use Rattle.line_step.specs.declared.Place.{Place}
 use Rattle.line_step.specs.declared.LineWalk.{LineWalk}
@@ -46,9 +44,9 @@ line_entry_at b p =
 
 -- what comes behind a slot, of which nothing is searched yet, and no record is held
 abbrev pub fresh_rest : ℕ → ℕ → Rest
-fresh_rest slot left = record { slot = slot; left = left; scan = 0; held = Nothing }
+fresh_rest slot left = record { slot = slot; left = left; scan = 0; held = None }
 
-abbrev pub with_held : Rest → Held → Rest
+abbrev pub with_held : Rest → Option LineRecord → Rest
 with_held t h = record { slot = t.slot; left = t.left; scan = t.scan; held = h }
 
 -- the place n lines on: each line uses up its column entry
@@ -62,12 +60,12 @@ past_lines p n =
     record { head = p.head; how = p.how; body = p.body; end = p.end; next = p.next; file = p.file; lines = p.lines - n; line = (p.line + 8 * n) % 2 ^ 64; column = (p.column + 4 * n) % 2 ^ 64 }
 
 -- a new record r, with the walk w behind it: the record that was held is closed by it
-abbrev pub hold_in : Held → LineRecord → LineWalk → LineMove
-hold_in Nothing r w = pass w
-hold_in (One old) r w = item (closed_at r.section r.offset old) w
+abbrev pub hold_in : Option LineRecord → LineRecord → LineWalk → LineMove
+hold_in None r w = pass w
+hold_in (Some old) r w = item (closed_at r.section r.offset old) w
 
 abbrev pub hold_of : Place → Rest → LineRecord → LineMove
-hold_of p t r = hold_in t.held r (Inside p (with_held t (One r)))
+hold_of p t r = hold_in t.held r (Inside p (with_held t (Some r)))
 
 abbrev pub line_of : Place → Rest → Reply LineRecord Told → LineMove
 line_of p t (gave r) = hold_of (lines_on p 1) t r
@@ -107,13 +105,13 @@ abbrev pub next_block : List ℕ → Place → Reply Place Told
 next_block b p = block_place p (block_at (columned p.head.flags) b p.next)
 
 -- the end of a subsection closes the record that is held
-unfoldable pub end_held : LineHeader → Held → Reply Held Told
-end_held h Nothing = gave Nothing
-end_held h (One r) =
+unfoldable pub end_held : LineHeader → Option LineRecord → Reply (Option LineRecord) Told
+end_held h None = gave None
+end_held h (Some r) =
     cond (nat_lt max_offset (h.offset + h.code)) (refused (told why.OffsetTooLarge))
-    (gave (One (closed_at h.section (h.offset + h.code) r)))
+    (gave (Some (closed_at h.section (h.offset + h.code) r)))
 
-abbrev pub end_move : EndLines → Rest → Reply Held Told → LineMove
+abbrev pub end_move : EndLines → Rest → Reply (Option LineRecord) Told → LineMove
 end_move how t (gave o) = pass (Between how (with_held t o))
 end_move how t nothing = over
 end_move how t (refused e) = fail e
@@ -178,9 +176,9 @@ sub_turn rule s v how t = named_of s how t (slot_at rule s v t.slot t.scan)
 
 -- ---- the whole turn
 
-abbrev pub finish_in : EndLines → Held → Rest → LineMove
-finish_in how Nothing t = over
-finish_in how (One r) t = item r (Between how (with_held t Nothing))
+abbrev pub finish_in : EndLines → Option LineRecord → Rest → LineMove
+finish_in how None t = over
+finish_in how (Some r) t = item r (Between how (with_held t None))
 
 abbrev pub finish_of : EndLines → Rest → LineMove
 finish_of how t = finish_in how t.held t

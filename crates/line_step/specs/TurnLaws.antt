@@ -1,5 +1,5 @@
 -- Laws of the turns: one for each way out of the code's tests.
-use Rattle.std.specs.Prelude.{◌≡◌, ℕ, ◌+◌, ◌-◌, ◌*◌, ◌%◌, ◌^◌, ◌<◌, ◌≤◌, Bool, true, false, List, length, take, ◌≢◌, nat_lt, refl}
+use Rattle.std.specs.Prelude.{◌≡◌, ℕ, ◌+◌, ◌-◌, ◌*◌, ◌%◌, ◌^◌, ◌<◌, ◌≤◌, Bool, true, false, List, length, take, ◌≢◌, nat_lt, refl, Option, None, Some}
 use Rattle.std.proofs.Math.Path.{sym, ap, subst⁻¹}
 use Rattle.std.proofs.Common.{◌∙◌, arith, length-take-le, ltb-false}
 use Rattle.word.specs.Word.{u32_at}
@@ -20,8 +20,6 @@ use Rattle.lines.specs.Slots.{slot_at}
 use Rattle.lines.specs.SlotsLaws.{slot_inside}
 use Rattle.lines.specs.Told.{told_header, untold_header}
 use Rattle.lines.specs.declared.LineHeader.{LineHeader}
-use Rattle.line_step.specs.declared.Held.{Held}
-use Rattle.line_step.specs.declared.Held.TheVariants.{Nothing, One}
 use Rattle.line_step.specs.declared.Rest.{Rest}
 use Rattle.line_step.specs.declared.Place.{Place}
 use Rattle.line_step.specs.declared.LineWalk.{LineWalk}
@@ -86,12 +84,12 @@ past_lines_are p n h g q e =
     let b : (p.column + 4 * n) % 2 ^ 64 ≡ p.column + 4 * n = omega arith in
     e ∙ (λ i. record { head = p.head; how = p.how; body = p.body; end = p.end; next = p.next; file = p.file; lines = p.lines - n; line = a i; column = b i })
 
-module _ (o : Held) (p : Place) (t : Rest) (r : LineRecord) (u : Rest) (eu : u ≡ with_held t (One r)) where
-  pub hold_nothing : o ≡ Nothing → pass (Inside p u) ≡ hold_in o r (Inside p (with_held t (One r)))
+module _ (o : Option LineRecord) (p : Place) (t : Rest) (r : LineRecord) (u : Rest) (eu : u ≡ with_held t (Some r)) where
+  pub hold_nothing : o ≡ None → pass (Inside p u) ≡ hold_in o r (Inside p (with_held t (Some r)))
   hold_nothing e = rw e (ap (λ k. pass (Inside p k)) eu)
 
-  pub hold_one : (q k : LineRecord) → o ≡ One q → k ≡ closed_at r.section r.offset q
-      → item k (Inside p u) ≡ hold_in o r (Inside p (with_held t (One r)))
+  pub hold_one : (q k : LineRecord) → o ≡ Some q → k ≡ closed_at r.section r.offset q
+      → item k (Inside p u) ≡ hold_in o r (Inside p (with_held t (Some r)))
   hold_one q k e ek = rw e (λ i. item (ek i) (Inside p (eu i)))
 
 module _ (b : List ℕ) (p : Place) (t : Rest) where
@@ -107,23 +105,23 @@ module _ (b : List ℕ) (p : Place) (t : Rest) where
 
 -- ---- a block, or the end of the blocks
 
-module _ (h : LineHeader) (o : Held) where
-  pub end_nothing : o ≡ Nothing → gave Nothing ≡ end_held h o
+module _ (h : LineHeader) (o : Option LineRecord) where
+  pub end_nothing : o ≡ None → gave None ≡ end_held h o
   unfolding end_held
   end_nothing e = rw e
 
-  module _ (r : LineRecord) (e : o ≡ One r) where
+  module _ (r : LineRecord) (e : o ≡ Some r) where
     pub end_large : max_offset < h.offset + h.code → refused (told why.OffsetTooLarge) ≡ end_held h o
     unfolding end_held
     end_large g = simp (tests, e)
 
-    pub end_close : h.offset + h.code ≤ max_offset → (k : LineRecord) → k ≡ closed_at h.section (h.offset + h.code) r → gave (One k) ≡ end_held h o
+    pub end_close : h.offset + h.code ≤ max_offset → (k : LineRecord) → k ≡ closed_at h.section (h.offset + h.code) r → gave (Some k) ≡ end_held h o
     unfolding end_held
-    end_close g k ek = ap (λ x. gave (One x)) ek ∙ sym (simp (tests, e))
+    end_close g k ek = ap (λ x. gave (Some x)) ek ∙ sym (simp (tests, e))
 
 -- a is what the end of the body answers, and u the rest with it
 module _ (p : Place) (t : Rest) where
-  pub end_on : (o : Held) (u : Rest) → gave o ≡ end_held p.head t.held → u ≡ with_held t o → pass (Between p.how u) ≡ end_of p t
+  pub end_on : (o : Option LineRecord) (u : Rest) → gave o ≡ end_held p.head t.held → u ≡ with_held t o → pass (Between p.how u) ≡ end_of p t
   end_on o u e eu = ap (λ x. pass (Between p.how x)) eu ∙ ap (end_move p.how t) e
 
   pub end_refused : (e : Told) → refused e ≡ end_held p.head t.held → fail e ≡ end_of p t
@@ -281,7 +279,7 @@ module _ (rule : ℕ → Sort) (s v : List ℕ) (how : EndLines) (t : Rest) wher
   unfolding between_turn
   between_sub h = sym (simp tests)
 
-pub finish_one : (how : EndLines) (o : Held) (t : Rest) (r : LineRecord) (u : Rest) → o ≡ One r → u ≡ with_held t Nothing → item r (Between how u) ≡ finish_in how o t
+pub finish_one : (how : EndLines) (o : Option LineRecord) (t : Rest) (r : LineRecord) (u : Rest) → o ≡ Some r → u ≡ with_held t None → item r (Between how u) ≡ finish_in how o t
 finish_one how o t r u e eu = rw e (ap (λ k. item r (Between how k)) eu)
 
 module _ (rule : ℕ → Sort) (s v : List ℕ) (w : LineWalk) where

@@ -13,30 +13,19 @@ ghost use Rattle.line_step.specs.Turn.{end_of, block_turn, inside_turn, place_at
 ghost use Rattle.lines.specs.Lines.{count_lines};
 ghost use Rattle.line_step.specs.Told.{told_next_block, told_end_body, told_entered, told_turn};
 
-use line_record::{EndLines, Entry, LineRecord, LineSource, closed, entry_of};
-use lines::{
-    BlockStep, Counted, LINE_HEAD, LineHeader, Named, block_at, count_lines, has_columns,
-    header_of, slot_body,
-};
+use line_record::{EndLines, LineRecord, LineSource, closed, entry_of};
+use lines::{LINE_HEAD, LineHeader, block_at, count_lines, has_columns, header_of, slot_body};
 use refusal::{LONGEST, Refusal};
-use std::num::wrapping_add_usize;
 use word::u32_at;
 
-// The record that is held back until its end is known.
-#[derive(Clone, Copy)]
-pub enum Held {
-    Nothing,
-    One(LineRecord),
-}
-
 // What comes behind the present subsection: the next slot, how many line subsections are left, how far the area has been searched for the
-// bodies that slots name; and the record held back.
+// bodies that slots name; and the record that is held back until its end is known.
 #[derive(Clone, Copy)]
 pub struct Rest {
     pub slot: usize,
     pub left: usize,
     pub scan: usize,
-    pub held: Held,
+    pub held: Option<LineRecord>,
 }
 
 // A place in a subsection: its header and the start of its body; the file of the present block, and how end lines are read; the end of the body and the next
@@ -63,13 +52,11 @@ pub enum LineWalk {
     Inside(Place, Rest),
 }
 
-// A turn: a record is ready, none yet, none any more.
+// A turn that is not the last: a record is ready, or none yet. Behind the last one there is none any more.
 #[derive(Clone, Copy)]
 pub enum Turn {
     Line(LineRecord, LineWalk),
     Pass(LineWalk),
-    Over,
-    Refused(Refusal),
 }
 
 // What the lines at a place have in common. Where the body of a forged place starts too far on for 32 bits, its low bits are taken: no turn comes to its
@@ -77,42 +64,30 @@ pub enum Turn {
 pub fn source_of(p: Place) -> LineSource
     ensures { result ≡ source_of p }
 {
-    let h = p.head;
-    let how = p.how;
-    let columns = has_columns(h.flags);
     LineSource {
-        section: h.section,
-        base: h.offset,
+        section: p.head.section,
+        base: p.head.offset,
         file: p.file,
-        columns,
-        how,
+        columns: has_columns(p.head.flags),
+        how: p.how,
         body: (p.body % 0x1_0000_0000) as u32,
     }
 }
 
 // The entry at a place. Where it does not lie in the body it is 1; without columns `column` is the first line's place.
-fn entry_at(body: &[u8], p: Place) -> Entry
+#[tactic(auto, unfolding(crate::specs::Turn::line_entry_at))]
+fn entry_at(body: &[u8], p: Place) -> Result<Option<LineRecord>, Refusal>
     ensures { told_line_entry result ≡ line_entry_at body.now p }
 {
-    let line = p.line;
-    let column = p.column;
-    if body.len() < line {
-        return Entry::Refused(Refusal::Cut);
+    if body.len() < p.line || body.len() - p.line < 8 {
+        return Err(Refusal::Cut);
     }
-    if body.len() - line < 8 {
-        return Entry::Refused(Refusal::Cut);
+    if body.len() < p.column || body.len() - p.column < 4 {
+        return Err(Refusal::Cut);
     }
-    if body.len() < column {
-        return Entry::Refused(Refusal::Cut);
-    }
-    if body.len() - column < 4 {
-        return Entry::Refused(Refusal::Cut);
-    }
-    let source = source_of(p);
-    let offset = u32_at(body, line);
-    let flags = u32_at(body, line + 4);
-    let word = u32_at(body, column);
-    entry_of(source, offset, flags, word)
+    let offset = u32_at(body, p.line);
+    let flags = u32_at(body, p.line + 4);
+    entry_of(source_of(p), offset, flags, u32_at(body, p.column))
 }
 
 // What comes behind a slot, of which nothing is searched yet, and no record is held.
@@ -123,29 +98,14 @@ pub fn fresh_rest(slot: usize, left: usize) -> Rest
         slot,
         left,
         scan: 0,
-        held: Held::Nothing,
+        held: None,
     }
 }
 
-pub fn with_held(t: Rest, held: Held) -> Rest
+pub fn with_held(t: Rest, held: Option<LineRecord>) -> Rest
     ensures { result ≡ with_held t held }
 {
-    Rest {
-        slot: t.slot,
-        left: t.left,
-        scan: t.scan,
-        held,
-    }
-}
-
-// a - b, and 0 where b is the larger.
-fn less(a: usize, b: usize) -> usize
-    ensures { result ≡ a - b }
-{
-    if a < b {
-        return 0;
-    }
-    a - b
+    Rest { held, ..t }
 }
 
 // What comes behind the subsection that the next slot names and that ends at `end`. The slot of a forged state goes round where it does not fit 64 bits:
@@ -153,12 +113,11 @@ fn less(a: usize, b: usize) -> usize
 pub fn behind_body(t: Rest, end: usize) -> Rest
     ensures { result ≡ behind_body t end }
 {
-    let held = t.held;
     Rest {
-        slot: wrapping_add_usize(t.slot, 1),
-        left: less(t.left, 1),
+        slot: t.slot.wrapping_add(1),
+        left: t.left.saturating_sub(1),
         scan: end,
-        held,
+        ..t
     }
 }
 
@@ -167,42 +126,33 @@ pub fn behind_body(t: Rest, end: usize) -> Rest
 pub fn past_lines(p: Place, n: usize) -> Place
     ensures { result ≡ past_lines p n }
 {
-    let head = p.head;
-    let how = p.how;
     Place {
-        head,
-        how,
-        body: p.body,
-        end: p.end,
-        next: p.next,
-        file: p.file,
-        lines: less(p.lines, n),
-        line: wrapping_add_usize(p.line, 8 * (n % 0x2000_0000_0000_0000)),
-        column: wrapping_add_usize(p.column, 4 * (n % 0x4000_0000_0000_0000)),
+        lines: p.lines.saturating_sub(n),
+        line: p.line.wrapping_add(n.wrapping_mul(8)),
+        column: p.column.wrapping_add(n.wrapping_mul(4)),
+        ..p
     }
 }
 
 // A new record is held; the one that was held is closed by it and is ready.
-fn hold(p: Place, t: Rest, r: LineRecord) -> Turn
+fn hold(p: Place, t: Rest, r: LineRecord) -> Result<Option<Turn>, Refusal>
     ensures { told_turn result ≡ hold_of p t r }
 {
-    let old = t.held;
-    let w = LineWalk::Inside(p, with_held(t, Held::One(r)));
-    match old {
-        Held::Nothing => Turn::Pass(w),
-        Held::One(o) => Turn::Line(closed(o, r.section, r.offset), w),
+    let w = LineWalk::Inside(p, with_held(t, Some(r)));
+    match t.held {
+        None => Ok(Some(Turn::Pass(w))),
+        Some(o) => Ok(Some(Turn::Line(closed(o, r.section, r.offset), w))),
     }
 }
 
 // The next line of a block.
-fn line_turn(body: &[u8], p: Place, t: Rest) -> Turn
+fn line_turn(body: &[u8], p: Place, t: Rest) -> Result<Option<Turn>, Refusal>
     requires { 1 ≤ p.lines }
     ensures { told_turn result ≡ line_turn body.now p t }
 {
-    match entry_at(body, p) {
-        Entry::Line(r) => hold(past_lines(p, 1), t, r),
-        Entry::Marker => Turn::Pass(LineWalk::Inside(past_lines(p, 1), t)),
-        Entry::Refused(why) => Turn::Refused(why),
+    match entry_at(body, p)? {
+        Some(r) => hold(past_lines(p, 1), t, r),
+        None => Ok(Some(Turn::Pass(LineWalk::Inside(past_lines(p, 1), t)))),
     }
 }
 
@@ -211,100 +161,67 @@ fn column_place(columns: bool, start: usize, count: usize) -> usize
     requires { start + 8 * count < 2 ^ 64 }
     ensures { result ≡ column_place columns start count }
 {
-    if columns {
-        return start + 8 * count;
-    }
-    start
+    if columns { start + 8 * count } else { start }
 }
 
-// The place in the next block of a subsection, or that its blocks are done.
-#[derive(Clone, Copy)]
-pub enum NextBlock {
-    In(Place),
-    Done,
-    Refused(Refusal),
-}
-
-pub fn next_block(body: &[u8], p: Place) -> NextBlock
+// The place in the next block of a subsection, or none where its blocks are done.
+#[tactic(auto, using(lines::specs::BlocksLaws::block_in))]
+pub fn next_block(body: &[u8], p: Place) -> Result<Option<Place>, Refusal>
     ensures { told_next_block result ≡ next_block body.now p }
 {
-    let h = p.head;
-    let columns = has_columns(h.flags);
-    match block_at(body, p.next, columns) {
-        BlockStep::Block {
-            file,
-            count,
-            start,
-            next,
-        } => {
+    let columns = has_columns(p.head.flags);
+    match block_at(body, p.next, columns)? {
+        Some((block, next)) => {
+            // By hand: a walk takes less where the place is changed as it stands than where it is made anew (docs/SPEED.md, 49).
             let mut q = p;
             q.next = next;
-            q.file = file;
-            q.lines = count;
-            q.line = start;
-            q.column = column_place(columns, start, count);
-            NextBlock::In(q)
+            q.file = block.file;
+            q.lines = block.count;
+            q.line = block.start;
+            q.column = column_place(columns, block.start, block.count);
+            Ok(Some(q))
         }
-        BlockStep::None => NextBlock::Done,
-        BlockStep::Refused(why) => NextBlock::Refused(why),
+        None => Ok(None),
     }
 }
 
-// The record that is held behind a subsection whose blocks are done.
-#[derive(Clone, Copy)]
-pub enum EndBody {
-    On(Held),
-    Refused(Refusal),
-}
-
-// The end of a subsection closes the record that is held.
-pub fn end_body(h: LineHeader, held: Held) -> EndBody
+// The end of a subsection, whose blocks are done, closes the record that is held.
+#[tactic(auto, unfolding(crate::specs::Turn::end_held))]
+pub fn end_body(h: LineHeader, held: Option<LineRecord>) -> Result<Option<LineRecord>, Refusal>
     ensures { told_end_body result ≡ end_held h held }
 {
-    match held {
-        Held::Nothing => EndBody::On(Held::Nothing),
-        Held::One(r) => {
-            if LineRecord::MAX_OFFSET - h.offset < h.code {
-                return EndBody::Refused(Refusal::OffsetTooLarge);
-            }
-            EndBody::On(Held::One(closed(r, h.section, h.offset + h.code)))
-        }
-    }
+    let Some(r) = held else {
+        return Ok(None);
+    };
+    let end = h.offset.checked_add(h.code).ok_or(Refusal::OffsetTooLarge)?;
+    Ok(Some(closed(r, h.section, end)))
 }
 
-fn end_turn(p: Place, t: Rest) -> Turn
+fn end_turn(p: Place, t: Rest) -> Result<Option<Turn>, Refusal>
     ensures { told_turn result ≡ end_of p t }
 {
-    let h = p.head;
-    let how = p.how;
-    let held = t.held;
-    match end_body(h, held) {
-        EndBody::On(closing) => Turn::Pass(LineWalk::Between(how, with_held(t, closing))),
-        EndBody::Refused(why) => Turn::Refused(why),
-    }
+    let closing = end_body(p.head, t.held)?;
+    Ok(Some(Turn::Pass(LineWalk::Between(p.how, with_held(t, closing)))))
 }
 
 // The next block of a subsection, or its end.
-fn block_turn(body: &[u8], p: Place, t: Rest) -> Turn
+fn block_turn(body: &[u8], p: Place, t: Rest) -> Result<Option<Turn>, Refusal>
     ensures { told_turn result ≡ block_turn body.now p t }
 {
-    match next_block(body, p) {
-        NextBlock::In(q) => Turn::Pass(LineWalk::Inside(q, t)),
-        NextBlock::Done => end_turn(p, t),
-        NextBlock::Refused(why) => Turn::Refused(why),
+    match next_block(body, p)? {
+        Some(q) => Ok(Some(Turn::Pass(LineWalk::Inside(q, t)))),
+        None => end_turn(p, t),
     }
 }
 
 // Inside a subsection, whose bytes end at the place's end, and whose body starts no later.
-fn inside_turn(area: &[u8], p: Place, t: Rest) -> Turn
+#[tactic(auto, unfolding(crate::specs::Turn::inside_turn))]
+fn inside_turn(area: &[u8], p: Place, t: Rest) -> Result<Option<Turn>, Refusal>
     ensures { told_turn result ≡ inside_turn area.now p t }
 {
     let end = p.end;
-    if area.len() < end {
-        return Turn::Refused(Refusal::Cut);
-    }
-    if end < p.body {
-        return Turn::Refused(Refusal::Cut);
+    if area.len() < end || end < p.body {
+        return Err(Refusal::Cut);
     }
     if p.lines == 0 {
         return block_turn(&area[..end], p, t);
@@ -329,59 +246,41 @@ pub fn place_at(how: EndLines, head: LineHeader, body: usize, first: usize, end:
     }
 }
 
-// The place before the first block of a subsection.
-#[derive(Clone, Copy)]
-pub enum Entered {
-    In(Place),
-    Refused(Refusal),
-}
-
-// Into the subsection whose body of `len` bytes starts at `start`. A body that does not lie in the area is 1.
-pub fn enter(area: &[u8], how: EndLines, start: usize, len: usize) -> Entered
+// Into the subsection whose body of `len` bytes starts at `start`: the place before its first block. A body that does not lie in the area is 1.
+#[tactic(auto, unfolding(crate::specs::Turn::enter_place, crate::specs::Turn::headed_place))]
+pub fn enter(area: &[u8], how: EndLines, start: usize, len: usize) -> Result<Place, Refusal>
     ensures { told_entered result ≡ enter_place how area.now start len }
 {
-    if area.len() < start {
-        return Entered::Refused(Refusal::Cut);
-    }
-    if area.len() - start < len {
-        return Entered::Refused(Refusal::Cut);
-    }
-    if len < LINE_HEAD {
-        return Entered::Refused(Refusal::Cut);
+    if area.len() < start || area.len() - start < len || len < LINE_HEAD {
+        return Err(Refusal::Cut);
     }
     let end = start + len;
     let h = header_of(&area[start..end]);
-    Entered::In(place_at(how, h, start, start + LINE_HEAD, end))
+    Ok(place_at(how, h, start, start + LINE_HEAD, end))
 }
 
 // The next subsection: the one that the next slot names.
-fn sub_turn(area: &[u8], slots: &[u32], how: EndLines, t: Rest) -> Turn
+#[tactic(auto, using(crate::specs::TurnLaws::sub_cut))]
+fn sub_turn(area: &[u8], slots: &[u32], how: EndLines, t: Rest) -> Result<Option<Turn>, Refusal>
     ensures { told_turn result ≡ sub_turn crate_rule area.now slots.now how t }
 {
-    match slot_body(area, slots, t.slot, t.scan) {
-        Named::Body { start, len } => match enter(area, how, start, len) {
-            Entered::In(p) => {
-                let u = behind_body(t, p.end);
-                Turn::Pass(LineWalk::Inside(p, u))
-            }
-            Entered::Refused(why) => Turn::Refused(why),
-        },
-        Named::Refused(why) => Turn::Refused(why),
-    }
+    let span = slot_body(area, slots, t.slot, t.scan)?;
+    let p = enter(area, how, span.start, span.len)?;
+    Ok(Some(Turn::Pass(LineWalk::Inside(p, behind_body(t, p.end)))))
 }
 
 // No subsection is left: the held record is ready.
-fn finish(how: EndLines, t: Rest) -> Turn
+fn finish(how: EndLines, t: Rest) -> Result<Option<Turn>, Refusal>
     ensures { told_turn result ≡ finish_of how t }
 {
-    let held = t.held;
-    match held {
-        Held::Nothing => Turn::Over,
-        Held::One(r) => Turn::Line(r, LineWalk::Between(how, with_held(t, Held::Nothing))),
+    if let Some(r) = t.held {
+        return Ok(Some(Turn::Line(r, LineWalk::Between(how, with_held(t, None)))));
     }
+    Ok(None)
 }
 
-fn between_turn(area: &[u8], slots: &[u32], how: EndLines, t: Rest) -> Turn
+#[tactic(auto, unfolding(crate::specs::Turn::between_turn))]
+fn between_turn(area: &[u8], slots: &[u32], how: EndLines, t: Rest) -> Result<Option<Turn>, Refusal>
     ensures { told_turn result ≡ between_turn crate_rule area.now slots.now how t }
 {
     if t.left == 0 {
@@ -391,20 +290,19 @@ fn between_turn(area: &[u8], slots: &[u32], how: EndLines, t: Rest) -> Turn
 }
 
 // A new walk makes the tests over the whole area.
-fn open_turn(area: &[u8], how: EndLines) -> Turn
+fn open_turn(area: &[u8], how: EndLines) -> Result<Option<Turn>, Refusal>
     ensures { told_turn result ≡ open_of how (count_lines crate_rule area.now) }
 {
-    match count_lines(area) {
-        Counted::Lines(n) => Turn::Pass(LineWalk::Between(how, fresh_rest(0, n))),
-        Counted::Refused(why) => Turn::Refused(why),
-    }
+    let n = count_lines(area)?;
+    Ok(Some(Turn::Pass(LineWalk::Between(how, fresh_rest(0, n)))))
 }
 
-pub fn take_turn(area: &[u8], slots: &[u32], w: LineWalk) -> Turn
+#[tactic(auto, unfolding(crate::specs::Turn::turn_of))]
+pub fn take_turn(area: &[u8], slots: &[u32], w: LineWalk) -> Result<Option<Turn>, Refusal>
     ensures { told_turn result ≡ turn_of crate_rule area.now slots.now w }
 {
     if LONGEST < area.len() {
-        return Turn::Refused(Refusal::TooLong);
+        return Err(Refusal::TooLong);
     }
     match w {
         LineWalk::New(how) => open_turn(area, how),

@@ -1,5 +1,5 @@
 -- Laws of a step: its turns come to an end, and one law for each way of the loop over them.
-use Rattle.std.specs.Prelude.{ℕ, zero, suc, ◌+◌, ◌-◌, ◌*◌, ◌<◌, ◌≤◌, ◌≡◌, refl, List, length, ltb, eqb}
+use Rattle.std.specs.Prelude.{ℕ, zero, suc, ◌+◌, ◌-◌, ◌*◌, ◌<◌, ◌≤◌, ◌≡◌, refl, List, length, ltb, eqb, Option, None, Some}
 use Rattle.std.proofs.Common.{suc-mul}
 use native.Mathlib.Omega.{arith}
 use Rattle.std.proofs.Math.ListN.{take}
@@ -20,8 +20,6 @@ use Rattle.lines.specs.declared.LineHeader.{LineHeader}
 use Rattle.lines.specs.Lines.{count_lines}
 use Rattle.lines.specs.Slots.{slot_at}
 use Rattle.lines.specs.SlotsLaws.{SlotIn, slot_lies}
-use Rattle.line_step.specs.declared.Held.{Held}
-use Rattle.line_step.specs.declared.Held.TheVariants.{Nothing, One}
 use Rattle.line_step.specs.declared.Rest.{Rest}
 use Rattle.line_step.specs.declared.Place.{Place}
 use Rattle.line_step.specs.declared.LineWalk.{LineWalk}
@@ -45,9 +43,9 @@ module _ (rule : ℕ → Sort) (s v : List ℕ) where
   open_less how nothing = tt
   open_less how (refused t) = tt
 
-  finish_less : (how : EndLines) (t : Rest) (o : Held) → Less (turn_bound s t.left + one_held o) (finish_in how o t)
-  finish_less how t Nothing = tt
-  finish_less how t (One r) = omega arith
+  finish_less : (how : EndLines) (t : Rest) (o : Option LineRecord) → Less (turn_bound s t.left + one_held o) (finish_in how o t)
+  finish_less how t None = tt
+  finish_less how t (Some r) = omega arith
 
   enter_less : (how : EndLines) (t : Rest) (a n : ℕ) → 1 ≤ t.left → a + n ≤ length s → Less (todo rule s (Between how t)) (enter_at s how t a n)
   unfolding headed_place
@@ -66,21 +64,21 @@ module _ (rule : ℕ → Sort) (s v : List ℕ) where
       by_cases (Less (todo rule s (Between how t))) (eqb t.left 0) (λ e. finish_less how t t.held)
       (λ e. named_less how t (slot_at rule s v t.slot t.scan) (omega (arith, eqb-false)) (slot_lies rule s v t.slot t.scan))
 
-  end_less : (how : EndLines) (h : LineHeader) (t : Rest) (o : Held) (m : ℕ) → turn_bound s t.left + one_held o < m → one_held o ≡ one_held t.held
+  end_less : (how : EndLines) (h : LineHeader) (t : Rest) (o : Option LineRecord) (m : ℕ) → turn_bound s t.left + one_held o < m → one_held o ≡ one_held t.held
       → Less m (end_move how t (end_held h o))
   unfolding end_held
-  end_less how h t Nothing m l e = omega arith
-  end_less how h t (One r) m l e = by_cases (λ k. Less m (end_move how t k)) (ltb max_offset (h.offset + h.code)) (λ g. tt) (λ g. l)
+  end_less how h t None m l e = omega arith
+  end_less how h t (Some r) m l e = by_cases (λ k. Less m (end_move how t k)) (ltb max_offset (h.offset + h.code)) (λ g. tt) (λ g. l)
 
   block_less : (p : Place) (t : Rest) (k : Reply Place Told) → p.lines ≡ 0 → OpensIn p k → Less (todo rule s (Inside p t)) (block_of p t k)
   block_less p t (gave q) h o = omega (arith, o.less)
   block_less p t nothing h o = end_less p.how p.head t t.held (todo rule s (Inside p t)) (omega arith) refl
   block_less p t (refused e) h o = tt
 
-  hold_less : (p : Place) (t : Rest) (r : LineRecord) (o : Held) → 1 ≤ p.lines
-      → Less (suc (turn_bound s t.left + (p.end - p.next) + 2 * p.lines + one_held o)) (hold_in o r (Inside (lines_on p 1) (with_held t (One r))))
-  hold_less p t r Nothing h = omega arith
-  hold_less p t r (One o) h = omega arith
+  hold_less : (p : Place) (t : Rest) (r : LineRecord) (o : Option LineRecord) → 1 ≤ p.lines
+      → Less (suc (turn_bound s t.left + (p.end - p.next) + 2 * p.lines + one_held o)) (hold_in o r (Inside (lines_on p 1) (with_held t (Some r))))
+  hold_less p t r None h = omega arith
+  hold_less p t r (Some o) h = omega arith
 
   line_less : (p : Place) (t : Rest) (e : Reply LineRecord Told) → 1 ≤ p.lines → Less (todo rule s (Inside p t)) (line_of p t e)
   line_less p t (gave r) h = hold_less p t r t.held h

@@ -24,7 +24,7 @@ use Rattle.lines.specs.SlotsLaws.{body_by, LineSubAt, IsLineBody, list_line_bodi
 use Rattle.slot_key.specs.SortLaws.{Pairs, pairs_map}
 use Rattle.order.specs.Order.{in_order}
 use Rattle.order.specs.BuiltLaws.{StartsApart, bodies_apart}
-use Rattle.line_walk.specs.Meaning.{Event, line, done, Events, entry_then, behind, lines_then, blocks_then, body_then, events_of, Records, settle_one, settle, records_of}
+use Rattle.line_walk.specs.Meaning.{line, done, Events, entry_then, behind, lines_then, blocks_then, body_then, events_of, Records, settle_one, settle, records_of}
 use Rattle.line_walk.proofs.EveryLaws.{OnLine, body_every}
 
 -- ---- the records that events settle are their lines, in order

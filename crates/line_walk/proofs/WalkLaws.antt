@@ -1,7 +1,7 @@
 -- The walk is its meaning: n steps from a new walk on answer the records of `records_of` in order, by the reading of end lines that the new walk names, and
 -- then its end again and again.
 use Prim.Native.Nat.{ℕ, zero, suc, ◌+◌, ◌-◌, ◌*◌, ◌%◌, ◌^◌, ◌<◌, ◌≤◌}
-use Rattle.std.specs.Prelude.{◌≡◌, List, [], ◌∷◌, Bool, cond, drop, ltb, eqb}
+use Rattle.std.specs.Prelude.{◌≡◌, List, [], ◌∷◌, Bool, cond, drop, ltb, eqb, Option, None, Some}
 use Rattle.std.proofs.Math.Path.{refl, sym, ap, subst⁻¹}
 use Rattle.std.proofs.Common.{◌∙◌, add-zero, drop-drop}
 use Rattle.std.proofs.Math.Bool.{true, false}
@@ -36,8 +36,6 @@ use Rattle.lines.specs.BlocksLaws.{blocks_on, blocks_step}
 use Rattle.lines.specs.Slots.{body_at, name_then, named, slot_at, list_in, Scans}
 use Rattle.lines.specs.SlotsLaws.{scans_start, SlotIn, slot_lies, slot_scanned, named_slot}
 use Rattle.lines.specs.LinesLaws.{count_long, counted_short}
-use Rattle.line_step.specs.declared.Held.{Held}
-use Rattle.line_step.specs.declared.Held.TheVariants.{Nothing, One}
 use Rattle.line_step.specs.declared.Rest.{Rest}
 use Rattle.line_step.specs.declared.Place.{Place}
 use Rattle.line_step.specs.declared.LineWalk.{LineWalk}
@@ -87,14 +85,14 @@ take_behind (suc a) n (x ∷ s) =
 -- ---- the records that a walk has still to give
 
 -- the records of the events l behind a record that may be held
-abbrev pub held_then : Held → Events → Records
-held_then Nothing l = settle l
-held_then (One o) l = settle_one o l
+abbrev pub held_then : Option LineRecord → Events → Records
+held_then None l = settle l
+held_then (Some o) l = settle_one o l
 
-held_fails : (o : Held) (t : Told) → held_then o (fails t) ≡ fails t
+held_fails : (o : Option LineRecord) (t : Told) → held_then o (fails t) ≡ fails t
 unfolding settle settle_one
-held_fails Nothing t = refl
-held_fails (One o) t = refl
+held_fails None t = refl
+held_fails (Some o) t = refl
 
 abbrev head_of : Place → LineHead
 head_of p = told_header p.head
@@ -143,10 +141,10 @@ module _ (rule : ℕ → Sort) (s v : List ℕ) where
   open_right how nothing = refl
   open_right how (refused t) = refl
 
-  finish_right : (how : EndLines) (t : Rest) (o : Held) → t.left ≡ 0 → Right (held_then o (later how t)) (finish_in how o t)
+  finish_right : (how : EndLines) (t : Rest) (o : Option LineRecord) → t.left ≡ 0 → Right (held_then o (later how t)) (finish_in how o t)
   unfolding settle settle_one events_of named
-  finish_right how t Nothing e = ap (λ n. settle (events_of how (named (body_at rule s) n (drop t.slot v)))) e
-  finish_right how t (One r) e =
+  finish_right how t None e = ap (λ n. settle (events_of how (named (body_at rule s) n (drop t.slot v)))) e
+  finish_right how t (Some r) e =
       ap (λ n. settle_one r (events_of how (named (body_at rule s) n (drop t.slot v)))) e
       ∙ ap (more r) (sym (ap (λ n. settle (events_of how (named (body_at rule s) n (drop t.slot v)))) e))
 
@@ -193,15 +191,15 @@ module _ (rule : ℕ → Sort) (s v : List ℕ) where
       (λ e. ap (λ k. held_then t.held (events_of how k)) (named_slot rule s v t.slot t.scan g t.left (omega (arith, eqb-false)))
       ∙ named_right how t (slot_at rule s v t.slot t.scan) m (slot_lies rule s v t.slot t.scan))
 
-  end_right : (how : EndLines) (h : LineHeader) (t : Rest) (o : Held) → t.held ≡ o
+  end_right : (how : EndLines) (h : LineHeader) (t : Rest) (o : Option LineRecord) → t.held ≡ o
       → Right (held_then o (more (done (told_header h)) (later how t))) (end_move how t (end_held h o))
   unfolding settle settle_one end_held
-  end_right how h t Nothing e = refl
-  end_right how h t (One r) e = both (ltb max_offset (h.offset + h.code))
+  end_right how h t None e = refl
+  end_right how h t (Some r) e = both (ltb max_offset (h.offset + h.code))
     where
       both : (c : Bool) → Right
           (cond c (fails (told why.OffsetTooLarge)) (settle_one (closed_at h.section (h.offset + h.code) r) (later how t)))
-          (end_move how t (cond c (refused (told why.OffsetTooLarge)) (gave (One (closed_at h.section (h.offset + h.code) r)))))
+          (end_move how t (cond c (refused (told why.OffsetTooLarge)) (gave (Some (closed_at h.section (h.offset + h.code) r)))))
       both true = refl
       both false = refl
 
@@ -215,11 +213,11 @@ module _ (rule : ℕ → Sort) (s v : List ℕ) where
   block_right p t none = end_right p.how p.head t t.held refl
   block_right p t (refuses e) = held_fails t.held e
 
-  hold_right : (p : Place) (t : Rest) (r : LineRecord) (o : Held)
-      → Right (held_then o (more (line r) (lines_left (take p.end s) p (blocks_left (take p.end s) p (later p.how t))))) (hold_in o r (Inside p (with_held t (One r))))
+  hold_right : (p : Place) (t : Rest) (r : LineRecord) (o : Option LineRecord)
+      → Right (held_then o (more (line r) (lines_left (take p.end s) p (blocks_left (take p.end s) p (later p.how t))))) (hold_in o r (Inside p (with_held t (Some r))))
   unfolding settle settle_one
-  hold_right p t r Nothing = refl
-  hold_right p t r (One o) = refl
+  hold_right p t r None = refl
+  hold_right p t r (Some o) = refl
 
   line_right : (p : Place) (t : Rest) (e : Reply LineRecord Told)
       → Right (held_then t.held (entry_then e (lines_left (take p.end s) (lines_on p 1) (blocks_left (take p.end s) p (later p.how t))))) (line_of p t e)
@@ -272,9 +270,9 @@ module _ (rule : ℕ → Sort) (s v : List ℕ) where
   open_kept how nothing e = tt
   open_kept how (refused t) e = tt
 
-  finish_kept : (how : EndLines) (t : Rest) (o : Held) → Walked (Between how t) → Kept (finish_in how o t)
-  finish_kept how t Nothing g = tt
-  finish_kept how t (One r) g = g
+  finish_kept : (how : EndLines) (t : Rest) (o : Option LineRecord) → Walked (Between how t) → Kept (finish_in how o t)
+  finish_kept how t None g = tt
+  finish_kept how t (Some r) g = g
 
   enter_kept : (how : EndLines) (t : Rest) (a n : ℕ) → length s ≤ longest → a + n ≤ length s → Scans rule s (a + n) → Kept (enter_at s how t a n)
   unfolding headed_place
@@ -293,19 +291,19 @@ module _ (rule : ℕ → Sort) (s v : List ℕ) where
       by_cases Kept (eqb t.left 0) (λ e. finish_kept how t t.held g)
       (λ e. named_kept how t (slot_at rule s v t.slot t.scan) g.0 (slot_lies rule s v t.slot t.scan) (slot_scanned rule s v t.slot t.scan g.1))
 
-  end_kept : (how : EndLines) (h : LineHeader) (t : Rest) (o : Held) → Walked (Between how t) → Kept (end_move how t (end_held h o))
+  end_kept : (how : EndLines) (h : LineHeader) (t : Rest) (o : Option LineRecord) → Walked (Between how t) → Kept (end_move how t (end_held h o))
   unfolding end_held
-  end_kept how h t Nothing g = g
-  end_kept how h t (One r) g = by_cases (λ k. Kept (end_move how t k)) (ltb max_offset (h.offset + h.code)) (λ e. tt) (λ e. g)
+  end_kept how h t None g = g
+  end_kept how h t (Some r) g = by_cases (λ k. Kept (end_move how t k)) (ltb max_offset (h.offset + h.code)) (λ e. tt) (λ e. g)
 
   block_kept : (p : Place) (t : Rest) (k : Reply Place Told) → Walked (Between p.how t) → p.end ≤ length s → p.body ≤ p.end → OpensIn p k → Kept (block_of p t k)
   block_kept p t (gave q) g l m o = (g.0, g.1, omega (arith, o.end), o.next, o.lines, o.columns, omega (arith, o.end, o.body))
   block_kept p t nothing g l m o = end_kept p.how p.head t t.held g
   block_kept p t (refused e) g l m o = tt
 
-  hold_kept : (p : Place) (t : Rest) (r : LineRecord) (o : Held) → Walked (Inside p t) → Kept (hold_in o r (Inside p (with_held t (One r))))
-  hold_kept p t r Nothing w = w
-  hold_kept p t r (One o) w = w
+  hold_kept : (p : Place) (t : Rest) (r : LineRecord) (o : Option LineRecord) → Walked (Inside p t) → Kept (hold_in o r (Inside p (with_held t (Some r))))
+  hold_kept p t r None w = w
+  hold_kept p t r (Some o) w = w
 
   line_kept : (p : Place) (t : Rest) (e : Reply LineRecord Told) → Walked (Inside (lines_on p 1) t) → Kept (line_of p t e)
   line_kept p t (gave r) w = hold_kept (lines_on p 1) t r t.held w

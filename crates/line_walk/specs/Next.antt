@@ -1,7 +1,7 @@
 -- What a step of the line walk answers, for every state: the first record that its turns give. What the steps of a walk give together is
 -- `records_of` of Meaning (`walk_is` of WalkLaws). Source: document 01, "What must change shape": a state by value and a step.
 -- Definitions only; `walk_is` (line_walk WalkLaws) says what they mean.
-use Rattle.std.specs.Prelude.{ℕ, suc, ◌+◌, ◌-◌, ◌*◌, List, length}
+use Rattle.std.specs.Prelude.{ℕ, suc, ◌+◌, ◌-◌, ◌*◌, List, length, Option, None, Some}
 use Rattle.walk.specs.Listing.{Answer, Reply, gave, nothing, refused}
 use Rattle.walk.specs.First.{first}
 use Rattle.refusal.specs.Told.{Told}
@@ -9,15 +9,13 @@ use Rattle.kinds.specs.Kind.{Sort}
 use Rattle.line_record.specs.declared.LineRecord.{LineRecord}
 use Rattle.lines.specs.Lines.{count_lines}
 use Rattle.line_step.specs.Turn.{turn_of}
-use Rattle.line_step.specs.declared.Held.{Held}
-use Rattle.line_step.specs.declared.Held.TheVariants.{Nothing, One}
 use Rattle.line_step.specs.declared.LineWalk.{LineWalk}
 use Rattle.line_step.specs.declared.LineWalk.TheVariants.{New, Between, Inside}
 
 -- how much is to be done: a bound on the turns, which falls with each
-abbrev pub one_held : Held → ℕ
-one_held Nothing = 0
-one_held (One r) = 1
+abbrev pub one_held : Option LineRecord → ℕ
+one_held None = 0
+one_held (Some r) = 1
 
 -- a line subsection takes no more turns than the area has bytes
 unfoldable pub turn_bound : List ℕ → ℕ → ℕ

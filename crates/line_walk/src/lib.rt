@@ -13,31 +13,20 @@ use line_record::LineRecord;
 use line_step::{LineWalk, Turn, take_turn};
 use refusal::Refusal;
 
-#[derive(Clone, Copy)]
-pub enum LineStep {
-    Line(LineRecord, LineWalk),
-    None,
-    Refused(Refusal),
-}
-
-pub fn next_line(area: &[u8], slots: &[u32], walk: LineWalk) -> LineStep
+#[tactic(auto, using(crate::proofs::NextLaws::next_falls))]
+pub fn next_line(
+    area: &[u8],
+    slots: &[u32],
+    walk: LineWalk,
+) -> Result<Option<(LineRecord, LineWalk)>, Refusal>
     ensures { told_line result ≡ next_of crate_rule area.now slots.now walk }
 {
     let mut w = walk;
-    loop {
-        match take_turn(area, slots, w) {
-            Turn::Line(r, t) => {
-                return LineStep::Line(r, t);
-            }
-            Turn::Pass(t) => {
-                w = t;
-            }
-            Turn::Over => {
-                return LineStep::None;
-            }
-            Turn::Refused(why) => {
-                return LineStep::Refused(why);
-            }
+    while let Some(turn) = take_turn(area, slots, w)? {
+        match turn {
+            Turn::Line(r, t) => return Ok(Some((r, t))),
+            Turn::Pass(t) => w = t,
         }
     }
+    Ok(None)
 }

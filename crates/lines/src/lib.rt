@@ -14,8 +14,8 @@ ghost use Rattle.lines.specs.Blocks.{block_at};
 ghost use Rattle.lines.specs.Slots.{body_from, scan_from, slot_at};
 ghost use Rattle.lines.specs.Told.{told_header, told_block, told_counted, told_named};
 
-use area::{SubStep, sub_at};
-use find::Found;
+use area::sub_at;
+use find::Span;
 use kinds::LINES;
 use refusal::Refusal;
 use word::{u16_at, u32_at};
@@ -56,17 +56,12 @@ pub fn has_columns(flags: u16) -> bool
     flags % 2 == 1
 }
 
-// The block at a place of a line body: its file, how many lines it has and where they begin, and the place behind it.
+// A block of a line body: its file, how many lines it has and where they begin.
 #[derive(Clone, Copy)]
-pub enum BlockStep {
-    Block {
-        file: u32,
-        count: usize,
-        start: usize,
-        next: usize,
-    },
-    None,
-    Refused(Refusal),
+pub struct Block {
+    pub file: u32,
+    pub count: usize,
+    pub start: usize,
 }
 
 // The bytes of a block's lines and columns.
@@ -79,110 +74,80 @@ pub fn line_bytes(columns: bool, count: u32) -> usize
     8 * (count as usize)
 }
 
-// The first block stands behind the header, at `LINE_HEAD`.
-pub fn block_at(body: &[u8], at: usize, columns: bool) -> BlockStep
+// The block at a place of a line body, and the place behind it. The first block stands behind the header, at `LINE_HEAD`.
+#[tactic(auto, using(crate::specs::BlocksLaws::block_past, crate::specs::BlocksLaws::block_end, crate::specs::BlocksLaws::block_short, crate::specs::BlocksLaws::block_small, crate::specs::BlocksLaws::block_cut, crate::specs::BlocksLaws::block_many, crate::specs::BlocksLaws::block_whole))]
+pub fn block_at(body: &[u8], at: usize, columns: bool) -> Result<Option<(Block, usize)>, Refusal>
     ensures { told_block result ≡ block_at columns body.now at }
 {
     if body.len() < at {
-        return BlockStep::Refused(Refusal::Cut);
+        return Err(Refusal::Cut);
     }
     let left = body.len() - at;
     if left == 0 {
-        return BlockStep::None;
+        return Ok(None);
     }
     if left < BLOCK_HEAD {
-        return BlockStep::Refused(Refusal::Cut);
+        return Err(Refusal::Cut);
     }
     let file = u32_at(body, at);
     let count = u32_at(body, at + 4);
     let size = u32_at(body, at + 8) as usize;
     if size < BLOCK_HEAD {
-        return BlockStep::Refused(Refusal::BlockSize);
+        return Err(Refusal::BlockSize);
     }
     if left < size {
-        return BlockStep::Refused(Refusal::Cut);
+        return Err(Refusal::Cut);
     }
     if size - BLOCK_HEAD < line_bytes(columns, count) {
-        return BlockStep::Refused(Refusal::BlockSize);
+        return Err(Refusal::BlockSize);
     }
-    BlockStep::Block {
+    let block = Block {
         file,
         count: count as usize,
         start: at + BLOCK_HEAD,
-        next: at + size,
-    }
+    };
+    Ok(Some((block, at + size)))
 }
 
-// How many line subsections an area has.
-#[derive(Clone, Copy)]
-pub enum Counted {
-    Lines(usize),
-    Refused(Refusal),
-}
-
-// The tests over the whole area, in its order: a short line header is 1 before what is behind it.
-pub fn count_lines(area: &[u8]) -> Counted
+// How many line subsections an area has, after the tests over all of it, in its order: a short line header is 1 before what is behind it.
+pub fn count_lines(area: &[u8]) -> Result<usize, Refusal>
     ensures { told_counted result ≡ count_lines crate_rule area.now }
 {
     let mut n: usize = 0;
     let mut p: usize = 0;
-    loop {
-        match sub_at(area, p) {
-            SubStep::Sub {
-                kind,
-                start: _,
-                len,
-                next,
-            } => {
-                if kind == LINES {
-                    if len < LINE_HEAD {
-                        return Counted::Refused(Refusal::Cut);
-                    }
-                    n += 1;
-                }
-                p = next;
+    while let Some((sub, next)) = sub_at(area, p)? {
+        if sub.kind == LINES {
+            if sub.len < LINE_HEAD {
+                return Err(Refusal::Cut);
             }
-            SubStep::None => {
-                return Counted::Lines(n);
-            }
-            SubStep::Refused(why) => {
-                return Counted::Refused(why);
-            }
+            n += 1;
         }
+        p = next;
     }
+    Ok(n)
 }
 
 // The line subsection at or behind `from` whose body starts at `body`.
-pub fn seek(area: &[u8], from: usize, body: usize) -> Found
+pub fn seek(area: &[u8], from: usize, body: usize) -> Result<Option<Span>, Refusal>
     ensures { told_found result ≡ body_from crate_rule area.now from body }
 {
     let mut p = from;
-    loop {
-        match sub_at(area, p) {
-            SubStep::Sub {
-                kind,
-                start,
-                len,
-                next,
-            } => {
-                if start == body {
-                    if kind == LINES {
-                        return Found::At { start, len };
-                    }
-                }
-                p = next;
-            }
-            SubStep::None => {
-                return Found::None;
-            }
-            SubStep::Refused(why) => {
-                return Found::Refused(why);
+    while let Some((sub, behind)) = sub_at(area, p)? {
+        if sub.start == body {
+            if sub.kind == LINES {
+                return Ok(Some(Span {
+                    start: sub.start,
+                    len: sub.len,
+                }));
             }
         }
+        p = behind;
     }
+    Ok(None)
 }
 
 // Where the search for a body begins: where the last one ended, or at the area's start if the body lies before that.
+#[tactic(auto, using(crate::specs::SlotsLaws::scan_on, crate::specs::SlotsLaws::scan_anew))]
 fn scan_from(scan: usize, body: usize) -> usize
     ensures { result ≡ scan_from scan body }
 {
@@ -192,24 +157,16 @@ fn scan_from(scan: usize, body: usize) -> usize
     0
 }
 
-// The line body that a slot names.
-#[derive(Clone, Copy)]
-pub enum Named {
-    Body { start: usize, len: usize },
-    Refused(Refusal),
-}
-
-// `scan` is the end of the body that was named last, or 0: bodies in the order of the area are found in one pass over it.
-pub fn slot_body(area: &[u8], slots: &[u32], slot: usize, scan: usize) -> Named
+// The line body that a slot names. `scan` is the end of the body that was named last, or 0: bodies in the order of the area are found in one pass over it.
+pub fn slot_body(area: &[u8], slots: &[u32], slot: usize, scan: usize) -> Result<Span, Refusal>
     ensures { told_named result ≡ slot_at crate_rule area.now slots.now slot scan }
 {
     if slots.len() <= slot {
-        return Named::Refused(Refusal::WrongSlot);
+        return Err(Refusal::WrongSlot);
     }
     let body = slots[slot] as usize;
-    match seek(area, scan_from(scan, body), body) {
-        Found::At { start, len } => Named::Body { start, len },
-        Found::None => Named::Refused(Refusal::WrongSlot),
-        Found::Refused(why) => Named::Refused(why),
+    match seek(area, scan_from(scan, body), body)? {
+        Some(span) => Ok(span),
+        None => Err(Refusal::WrongSlot),
     }
 }

@@ -1,5 +1,5 @@
 -- A loop over the steps ends: each line leaves less to do.
-use Rattle.std.specs.Prelude.{ℕ, suc, ◌+◌, ◌-◌, ◌≤◌, ◌<◌, refl, List, ◌++◌, Bool, take, ltb}
+use Rattle.std.specs.Prelude.{ℕ, suc, ◌+◌, ◌-◌, ◌≤◌, ◌<◌, refl, List, ◌++◌, Bool, take, ltb, Option, Some, Result, Ok}
 use Rattle.std.proofs.Math.Path.{◌≡◌, ap, subst⁻¹}
 use Rattle.std.proofs.Common.{sym, ◌∙◌, arith, length-take}
 use Rattle.std.proofs.Math.Bool.{true, false, cond}
@@ -10,6 +10,7 @@ use Rattle.walk.specs.ListingLaws.{To, To_map}
 use Rattle.walk.specs.FirstLaws.{first_less}
 use Rattle.walk.specs.PickLaws.{Gives}
 use Rattle.refusal.specs.Told.{Told, told, longest}
+use Rattle.refusal.specs.declared.Refusal.{Refusal}
 use Rattle.refusal.specs.declared.Refusal.TheVariants as why
 use Rattle.kinds.specs.Kind.{Sort}
 use Rattle.area.specs.Subs.{Sub, step_at}
@@ -35,8 +36,6 @@ use Rattle.printed.specs.LineText.{record_line}
 use Rattle.listing.specs.Dump.{most_bytes, sub_row, file_row}
 use Rattle.listing.specs.Step.{Line, stage, lines_step, files_step, subs_step, head_step, step_of, Both, both, line_shown, text_step}
 use Rattle.listing.specs.Told.{told_text}
-use Rattle.listing.specs.declared.TextStep.{TextStep}
-use Rattle.listing.specs.declared.TextStep.TheVariants as step
 use Rattle.listing.specs.declared.TextWalk.{TextWalk}
 use Rattle.listing.specs.declared.TextWalk.TheVariants.{Head, Subs, Files, Lines, Done}
 
@@ -143,10 +142,10 @@ module _ (rule : ℕ → Sort) (s : List ℕ) where
     text_less w t x e = subst⁻¹ (Less (text_left w)) e (step_falls w)
 
     -- what a loop over `next_text` needs of a line that it answers: it stands in the buffer, and leaves less to do
-    pub text_line : (r : TextStep) (b y : List ℕ) (n : ℕ) (w t : TextWalk) → r ≡ step.Line n t → both (told_text r) y ≡ text_step b (step_of rule s v w)
+    pub text_line : (r : Result (Option (ℕ × TextWalk)) Refusal) (b y : List ℕ) (n : ℕ) (w t : TextWalk) → r ≡ Ok (Some (n, t)) → both (told_text r) y ≡ text_step b (step_of rule s v w)
         → (n ≤ length y) × (text_left t < text_left w)
     unfolding text_step line_shown
-    text_line r b y n w t er q = by (ltb (length b) longest_line) (step_of rule s v w) (text_less w) (ap (λ (k : TextStep). both (told_text k) y) (sym er) ∙ q)
+    text_line r b y n w t er q = by (ltb (length b) longest_line) (step_of rule s v w) (text_less w) (ap (λ (k : Result (Option (ℕ × TextWalk)) Refusal). both (told_text k) y) (sym er) ∙ q)
       where
         by : (c : Bool) (u : Line) → ((r : TextWalk) (x : Pieces) → gives x r ≡ u → text_left r < text_left w)
             → both (gives n t) y ≡ cond c (both (refuses (told why.NoRoom)) b) (line_shown b u) → (n ≤ length y) × (text_left t < text_left w)

@@ -1,13 +1,11 @@
 -- What the answer of this crate tells. Source: document 01, "Refusal numbers", and the values that it names for each.
 -- Definitions only; a reader must believe them.
-use Rattle.std.specs.Prelude.{ℕ}
-use Rattle.walk.specs.Listing.{Answer, gives, none, refuses}
-use Rattle.refusal.specs.Told.{Told, told}
+use Rattle.std.specs.Prelude.{ℕ, Option, Result}
+use Rattle.walk.specs.Listing.{Answer}
+use Rattle.refusal.specs.Told.{Told}
+use Rattle.refusal.specs.Answers.{told_answer}
+use Rattle.refusal.specs.declared.Refusal.{Refusal}
 use Rattle.listing.specs.declared.TextWalk.{TextWalk}
-use Rattle.listing.specs.declared.TextStep.{TextStep}
-use Rattle.listing.specs.declared.TextStep.TheVariants as step
 
-abbrev pub told_text : TextStep → Answer TextWalk ℕ Told
-told_text (step.Line n t) = gives n t
-told_text step.None = none
-told_text (step.Refused r) = refuses (told r)
+abbrev pub told_text : Result (Option (ℕ × TextWalk)) Refusal → Answer TextWalk ℕ Told
+told_text = told_answer (λ n. n)

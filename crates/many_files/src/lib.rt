@@ -15,50 +15,45 @@ ghost use Rattle.many_files.specs.Told.{told_files};
 
 use answer_words::put32;
 use checksums::number;
-use files::{FileStep, next_file};
+use files::{File, next_file};
 use refusal::Refusal;
 use table::TableWalk;
 
 // The words of a file.
 pub const FILE_WORDS: usize = 5;
 
-#[derive(Clone, Copy)]
-pub enum FilesStep {
-    Files { count: usize, next: TableWalk },
-    None,
-    Refused(Refusal),
-}
-
 // What there is to answer where no file fits.
-fn no_room(step: FileStep) -> FilesStep
+fn no_room(
+    step: Result<Option<(File, TableWalk)>, Refusal>,
+) -> Result<Option<(usize, TableWalk)>, Refusal>
     ensures { told_files result ≡ counted (no_room (told_file step)) }
 {
-    match step {
-        FileStep::File {
-            index: _,
-            name: _,
-            kind: _,
-            start: _,
-            len: _,
-            next: _,
-        } => FilesStep::Refused(Refusal::NoRoom),
-        FileStep::None => FilesStep::None,
-        FileStep::Refused(why) => FilesStep::Refused(why),
+    match step? {
+        Some(_) => Err(Refusal::NoRoom),
+        None => Ok(None),
     }
 }
 
 // What there is to answer where no other file comes: the files that are put, or `end` where there is none.
-fn ended(n: usize, w: TableWalk, end: FilesStep) -> FilesStep
+fn ended(
+    n: usize,
+    w: TableWalk,
+    end: Result<Option<(usize, TableWalk)>, Refusal>,
+) -> Result<Option<(usize, TableWalk)>, Refusal>
     ensures { (n ≡ 0 → told_files result ≡ told_files end) × ((n ≡ 0 → ⊥) → told_files result ≡ gives n w) }
 {
     if n == 0 {
         return end;
     }
-    FilesStep::Files { count: n, next: w }
+    Ok(Some((n, w)))
 }
 
 // The files from a walk on, put step after step; `w` is the walk behind the last of them.
-fn fill(area: &[u8], walk: TableWalk, out: &mut [u32]) -> FilesStep
+fn fill(
+    area: &[u8],
+    walk: TableWalk,
+    out: &mut [u32],
+) -> Result<Option<(usize, TableWalk)>, Refusal>
     requires { file_size ≤ length out.old }
     ensures result_value { told_files result ≡ counted (files_of crate_rule area.now (length out.old) walk) }
     ensures out_after { out.new ≡ filled file_words out.old (files_of crate_rule area.now (length out.old) walk) }
@@ -68,37 +63,35 @@ fn fill(area: &[u8], walk: TableWalk, out: &mut [u32]) -> FilesStep
     let mut w = walk;
     while n < room {
         match next_file(area, w) {
-            FileStep::File {
-                index,
-                name,
-                kind,
-                start,
-                len,
-                next,
-            } => {
-                let k = number(kind) as u32;
+            Ok(Some((file, next))) => {
+                let e = file.entry;
+                let k = number(e.kind) as u32;
                 let at = FILE_WORDS * n;
                 put32(
                     &mut out[at..at + FILE_WORDS],
                     0,
-                    &[index, name, k, start as u32, len as u32],
+                    &[file.index, e.name, k, e.start as u32, e.len as u32],
                 );
                 n += 1;
                 w = next;
             }
-            FileStep::None => {
-                return ended(n, w, FilesStep::None);
+            Ok(None) => {
+                return ended(n, w, Ok(None));
             }
-            FileStep::Refused(why) => {
-                return ended(n, w, FilesStep::Refused(why));
+            Err(why) => {
+                return ended(n, w, Err(why));
             }
         }
     }
-    FilesStep::Files { count: n, next: w }
+    Ok(Some((n, w)))
 }
 
-// The files from a walk on, as many as `out` has room for.
-pub fn next_files(area: &[u8], walk: TableWalk, out: &mut [u32]) -> FilesStep
+// The files from a walk on, as many as `out` has room for: how many they are, and the walk behind the last.
+pub fn next_files(
+    area: &[u8],
+    walk: TableWalk,
+    out: &mut [u32],
+) -> Result<Option<(usize, TableWalk)>, Refusal>
     ensures result_value { told_files result ≡ counted (files_of crate_rule area.now (length out.old) walk) }
     ensures out_after { out.new ≡ filled file_words out.old (files_of crate_rule area.now (length out.old) walk) }
 {

@@ -1,5 +1,5 @@
 -- Laws of many turns at once, of the loop that makes turns one by one, and of how a call stops.
-use Rattle.std.specs.Prelude.{ℕ, ◌+◌, ◌-◌, ◌*◌, ◌/◌, ◌^◌, ◌≤◌, ◌<◌, ◌≡◌, refl, List, ◌++◌, Bool, true, false, length, get_or, take, drop}
+use Rattle.std.specs.Prelude.{ℕ, ◌+◌, ◌-◌, ◌*◌, ◌/◌, ◌^◌, ◌≤◌, ◌<◌, ◌≡◌, refl, List, ◌++◌, Bool, true, false, length, get_or, take, drop, Option, None, Some, Result, Ok}
 use Rattle.std.proofs.Common.{sym, ap, ◌∙◌, subst, ⊎_elim, arith, take-append-drop, length-take-le}
 use Rattle.std.proofs.Math.Path.{subst⁻¹}
 use Rattle.word.specs.Word.{store}
@@ -8,10 +8,12 @@ use Rattle.walk.specs.Listing.{item, pass, over, Answer, gives, none, refuses, g
 use Rattle.walk.specs.First.{on_first}
 use Rattle.walk.specs.ManyLaws.{NoRecord}
 use Rattle.refusal.specs.Told.{Told, longest}
+use Rattle.refusal.specs.declared.Refusal.{Refusal}
 use Rattle.kinds.specs.Kind.{LINES, Sort, known, crate_rule}
 use Rattle.area.specs.Subs.{step_at}
 use Rattle.area.specs.SubsLaws.{whole_as, head_whole, step_gives}
 use Rattle.find.specs.Find.{Span}
+use Rattle.find.specs.declared as find
 use Rattle.line_record.specs.declared.EndLines.{EndLines}
 use Rattle.line_record.specs.declared.LineRecord.{LineRecord}
 use Rattle.line_state_words.specs.LineWords.{record_size, record_words}
@@ -21,14 +23,11 @@ use Rattle.lines.specs.LinesLaws.{counted_short}
 use Rattle.lines.specs.Slots.{slot_at}
 use Rattle.lines.specs.SlotsLaws.{seek_hit, scan_on, slot_is, slot_scans}
 use Rattle.lines.specs.Told.{told_named}
-use Rattle.lines.specs.declared.Named.{Named}
 use Rattle.body_list.specs.Search.{Right}
 use Rattle.body_list.specs.declared.Known.{Known}
 use Rattle.body_list.specs.declared.Known.TheVariants as known
 use Rattle.line_step.specs.Turn.{LineMove, fresh_rest, with_held, end_held, enter_place, behind_body, open_of, finish_of, turn_of}
 use Rattle.line_step.specs.TurnLaws.{end_on, sub_entered, enter_ends, between_end, between_sub, block_is, inside_block, turn_is}
-use Rattle.line_step.specs.declared.Held.{Held}
-use Rattle.line_step.specs.declared.Held.TheVariants.{Nothing, One}
 use Rattle.line_step.specs.declared.Rest.{Rest}
 use Rattle.line_step.specs.declared.Place.{Place}
 use Rattle.line_step.specs.declared.LineWalk.{LineWalk}
@@ -47,13 +46,8 @@ use Rattle.body_lines.specs.FillLaws.{turns_start, turns_full}
 use Rattle.many_lines.specs.Bodies.{Look, Knows, LocatedIs, LastAs, LastIs, walk_at, stands_at, BodyPassed, StandOf, StandsFor, BodiesPut, told_end, StopsAt, FilledBy, Answers, Refilled, without_room}
 use Rattle.many_lines.specs.AgainLaws.{same_count, same_state, lines_again}
 use Rattle.many_lines.specs.declared.Stand.{Stand}
-use Rattle.many_lines.specs.declared.Standing.{Standing}
 use Rattle.many_lines.specs.declared.Reached.{Reached}
-use Rattle.many_lines.specs.declared.End.{End}
-use Rattle.many_lines.specs.declared.End.TheVariants as end
 use Rattle.many_lines.specs.declared.Stopped.{Stopped}
-use Rattle.many_lines.specs.declared.LinesStep.{LinesStep}
-use Rattle.many_lines.specs.declared.LinesStep.TheVariants as lines_step
 use Rattle.many_lines.specs.Told.{told_lines}
 
 -- how much is left to do: whether the walk is inside a body, and m subsections behind it
@@ -106,7 +100,7 @@ module _ (rule : ℕ → Sort) (s v b : List ℕ) (i p : ℕ) where
   right_on known.Bodies g a e = (slot_scans rule s v i p g.0 a e, g.1)
   right_on known.Other g a e = tt
 
-  pub located_as : (k : Known) (x : Named) → Knows rule s b k p → told_named x ≡ slot_at rule s v i p → LocatedIs rule s v b i p (record { named = x; known = k })
+  pub located_as : (k : Known) (x : Result find.Span.Span Refusal) → Knows rule s b k p → told_named x ≡ slot_at rule s v i p → LocatedIs rule s v b i p (record { named = x; known = k })
   located_as k x g e = record { named = e; known = λ a q. record { so = right_on k g.so a (q ∙ e) } }
 
 pub knows_nothing : (rule : ℕ → Sort) (s b : List ℕ) (p : ℕ) → Knows rule s b known.Nothing p
@@ -118,10 +112,10 @@ knows_at rule s b k p q e = subst⁻¹ (Knows rule s b k) e
 -- ---- the last record, as code puts it
 
 module _ (n : ℕ) (how : EndLines) (t : Rest) (o : List ℕ) where
-  pub last_none : t.held ≡ Nothing → LastIs n how t o (record { n = n; walk = Between how t; over = false }) o
+  pub last_none : t.held ≡ None → LastIs n how t o (record { n = n; walk = Between how t; over = false }) o
   last_none e = record { is = subst⁻¹ (λ x. LastAs x n how t o (record { n = n; walk = Between how t; over = false }) o) e (refl, refl) }
 
-  pub last_one : (q : LineRecord) (u : Rest) (o' : List ℕ) → t.held ≡ One q → u ≡ with_held t Nothing → o' ≡ store o (record_size * n) (record_words q)
+  pub last_one : (q : LineRecord) (u : Rest) (o' : List ℕ) → t.held ≡ Some q → u ≡ with_held t None → o' ≡ store o (record_size * n) (record_words q)
       → LastIs n how t o (record { n = n + 1; walk = Between how u; over = true }) o'
   last_one q u o' e eu eo = record {
     is = subst⁻¹ (λ x. LastAs x n how t o (record { n = n + 1; walk = Between how u; over = true }) o') e
@@ -132,7 +126,7 @@ module _ (n : ℕ) (how : EndLines) (t : Rest) (o : List ℕ) where
 
 module _ (rule : ℕ → Sort) (s v : List ℕ) where
   -- over the end of a body: o is the record that is held then
-  pub pass_end : (p : Place) (t u : Rest) (o : Held) → Used s p → gave o ≡ end_held p.head t.held → u ≡ with_held t o
+  pub pass_end : (p : Place) (t u : Rest) (o : Option LineRecord) → Used s p → gave o ≡ end_held p.head t.held → u ≡ with_held t o
       → pass (Between p.how u) ≡ turn_of rule s v (Inside p t)
   pass_end p t u o k e eu =
       end_on p t o u e eu ∙ block_is (take p.end s) p t nothing k.over ∙ inside_block s p t k.fit.end k.fit.body k.lines
@@ -152,17 +146,17 @@ module _ (rule : ℕ → Sort) (s v : List ℕ) where
     in_scan u eu = ap (λ r. r.scan) eu ∙ enter_ends how s a n q eq
 
   -- the last record is given
-  pub last_gives : (how : EndLines) (t u : Rest) (r : LineRecord) → length s ≤ longest → t.left ≡ 0 → t.held ≡ One r → u ≡ with_held t Nothing
+  pub last_gives : (how : EndLines) (t u : Rest) (r : LineRecord) → length s ≤ longest → t.left ≡ 0 → t.held ≡ Some r → u ≡ with_held t None
       → item r (Between how u) ≡ turn_of rule s v (Between how t)
   last_gives how t u r f z e eu =
       ap (λ x. item r (Between how x)) eu ∙ given t.held e ∙ between_end rule s v how t z ∙ turn_is rule s v (Between how t) f (Between how t) refl
     where
-      given : (o : Held) → o ≡ One r → item r (Between how (with_held t Nothing)) ≡ finish_of how (with_held t o)
+      given : (o : Option LineRecord) → o ≡ Some r → item r (Between how (with_held t None)) ≡ finish_of how (with_held t o)
       given o q = rw q
 
-  last_over : (how : EndLines) (t u : Rest) → length s ≤ longest → t.left ≡ 0 → u ≡ with_held t Nothing → over ≡ turn_of rule s v (Between how u)
+  last_over : (how : EndLines) (t u : Rest) → length s ≤ longest → t.left ≡ 0 → u ≡ with_held t None → over ≡ turn_of rule s v (Between how u)
   last_over how t u f z eu =
-      between_end rule s v how (with_held t Nothing) z ∙ turn_is rule s v (Between how (with_held t Nothing)) f (Between how (with_held t Nothing)) refl
+      between_end rule s v how (with_held t None) z ∙ turn_is rule s v (Between how (with_held t None)) f (Between how (with_held t None)) refl
       ∙ ap (λ x. turn_of rule s v (Between how x)) (sym eu)
 
   -- ---- where a walk stands
@@ -188,12 +182,12 @@ module _ (rule : ℕ → Sort) (s v : List ℕ) where
         record { short = f; count = refl; turns = λ room o l. turns_put_pass rule s v room l (Between p.how t) z }
 
 -- w is x
-pub stands_as : (rule : ℕ → Sort) (s : List ℕ) (n : ℕ) (w x : LineWalk) (r : Standing) → w ≡ x → StandsFor rule s n x r → StandsFor rule s n w r
+pub stands_as : (rule : ℕ → Sort) (s : List ℕ) (n : ℕ) (w x : LineWalk) (r : Option Stand) → w ≡ x → StandsFor rule s n x r → StandsFor rule s n w r
 stands_as rule s n w x r e = subst⁻¹ (λ y. StandsFor rule s n y r) e
 
 -- ---- the lines of a body, r being how far they came, and its end
 
-module _ (rule : ℕ → Sort) (s : List ℕ) (p : Place) (held : Held) (n : ℕ) (o : List ℕ) (r : InBody) (o' : List ℕ)
+module _ (rule : ℕ → Sort) (s : List ℕ) (p : Place) (held : Option LineRecord) (n : ℕ) (o : List ℕ) (r : InBody) (o' : List ℕ)
     (h : BodyPut rule s (length o / record_size) p held n o r o') where
   abbrev Passed : InBody → Type 0
   Passed x = BodyPassed rule s p held n o x o'
@@ -205,7 +199,7 @@ module _ (rule : ℕ → Sort) (s : List ℕ) (p : Place) (held : Held) (n : ℕ
   passed_stuck e = subst⁻¹ (λ (b : Bool). Passed (record { n = r.n; place = r.place; held = r.held; stuck = b })) e passed_stays
 
   -- q is the record that is held behind the end
-  pub passed_end : r.stuck ≡ false → (q : Held) → gave q ≡ end_held r.place.head r.held
+  pub passed_end : r.stuck ≡ false → (q : Option LineRecord) → gave q ≡ end_held r.place.head r.held
       → Passed (record { n = r.n; place = r.place; held = q; stuck = false })
   passed_end e q eq =
       let k = h.used e in
@@ -267,8 +261,8 @@ module _ (rule : ℕ → Sort) (s v : List ℕ) (n : ℕ) (w : LineWalk) (o : Li
         exactly = λ z w₁ o₁ e g. ap (λ u. u.last) (turns_put_both rule s v room f k.turns w₁ o₁ e g) ∙ k.exactly z w₁ o₁ e (f.under_way w₁ o₁ e g);
       }
 
-  pub bodies_last : (m : ℕ) (how : EndLines) (t u : Rest) (o' o'' : List ℕ) (r : LineRecord) → Comes m (Between how t) o' → m < length o / record_size → length s ≤ longest → t.left ≡ 0 → t.held ≡ One r
-      → u ≡ with_held t Nothing → o'' ≡ store o' (record_size * m) (record_words r) → record_size * m + record_size ≤ length o'
+  pub bodies_last : (m : ℕ) (how : EndLines) (t u : Rest) (o' o'' : List ℕ) (r : LineRecord) → Comes m (Between how t) o' → m < length o / record_size → length s ≤ longest → t.left ≡ 0 → t.held ≡ Some r
+      → u ≡ with_held t None → o'' ≡ store o' (record_size * m) (record_words r) → record_size * m + record_size ≤ length o'
       → BodiesPut rule s v n w o (record { n = m + 1; walk = Between how u; over = true }) o''
   bodies_last m how t u o' o'' r h l f z e eu eo k =
       let room = length o / record_size in
@@ -285,9 +279,9 @@ module _ (rule : ℕ → Sort) (s v : List ℕ) (n : ℕ) (w : LineWalk) (o : Li
       → record_size * m + record_size ≤ length o' → LastIs m how t o' r o'' → BodiesPut rule s v n w o r o''
   bodies_finish m how t o' o'' r h l f z k a = by t.held refl a.is
     where
-      by : (x : Held) → t.held ≡ x → LastAs x m how t o' r o'' → BodiesPut rule s v n w o r o''
-      by Nothing e q = rw (q.0, q.1) (bodies_stuck m (Between how t) o' h)
-      by (One c) e q = subst⁻¹ (λ y. BodiesPut rule s v n w o y o'') q.0 (bodies_last m how t (with_held t Nothing) o' o'' c h l f z e refl q.1 k)
+      by : (x : Option LineRecord) → t.held ≡ x → LastAs x m how t o' r o'' → BodiesPut rule s v n w o r o''
+      by None e q = rw (q.0, q.1) (bodies_stuck m (Between how t) o' h)
+      by (Some c) e q = subst⁻¹ (λ y. BodiesPut rule s v n w o y o'') q.0 (bodies_last m how t (with_held t None) o' o'' c h l f z e refl q.1 k)
 
 -- ---- turn by turn
 
@@ -327,7 +321,7 @@ module _ (rule : ℕ → Sort) (s v : List ℕ) (n₀ : ℕ) (w₀ : LineWalk) (
           }
 
       -- a turn that tells an end
-      pub turning_stops : (u : LineMove) (k : End) (r : Stopped) → u ≡ turn_of rule s v w → told_end k ≡ on_first (next_of rule s v) u
+      pub turning_stops : (u : LineMove) (k : Option Refusal) (r : Stopped) → u ≡ turn_of rule s v w → told_end k ≡ on_first (next_of rule s v) u
           → r ≡ record { n = n; walk = w; exact = exact; end = k } → StopsAt rule s v n₀ w₀ o₀ r o
       turning_stops u k r e q er = subst⁻¹ (λ y. StopsAt rule s v n₀ w₀ o₀ y o) er (record {
         size = h.size;
@@ -337,7 +331,7 @@ module _ (rule : ℕ → Sort) (s v : List ℕ) (n₀ : ℕ) (w₀ : LineWalk) (
         inexact = λ _. l;
       })
 
-    pub turning_full : length o₀ / record_size ≤ n → (r : Stopped) → r ≡ record { n = n; walk = w; exact = true; end = end.None }
+    pub turning_full : length o₀ / record_size ≤ n → (r : Stopped) → r ≡ record { n = n; walk = w; exact = true; end = None }
         → StopsAt rule s v n₀ w₀ o₀ r o
     turning_full l r er = subst⁻¹ (λ y. StopsAt rule s v n₀ w₀ o₀ y o) er (record {
       size = h.size;
@@ -347,9 +341,9 @@ module _ (rule : ℕ → Sort) (s v : List ℕ) (n₀ : ℕ) (w₀ : LineWalk) (
       inexact = λ z. not_so (sym z);
     })
 
-end_no_record : (k : End) → NoRecord (told_end k)
-end_no_record end.None = tt
-end_no_record (end.Refused r) = tt
+end_no_record : (k : Option Refusal) → NoRecord (told_end k)
+end_no_record None = tt
+end_no_record (Some r) = tt
 
 -- ---- how a call stops
 
@@ -400,9 +394,9 @@ module _ (rule : ℕ → Sort) (s v : List ℕ) (w₀ : LineWalk) (o₁ : List �
         full = λ n last e y. let m = same_count e in absurd (omega arith);
       }
 
-      no_answer : (a : End) (n : ℕ) (last : LineWalk) → counted (no_room (told_end a)) ≡ gives n last → ⊥
-      no_answer end.None n last e = let z : ◌≡◌ {A = ℕ} 0 1 = cc in omega arith
-      no_answer (end.Refused t) n last e = let z : ◌≡◌ {A = ℕ} 0 1 = cc in omega arith
+      no_answer : (a : Option Refusal) (n : ℕ) (last : LineWalk) → counted (no_room (told_end a)) ≡ gives n last → ⊥
+      no_answer None n last e = let z : ◌≡◌ {A = ℕ} 0 1 = cc in omega arith
+      no_answer (Some t) n last e = let z : ◌≡◌ {A = ℕ} 0 1 = cc in omega arith
 
       nothing_put : x.n ≡ 0 → x.n < length o₁ / record_size → Refilled rule s v w₀ o₁ x.walk o'
       nothing_put z l = record {
@@ -429,7 +423,7 @@ module _ (rule : ℕ → Sort) (s v : List ℕ) (w₀ : LineWalk) (n : ℕ) (w :
     under_x = h.turns.under_way w₀ o₁ same_room g
 
   -- there is none
-  pub answers_none : x.n ≡ 0 → (r : LinesStep) → told_lines r ≡ counted (no_room (told_end x.end)) → Answers rule s v w₀ n w o r o'
+  pub answers_none : x.n ≡ 0 → (r : Result (Option (ℕ × LineWalk)) Refusal) → told_lines r ≡ counted (no_room (told_end x.end)) → Answers rule s v w₀ n w o r o'
   answers_none z r er = record {
     filled = λ o₁ e fits g.
         let l : x.n < length o / record_size = omega arith in
@@ -438,7 +432,7 @@ module _ (rule : ℕ → Sort) (s v : List ℕ) (w₀ : LineWalk) (n : ℕ) (w :
   }
 
   -- the walk is right behind the last
-  pub answers_exact : (x.n ≡ 0 → ⊥) → x.exact ≡ true → Answers rule s v w₀ n w o (lines_step.Lines x.n x.walk) o'
+  pub answers_exact : (x.n ≡ 0 → ⊥) → x.exact ≡ true → Answers rule s v w₀ n w o (Ok (Some (x.n, x.walk))) o'
   answers_exact z q = record {
     filled = λ o₁ e fits g. ⊎_elim
         (λ (l : length o₁ / record_size ≤ x.n). filled_full rule s v w₀ o₁ fits x.n x.walk o' (under_x o₁ e g) l)
@@ -450,7 +444,7 @@ module _ (rule : ℕ → Sort) (s v : List ℕ) (w₀ : LineWalk) (n : ℕ) (w :
 
   -- it is found by filling the room of just these once more, y being the walk behind them
   pub answers_again : (x.n ≡ 0 → ⊥) → x.exact ≡ false → (y : LineWalk) (o'' : List ℕ) → Refilled rule s v w₀ (take (record_size * x.n) o') y o''
-      → Answers rule s v w₀ n w o (lines_step.Lines x.n y) (o'' ++ drop (record_size * x.n) o')
+      → Answers rule s v w₀ n w o (Ok (Some (x.n, y))) (o'' ++ drop (record_size * x.n) o')
   answers_again z q y o'' k = record {
     filled = λ o₁ e fits g.
         let l = h.inexact q in
@@ -474,7 +468,7 @@ one_room rule s v w = on (next_of rule s v w)
     on none = refl
     on (refuses t) = refl
 
-pub lines_short : (rule : ℕ → Sort) (s v : List ℕ) (w : LineWalk) (o : List ℕ) → length o < record_size → (y o'' : List ℕ) (x b : LinesStep)
+pub lines_short : (rule : ℕ → Sort) (s v : List ℕ) (w : LineWalk) (o : List ℕ) → length o < record_size → (y o'' : List ℕ) (x b : Result (Option (ℕ × LineWalk)) Refusal)
     → FilledBy rule s v w y x o'' → length y ≡ record_size → told_lines b ≡ without_room (told_lines x) → Filled rule s v w o (told_lines b) o
 lines_short rule s v w o h y o'' x b q ey e =
     let f = fill.fill_no_room record_size record_words record_length (next_of rule s v) w o h (next_of rule s v w) refl in

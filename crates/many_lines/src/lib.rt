@@ -21,57 +21,44 @@ ghost use Rattle.many_lines.specs.Bodies.{BodiesPut, told_end, StopsAt, FilledBy
 
 use body_lines::{InBody, body_lines};
 use body_list::{Known, Located, find_body};
+use find::Span;
 use kinds::LINES;
 use line_record::{EndLines, LineRecord};
 use line_state_words::{RECORD_WORDS, put_row};
 use line_step::{
-    EndBody, Entered, Held, LineWalk, Place, Rest, Turn, behind_body, end_body, enter, fresh_rest,
-    place_at, take_turn, with_held,
+    LineWalk, Place, Rest, Turn, behind_body, end_body, enter, fresh_rest, place_at, take_turn,
+    with_held,
 };
-use lines::{Counted, Named, count_lines, header_of};
+use lines::{count_lines, header_of};
 use refusal::{LONGEST, Refusal};
 use word::u32_at;
 
-#[derive(Clone, Copy)]
-pub enum LinesStep {
-    Lines { count: usize, next: LineWalk },
-    None,
-    Refused(Refusal),
-}
-
-// What the first look of a search finds: the length of a line body, or nothing yet.
-#[derive(Clone, Copy)]
-enum Looked {
-    At(usize),
-    No,
-}
-
-// Does the header of the line body at `body` stand at `begin`? That is where most searches end.
-fn first_look(area: &[u8], begin: usize, body: usize) -> Looked
+// The first look of a search: the length of the line body at `body`, if its header stands at `begin`. That is where most searches end.
+fn first_look(area: &[u8], begin: usize, body: usize) -> Option<usize>
     ensures { LookedIs area.now begin body result }
 {
     if LONGEST < area.len() {
-        return Looked::No;
+        return None;
     }
     if area.len() < body {
-        return Looked::No;
+        return None;
     }
     if body < 8 {
-        return Looked::No;
+        return None;
     }
     if body - 8 != begin {
-        return Looked::No;
+        return None;
     }
     let head = &area[begin..begin + 8];
     let kind = u32_at(head, 0);
     let len = u32_at(head, 4) as usize;
     if kind != LINES {
-        return Looked::No;
+        return None;
     }
     if area.len() - body < len {
-        return Looked::No;
+        return None;
     }
-    Looked::At(len)
+    Some(len)
 }
 
 // The line body that a slot names, and what is known behind it.
@@ -88,28 +75,22 @@ fn named_body(
 {
     if slots.len() <= slot {
         return Located {
-            named: Named::Refused(Refusal::WrongSlot),
+            named: Err(Refusal::WrongSlot),
             known,
         };
     }
     let start = slots[slot] as usize;
     match first_look(area, scan, start) {
-        Looked::At(len) => Located {
-            named: Named::Body { start, len },
+        Some(len) => Located {
+            named: Ok(Span { start, len }),
             known,
         },
-        Looked::No => find_body(area, slots, bodies, known, slot, scan),
+        None => find_body(area, slots, bodies, known, slot, scan),
     }
 }
 
-// Inside the next body, and what is known there; or the walk stays, and the turn is left to others.
-#[derive(Clone, Copy)]
-enum Onward {
-    In(Place, Rest, Known),
-    Stays,
-}
-
-// From between two bodies into the one that the next slot names.
+// From between two bodies into the one that the next slot names: the place there, what comes behind, and what is known. Without it the walk stays, and the
+// turn is left to others.
 fn next_body(
     area: &[u8],
     slots: &[u32],
@@ -117,24 +98,20 @@ fn next_body(
     known: Known,
     how: EndLines,
     t: Rest,
-) -> Onward
+) -> Option<(Place, Rest, Known)>
     requires knows { Knows crate_rule area.now bodies.now known t.scan }
     requires area_len_bound { (length area.now ≤ longest) × (1 ≤ t.left) }
     ensures { OnwardIs crate_rule area.now slots.now bodies.now how t result }
 {
     let found = named_body(area, slots, bodies, known, t.slot, t.scan);
-    let named = found.named;
-    let after = found.known;
-    match named {
-        Named::Body { start, len } => match enter(area, how, start, len) {
-            Entered::In(p) => {
-                let u = behind_body(t, p.end);
-                Onward::In(p, u, after)
-            }
-            Entered::Refused(_) => Onward::Stays,
-        },
-        Named::Refused(_) => Onward::Stays,
-    }
+    let Ok(span) = found.named else {
+        return None;
+    };
+    let Ok(p) = enter(area, how, span.start, span.len) else {
+        return None;
+    };
+    let u = behind_body(t, p.end);
+    Some((p, u, found.known))
 }
 
 // How far the walk has come: the records that are put, and where it stands. `over`: that is right behind the last of them, and no other comes.
@@ -157,6 +134,7 @@ fn stuck(n: usize, walk: LineWalk) -> Reached
 }
 
 // A record behind n others. It is put as a part of its own, of a length that is known.
+#[tactic(auto, using(answer_words::specs::PiecesLaws::put_part, line_state_words::specs::LineWordsLaws::record_length))]
 fn put_one(out: &mut [u32], n: usize, r: LineRecord)
     requires { record_size * n + record_size ≤ length out.old }
     ensures { out.new ≡ store out.old (record_size * n) (record_words r) }
@@ -172,15 +150,15 @@ fn last_record(n: usize, how: EndLines, t: Rest, out: &mut [u32]) -> Reached
 {
     let held = t.held;
     match held {
-        Held::Nothing => Reached {
+        None => Reached {
             n,
             walk: LineWalk::Between(how, t),
             over: false,
         },
-        Held::One(r) => {
+        Some(r) => {
             let more = n + 1;
             put_one(out, n, r);
-            let u = with_held(t, Held::Nothing);
+            let u = with_held(t, None);
             Reached {
                 n: more,
                 walk: LineWalk::Between(how, u),
@@ -191,7 +169,7 @@ fn last_record(n: usize, how: EndLines, t: Rest, out: &mut [u32]) -> Reached
 }
 
 // The lines of a body from a place on, and its end where the walk comes there: the record that is held behind it. `stuck`: the walk is inside the body yet.
-fn body_on(area: &[u8], place: Place, held: Held, n: usize, out: &mut [u32]) -> InBody
+fn body_on(area: &[u8], place: Place, held: Option<LineRecord>, n: usize, out: &mut [u32]) -> InBody
     ensures { BodyPassed crate_rule area.now place held n out.old result out.new }
 {
     let mut x = body_lines(area, place, held, n, out);
@@ -201,13 +179,13 @@ fn body_on(area: &[u8], place: Place, held: Held, n: usize, out: &mut [u32]) -> 
     let p = x.place;
     let last = x.held;
     match end_body(p.head, last) {
-        EndBody::On(closing) => InBody {
+        Ok(closing) => InBody {
             n: x.n,
             place: p,
             held: closing,
             stuck: false,
         },
-        EndBody::Refused(_) => {
+        Err(_) => {
             x.stuck = true;
             x
         }
@@ -254,7 +232,7 @@ fn bodies_on(area: &[u8], slots: &[u32], bodies: &[u32], from: Stand, out: &mut 
         } else if t.left == 0 {
             return last_record(n, how, t, out);
         } else {
-            let Onward::In(q, u, after) = next_body(area, slots, bodies, known, how, t) else {
+            let Some((q, u, after)) = next_body(area, slots, bodies, known, how, t) else {
                 return stuck(n, LineWalk::Between(how, t));
             };
             inside = true;
@@ -272,50 +250,42 @@ fn nowhere(how: EndLines) -> Place
     place_at(how, header_of(&[]), 0, 0, 0)
 }
 
-// Where a walk stands, if the turn from there passes on.
-#[derive(Clone, Copy)]
-enum Standing {
-    At(Stand),
-    No,
-}
-
-// A new walk counts the line subsections first.
-fn stand_new(area: &[u8], n: usize, how: EndLines) -> Standing
+// Where a new walk stands: it counts the line subsections first.
+fn stand_new(area: &[u8], n: usize, how: EndLines) -> Option<Stand>
     ensures { StandsFor crate_rule area.now n (New how) result }
 {
-    match count_lines(area) {
-        Counted::Lines(left) => {
-            let rest = fresh_rest(0, left);
-            let place = nowhere(how);
-            Standing::At(Stand {
-                n,
-                inside: false,
-                place,
-                rest,
-            })
-        }
-        Counted::Refused(_) => Standing::No,
-    }
+    let Ok(left) = count_lines(area) else {
+        return None;
+    };
+    let rest = fresh_rest(0, left);
+    let place = nowhere(how);
+    Some(Stand {
+        n,
+        inside: false,
+        place,
+        rest,
+    })
 }
 
-fn stand_of(area: &[u8], n: usize, w: LineWalk) -> Standing
+// Where a walk stands, if the turn from there passes on.
+fn stand_of(area: &[u8], n: usize, w: LineWalk) -> Option<Stand>
     ensures { StandsFor crate_rule area.now n w result }
 {
     if LONGEST < area.len() {
-        return Standing::No;
+        return None;
     }
     match w {
         LineWalk::New(how) => stand_new(area, n, how),
         LineWalk::Between(how, rest) => {
             let place = nowhere(how);
-            Standing::At(Stand {
+            Some(Stand {
                 n,
                 inside: false,
                 place,
                 rest,
             })
         }
-        LineWalk::Inside(place, rest) => Standing::At(Stand {
+        LineWalk::Inside(place, rest) => Some(Stand {
             n,
             inside: true,
             place,
@@ -337,28 +307,22 @@ fn bodies_from(
     ensures { BodiesPut crate_rule area.now slots.now n w out.old result out.new }
 {
     match stand_of(area, n, w) {
-        Standing::At(from) => bodies_on(area, slots, bodies, from, out),
-        Standing::No => stuck(n, w),
+        Some(from) => bodies_on(area, slots, bodies, from, out),
+        None => stuck(n, w),
     }
 }
 
-// Why no record comes behind those that are put.
-#[derive(Clone, Copy)]
-enum End {
-    None,
-    Refused(Refusal),
-}
-
-// Where turns stopped: at an end, or where there is no more room. `exact`: that is right behind the last record.
+// Where turns stopped: at an end, or where there is no more room. `exact`: that is right behind the last record. `end`: the refusal that is the end, if it
+// is one.
 #[derive(Clone, Copy)]
 struct Stopped {
     n: usize,
     walk: LineWalk,
     exact: bool,
-    end: End,
+    end: Option<Refusal>,
 }
 
-fn stopped_at(n: usize, walk: LineWalk, exact: bool, end: End) -> Stopped
+fn stopped_at(n: usize, walk: LineWalk, exact: bool, end: Option<Refusal>) -> Stopped
     ensures { result ≡ record { n = n; walk = walk; exact = exact; end = end } }
 {
     Stopped {
@@ -380,27 +344,27 @@ fn turns(area: &[u8], slots: &[u32], bodies: &[u32], from: Reached, out: &mut [u
     let mut exact = false;
     while n < room {
         match take_turn(area, slots, walk) {
-            Turn::Line(r, t) => {
+            Ok(Some(Turn::Line(r, t))) => {
                 put_one(out, n, r);
                 n += 1;
                 walk = t;
                 exact = true;
             }
-            Turn::Pass(t) => {
+            Ok(Some(Turn::Pass(t))) => {
                 let x = bodies_from(area, slots, bodies, n, t, out);
                 n = x.n;
                 walk = x.walk;
                 exact = false;
             }
-            Turn::Over => {
-                return stopped_at(n, walk, exact, End::None);
+            Ok(None) => {
+                return stopped_at(n, walk, exact, None);
             }
-            Turn::Refused(why) => {
-                return stopped_at(n, walk, exact, End::Refused(why));
+            Err(why) => {
+                return stopped_at(n, walk, exact, Some(why));
             }
         }
     }
-    stopped_at(n, walk, true, End::None)
+    stopped_at(n, walk, true, None)
 }
 
 // The records once more: where they fill the room, the walk behind the last.
@@ -414,12 +378,12 @@ fn refill(area: &[u8], slots: &[u32], bodies: &[u32], walk: LineWalk, out: &mut 
 }
 
 // What is told where there is no record.
-fn told(end: End) -> LinesStep
+fn told(end: Option<Refusal>) -> Result<Option<(usize, LineWalk)>, Refusal>
     ensures { told_lines result ≡ counted (no_room (told_end end)) }
 {
     match end {
-        End::None => LinesStep::None,
-        End::Refused(why) => LinesStep::Refused(why),
+        None => Ok(None),
+        Some(why) => Err(why),
     }
 }
 
@@ -432,7 +396,7 @@ fn slower(
     walk: LineWalk,
     from: Reached,
     out: &mut [u32],
-) -> LinesStep
+) -> Result<Option<(usize, LineWalk)>, Refusal>
     ensures { Answers crate_rule area.now slots.now walk from.n from.walk out.old result out.new }
 {
     let x = turns(area, slots, bodies, from, out);
@@ -443,14 +407,20 @@ fn slower(
     }
     if x.exact {
         let next = x.walk;
-        return LinesStep::Lines { count: n, next };
+        return Ok(Some((n, next)));
     }
     let next = refill(area, slots, bodies, walk, &mut out[..RECORD_WORDS * n]);
-    LinesStep::Lines { count: n, next }
+    Ok(Some((n, next)))
 }
 
 // As many turns at once as can be, and turn by turn what they leave.
-fn fill(area: &[u8], slots: &[u32], bodies: &[u32], walk: LineWalk, out: &mut [u32]) -> LinesStep
+fn fill(
+    area: &[u8],
+    slots: &[u32],
+    bodies: &[u32],
+    walk: LineWalk,
+    out: &mut [u32],
+) -> Result<Option<(usize, LineWalk)>, Refusal>
     requires { record_size ≤ length out.old }
     ensures { FilledBy crate_rule area.now slots.now walk out.old result out.new }
 {
@@ -459,23 +429,24 @@ fn fill(area: &[u8], slots: &[u32], bodies: &[u32], walk: LineWalk, out: &mut [u
     let count = x.n;
     if x.over {
         let next = x.walk;
-        return LinesStep::Lines { count, next };
+        return Ok(Some((count, next)));
     }
     if room <= count {
         let next = x.walk;
-        return LinesStep::Lines { count, next };
+        return Ok(Some((count, next)));
     }
     slower(area, slots, bodies, walk, x, out)
 }
 
 // What there is to answer where no record fits, by what there is with room for one.
-fn no_room(one: LinesStep) -> LinesStep
+fn no_room(
+    one: Result<Option<(usize, LineWalk)>, Refusal>,
+) -> Result<Option<(usize, LineWalk)>, Refusal>
     ensures { told_lines result ≡ without_room (told_lines one) }
 {
-    match one {
-        LinesStep::Lines { count: _, next: _ } => LinesStep::Refused(Refusal::NoRoom),
-        LinesStep::None => LinesStep::None,
-        LinesStep::Refused(why) => LinesStep::Refused(why),
+    match one? {
+        Some(_) => Err(Refusal::NoRoom),
+        None => Ok(None),
     }
 }
 
@@ -486,7 +457,7 @@ pub fn next_lines(
     bodies: &[u32],
     walk: LineWalk,
     out: &mut [u32],
-) -> LinesStep
+) -> Result<Option<(usize, LineWalk)>, Refusal>
     ensures result_value { told_lines result ≡ counted (lines_of crate_rule area.now slots.now (length out.old) walk) }
     ensures out_after { out.new
         ≡ filled record_words out.old (lines_of crate_rule area.now slots.now (length out.old) walk) }

@@ -1,5 +1,5 @@
 -- Laws of a module's stream: a law for each way out of the code, where a part lies, and what is lent to a call on it.
-use Rattle.std.specs.Prelude.{ℕ, ◌+◌, ◌-◌, ◌<◌, ◌≤◌, ◌≡◌, List, [], length, take, drop, ltb}
+use Rattle.std.specs.Prelude.{ℕ, ◌+◌, ◌-◌, ◌<◌, ◌≤◌, ◌≡◌, List, [], Result, Ok, Err, length, take, drop, ltb}
 use Rattle.std.proofs.Math.Path.{sym, subst⁻¹}
 use Rattle.std.proofs.Common.{ap, ◌∙◌, arith, ltb-false}
 use Rattle.std.proofs.Math.Nat.{add-sub_cancel_left}
@@ -12,9 +12,8 @@ use Rattle.refusal.specs.Told.{Told, told, longest}
 use Rattle.refusal.specs.declared.Refusal.{Refusal}
 use Rattle.refusal.specs.declared.Refusal.TheVariants as why
 use Rattle.find.specs.Find.{same, Span, bytes_at}
+use Rattle.find.specs.declared as found
 use Rattle.modi.specs.declared.ModuleSizes.{ModuleSizes}
-use Rattle.modi.specs.declared.Part.{Part}
-use Rattle.modi.specs.declared.Part.TheVariants as part
 use Rattle.modi.specs.Told.{told_part}
 use Rattle.modi.specs.Modi.{module_symbols, module_span, tables_span, lines_span, tables_area, lines_area}
 
@@ -90,11 +89,11 @@ span_in z s a e = subst⁻¹ (Inside s) e (span_lies z s)
 
 -- as the code has it in hand: y is the answer that says where the part is
 module _ (z : ModuleSizes) (s : List ℕ) where
-  pub tables_in : {y : Part} {start len : ℕ} → y ≡ part.At start len → told_part y ≡ tables_span z s → start + len ≤ length s
+  pub tables_in : {y : Result found.Span.Span Refusal} {a : found.Span.Span} → y ≡ Ok a → told_part y ≡ tables_span z s → a.start + a.len ≤ length s
   tables_in h e =
       subst⁻¹ (Inside s) (ap told_part (sym h) ∙ e) (or_lies s (module_span z s) (gave (record { start = 0; len = 0 })) (span_lies z s) (omega arith))
 
-  pub lines_in : {y : Part} {start len : ℕ} → y ≡ part.At start len → told_part y ≡ lines_span z s → start + len ≤ length s
+  pub lines_in : {y : Result found.Span.Span Refusal} {a : found.Span.Span} → y ≡ Ok a → told_part y ≡ lines_span z s → a.start + a.len ≤ length s
   lines_in h e = subst⁻¹ (Inside s) (ap told_part (sym h) ∙ e) (or_lies s (module_span z s) (refused (told why.OldFormat)) (span_lies z s) tt)
 
 -- ---- `tables_part` and `lines_part`: x is what `module_area` answers
@@ -132,22 +131,23 @@ module _ (z : ModuleSizes) (s : List ℕ) (h₀ : length s ≤ longest) where
 -- definition's area, and a refused part is the definition's refusal: so the area's own call on that part is the call on the module
 
 module _ (s : List ℕ) (x : Reply Span Told) where
-  lent : {y : Part} {start len : ℕ} → y ≡ part.At start len → told_part y ≡ x → gave (take (start + len - start) (drop start s)) ≡ map_reply (bytes_at s) same x
-  lent {y} {start} {len} h e =
-      ap (λ (k : ℕ). gave (take k (drop start s))) (add-sub_cancel_left start len) ∙ ap (map_reply (bytes_at s) same) (ap told_part (sym h) ∙ e)
+  lent : {y : Result found.Span.Span Refusal} {a : found.Span.Span} → y ≡ Ok a → told_part y ≡ x
+      → gave (take (a.start + a.len - a.start) (drop a.start s)) ≡ map_reply (bytes_at s) same x
+  lent {y} {a} h e =
+      ap (λ (k : ℕ). gave (take k (drop a.start s))) (add-sub_cancel_left a.start a.len) ∙ ap (map_reply (bytes_at s) same) (ap told_part (sym h) ∙ e)
 
-  not_lent : {y : Part} {r : Refusal} → y ≡ part.Refused r → told_part y ≡ x → refused (told r) ≡ map_reply (bytes_at s) same x
+  not_lent : {y : Result found.Span.Span Refusal} {r : Refusal} → y ≡ Err r → told_part y ≡ x → refused (told r) ≡ map_reply (bytes_at s) same x
   not_lent h e = ap (map_reply (bytes_at s) same) (ap told_part (sym h) ∙ e)
 
-module _ (z : ModuleSizes) (s : List ℕ) {y : Part} where
-  pub tables_lent : {start len : ℕ} → y ≡ part.At start len → told_part y ≡ tables_span z s → gave (take (start + len - start) (drop start s)) ≡ tables_area z s
+module _ (z : ModuleSizes) (s : List ℕ) {y : Result found.Span.Span Refusal} where
+  pub tables_lent : {a : found.Span.Span} → y ≡ Ok a → told_part y ≡ tables_span z s → gave (take (a.start + a.len - a.start) (drop a.start s)) ≡ tables_area z s
   tables_lent = lent s (tables_span z s)
 
-  pub tables_refused : {r : Refusal} → y ≡ part.Refused r → told_part y ≡ tables_span z s → refused (told r) ≡ tables_area z s
+  pub tables_refused : {r : Refusal} → y ≡ Err r → told_part y ≡ tables_span z s → refused (told r) ≡ tables_area z s
   tables_refused = not_lent s (tables_span z s)
 
-  pub lines_lent : {start len : ℕ} → y ≡ part.At start len → told_part y ≡ lines_span z s → gave (take (start + len - start) (drop start s)) ≡ lines_area z s
+  pub lines_lent : {a : found.Span.Span} → y ≡ Ok a → told_part y ≡ lines_span z s → gave (take (a.start + a.len - a.start) (drop a.start s)) ≡ lines_area z s
   lines_lent = lent s (lines_span z s)
 
-  pub lines_refused : {r : Refusal} → y ≡ part.Refused r → told_part y ≡ lines_span z s → refused (told r) ≡ lines_area z s
+  pub lines_refused : {r : Refusal} → y ≡ Err r → told_part y ≡ lines_span z s → refused (told r) ≡ lines_area z s
   lines_refused = not_lent s (lines_span z s)

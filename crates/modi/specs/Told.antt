@@ -1,17 +1,16 @@
 -- What the answers of this crate tell. Source: document 01, "Refusal numbers", and the values that it names for each.
 -- Definitions only; a reader must believe them.
-use Rattle.walk.specs.Listing.{Reply, gave, refused}
-use Rattle.refusal.specs.Told.{Told, told}
+use Rattle.std.specs.Prelude.{Result}
+use Rattle.walk.specs.Listing.{Reply}
+use Rattle.refusal.specs.Told.{Told}
+use Rattle.refusal.specs.Answers.{told_result}
+use Rattle.refusal.specs.declared.Refusal.{Refusal}
 use Rattle.find.specs.Find.{Span}
-use Rattle.modi.specs.declared.SymbolsAnswer.{SymbolsAnswer}
-use Rattle.modi.specs.declared.SymbolsAnswer.TheVariants as symbols
-use Rattle.modi.specs.declared.Part.{Part}
-use Rattle.modi.specs.declared.Part.TheVariants as part
+use Rattle.find.specs.Told.{told_span}
+use Rattle.find.specs.declared as found
 
-abbrev pub told_symbols : SymbolsAnswer → Reply (Unit {0}) Told
-told_symbols symbols.Yes = gave tt
-told_symbols (symbols.Refused r) = refused (told r)
+abbrev pub told_symbols : Result (Unit {0}) Refusal → Reply (Unit {0}) Told
+told_symbols = told_result (λ u. u)
 
-abbrev pub told_part : Part → Reply Span Told
-told_part (part.At a n) = gave (record { start = a; len = n })
-told_part (part.Refused r) = refused (told r)
+abbrev pub told_part : Result found.Span.Span Refusal → Reply Span Told
+told_part = told_result told_span

@@ -1,32 +1,23 @@
 -- Nothing is lost in what the answers of this crate tell: no second one tells the same.
-use Rattle.std.specs.Prelude.{◌≡◌, refl}
-use Rattle.std.proofs.Common.{ap}
-use Rattle.walk.specs.Listing.{Reply, gave, nothing, refused}
+use Rattle.std.specs.Prelude.{◌≡◌, refl, Result}
+use Rattle.walk.specs.Listing.{Reply}
 use Rattle.refusal.specs.Told.{Told}
-use Rattle.refusal.specs.Untold.{untold, untold_told}
+use Rattle.refusal.specs.Untold.{untold_result, untold_result_lem}
+use Rattle.refusal.specs.declared.Refusal.{Refusal}
 use Rattle.find.specs.Find.{Span}
-use Rattle.modi.specs.declared.SymbolsAnswer.{SymbolsAnswer}
-use Rattle.modi.specs.declared.SymbolsAnswer.TheVariants as symbols
-use Rattle.modi.specs.declared.Part.{Part}
-use Rattle.modi.specs.declared.Part.TheVariants as part
+use Rattle.find.specs.Told.{told_span}
+use Rattle.find.specs.Untold.{untold_span}
+use Rattle.find.specs.declared as found
 use Rattle.modi.specs.Told.{told_symbols, told_part}
 
--- no answer tells `nothing`
-abbrev pub untold_symbols : Reply (Unit {0}) Told → SymbolsAnswer
-untold_symbols (gave u) = symbols.Yes
-untold_symbols nothing = symbols.Yes
-untold_symbols (refused t) = symbols.Refused (untold t)
+abbrev pub untold_symbols : Reply (Unit {0}) Told → Result (Unit {0}) Refusal
+untold_symbols = untold_result (λ u. u) (λ u. u) (λ u. refl)
 
-pub untold_symbols_lem : (h : SymbolsAnswer) → untold_symbols (told_symbols h) ≡ h
-untold_symbols_lem symbols.Yes = refl
-untold_symbols_lem (symbols.Refused r) = ap symbols.Refused (untold_told r)
+pub untold_symbols_lem : (h : Result (Unit {0}) Refusal) → untold_symbols (told_symbols h) ≡ h
+untold_symbols_lem = untold_result_lem (λ u. u) (λ u. u) (λ u. refl)
 
--- no answer tells `nothing`
-abbrev pub untold_part : Reply Span Told → Part
-untold_part (gave a) = part.At a.start a.len
-untold_part nothing = part.At 0 0
-untold_part (refused t) = part.Refused (untold t)
+abbrev pub untold_part : Reply Span Told → Result found.Span.Span Refusal
+untold_part = untold_result told_span untold_span (λ a. refl)
 
-pub untold_part_lem : (h : Part) → untold_part (told_part h) ≡ h
-untold_part_lem (part.At a n) = refl
-untold_part_lem (part.Refused r) = ap part.Refused (untold_told r)
+pub untold_part_lem : (h : Result found.Span.Span Refusal) → untold_part (told_part h) ≡ h
+untold_part_lem = untold_result_lem told_span untold_span (λ a. refl)

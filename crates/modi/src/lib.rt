@@ -12,7 +12,7 @@ ghost use Rattle.find.specs.Told.{told_found};
 ghost use Rattle.modi.specs.Modi.{module_span, module_symbols, tables_span, lines_span};
 ghost use Rattle.modi.specs.Told.{told_part, told_symbols};
 
-use find::Found;
+use find::Span;
 use refusal::{LONGEST, Refusal};
 use word::u32_at;
 
@@ -28,55 +28,51 @@ pub struct ModuleSizes {
 }
 
 // Whether a module's symbols can be read.
-#[derive(Clone, Copy)]
-pub enum SymbolsAnswer {
-    Yes,
-    Refused(Refusal),
-}
-
-pub fn module_symbols(stream: &[u8], sizes: ModuleSizes) -> SymbolsAnswer
+#[tactic(auto, using(crate::specs::ModiLaws::symbols_long, crate::specs::ModiLaws::symbols_past, crate::specs::ModiLaws::symbols_none, crate::specs::ModiLaws::symbols_short, crate::specs::ModiLaws::symbols_yes, crate::specs::ModiLaws::symbols_other))]
+pub fn module_symbols(stream: &[u8], sizes: ModuleSizes) -> Result<(), Refusal>
     ensures { told_symbols result ≡ module_symbols sizes stream.now }
 {
     let len = stream.len();
     let symbols = sizes.symbols as usize;
     if LONGEST < len {
-        return SymbolsAnswer::Refused(Refusal::TooLong);
+        return Err(Refusal::TooLong);
     }
     if len < symbols {
-        return SymbolsAnswer::Refused(Refusal::Cut);
+        return Err(Refusal::Cut);
     }
     if symbols == 0 {
-        return SymbolsAnswer::Yes;
+        return Ok(());
     }
     if symbols < 4 {
-        return SymbolsAnswer::Refused(Refusal::Cut);
+        return Err(Refusal::Cut);
     }
     if u32_at(stream, 0) == CV_SIGNATURE_C13 {
-        SymbolsAnswer::Yes
+        Ok(())
     } else {
-        SymbolsAnswer::Refused(Refusal::OldFormat)
+        Err(Refusal::OldFormat)
     }
 }
 
 // Where a module's area stands in its stream; `None` with C11 lines.
-pub fn module_area(stream: &[u8], sizes: ModuleSizes) -> Found
+#[tactic(auto, using(crate::specs::ModiLaws::span_long, crate::specs::ModiLaws::span_c11, crate::specs::ModiLaws::span_past, crate::specs::ModiLaws::span_inside))]
+pub fn module_area(stream: &[u8], sizes: ModuleSizes) -> Result<Option<Span>, Refusal>
     ensures { told_found result ≡ module_span sizes stream.now }
 {
     let symbols = sizes.symbols as usize;
     let c13 = sizes.c13 as usize;
     if LONGEST < stream.len() {
-        return Found::Refused(Refusal::TooLong);
+        return Err(Refusal::TooLong);
     }
     if 0 < sizes.c11 {
-        return Found::None;
+        return Ok(None);
     }
     if stream.len() < symbols + c13 {
-        return Found::Refused(Refusal::ModuleSizes);
+        return Err(Refusal::ModuleSizes);
     }
-    Found::At {
+    Ok(Some(Span {
         start: symbols,
         len: c13,
-    }
+    }))
 }
 
 // A module's area itself, as a part of the lent stream; the empty part at the stream's start where there is none.
@@ -84,43 +80,35 @@ pub fn area_of(stream: &[u8], sizes: ModuleSizes) -> &[u8]
     ensures { HandsSpan stream.entry (held_span (module_span sizes stream.now)) result }
 {
     match module_area(stream, sizes) {
-        Found::At { start, len } => &stream[start..start + len],
-        Found::None => &stream[..0],
-        Found::Refused(_) => &stream[..0],
+        Ok(Some(area)) => &stream[area.start..area.start + area.len],
+        Ok(None) => &stream[..0],
+        Err(_) => &stream[..0],
     }
 }
 
-// The part of the stream that a call on a table or on lines reads.
-#[derive(Clone, Copy)]
-pub enum Part {
-    At { start: usize, len: usize },
-    Refused(Refusal),
-}
-
-// The part that is the area; the given one with C11 lines, where there is no area.
-fn part_of(area: Found, otherwise: Part) -> Part
+// The part of the stream that a call on a table or on lines reads: the area; the given one with C11 lines, where there is no area.
+fn part_of(
+    area: Result<Option<Span>, Refusal>,
+    otherwise: Result<Span, Refusal>,
+) -> Result<Span, Refusal>
     ensures { told_part result ≡ or_else (told_found area) (told_part otherwise) }
 {
-    match area {
-        Found::At { start, len } => Part::At { start, len },
-        Found::None => otherwise,
-        Found::Refused(why) => Part::Refused(why),
+    match area? {
+        Some(span) => Ok(span),
+        None => otherwise,
     }
 }
 
 // The part of the stream that a call on a table reads: with C11 lines, the empty one.
-pub fn tables_part(stream: &[u8], sizes: ModuleSizes) -> Part
+pub fn tables_part(stream: &[u8], sizes: ModuleSizes) -> Result<Span, Refusal>
     ensures { told_part result ≡ tables_span sizes stream.now }
 {
-    part_of(module_area(stream, sizes), Part::At { start: 0, len: 0 })
+    part_of(module_area(stream, sizes), Ok(Span { start: 0, len: 0 }))
 }
 
 // The part of the stream that a call on lines or files reads: C11 lines are refused.
-pub fn lines_part(stream: &[u8], sizes: ModuleSizes) -> Part
+pub fn lines_part(stream: &[u8], sizes: ModuleSizes) -> Result<Span, Refusal>
     ensures { told_part result ≡ lines_span sizes stream.now }
 {
-    part_of(
-        module_area(stream, sizes),
-        Part::Refused(Refusal::OldFormat),
-    )
+    part_of(module_area(stream, sizes), Err(Refusal::OldFormat))
 }

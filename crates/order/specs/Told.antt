@@ -1,11 +1,10 @@
 -- What the answer of this crate tells. Source: document 01, "Refusal numbers", and the values that it names for each.
 -- Definitions only; a reader must believe them.
-use Rattle.std.specs.Prelude.{ℕ}
-use Rattle.walk.specs.Listing.{Reply, gave, refused}
-use Rattle.refusal.specs.Told.{Told, told}
-use Rattle.order.specs.declared.Ordered.{Ordered}
-use Rattle.order.specs.declared.Ordered.TheVariants as order
+use Rattle.std.specs.Prelude.{ℕ, Result}
+use Rattle.walk.specs.Listing.{Reply}
+use Rattle.refusal.specs.Told.{Told}
+use Rattle.refusal.specs.Answers.{told_result}
+use Rattle.refusal.specs.declared.Refusal.{Refusal}
 
-abbrev pub told_ordered : Ordered → Reply ℕ Told
-told_ordered (order.Lines n) = gave n
-told_ordered (order.Refused r) = refused (told r)
+abbrev pub told_ordered : Result ℕ Refusal → Reply ℕ Told
+told_ordered = told_result (λ n. n)

@@ -23,21 +23,17 @@ use lines::{BLOCK_HEAD, LINE_HEAD, line_bytes};
 use refusal::LONGEST;
 use word::{u8_at, u16_at, u32_at};
 
-// What a plain body says to who appends to it: the column flag, the signature, the least local index that may follow, or 0.
+// The last subsection of a plain area: its header's place, its kind and its mark, all 0 where there is none. A mark is what a plain body says to who
+// appends to it: the column flag, the signature, the least local index that may follow, or 0.
 #[derive(Clone, Copy)]
-enum Mark {
-    Bad,
-    Fine(u64),
-}
-
-// The last subsection of a plain area: its header's place, its kind and its mark, all 0 where there is none.
-#[derive(Clone, Copy)]
-pub enum PlainAnswer {
-    Yes { header: usize, kind: u32, mark: u64 },
-    No,
+pub struct Last {
+    pub header: usize,
+    pub kind: u32,
+    pub mark: u64,
 }
 
 // How far the block at i goes, 0 where none of plain form stands there. So do the next three.
+#[tactic(auto, using(crate::specs::RecordLaws::line_bytes_max, crate::specs::RecordLaws::block_short, crate::specs::RecordLaws::block_odd, crate::specs::RecordLaws::block_cut, crate::specs::RecordLaws::block_goes))]
 fn block_at(body: &[u8], i: usize, columns: bool) -> usize
     requires { i < length body.now }
     ensures { result ≡ stride (drop i body.now) (plain_block columns (drop i body.now)) }
@@ -73,6 +69,7 @@ pub fn size_of(kind: u8) -> usize
     32
 }
 
+#[tactic(auto, using(crate::specs::RecordLaws::sum_short, crate::specs::RecordLaws::sum_odd, crate::specs::RecordLaws::sum_cut, crate::specs::RecordLaws::sum_kind, crate::specs::RecordLaws::sum_pad, crate::specs::RecordLaws::sum_goes))]
 fn checksum_at(body: &[u8], i: usize) -> usize
     requires { i < length body.now }
     ensures { result ≡ stride (drop i body.now) (plain_checksum (drop i body.now)) }
@@ -98,6 +95,7 @@ fn checksum_at(body: &[u8], i: usize) -> usize
     n + 8
 }
 
+#[tactic(auto, using(crate::specs::RecordLaws::inlinee_short, crate::specs::RecordLaws::inlinee_bare, crate::specs::RecordLaws::inlinee_low, crate::specs::RecordLaws::inlinee_cut, crate::specs::RecordLaws::inlinee_goes))]
 fn inlinee_at(body: &[u8], i: usize, extended: bool) -> usize
     requires { i < length body.now }
     ensures { result ≡ stride (drop i body.now) (inlinee_bite extended (drop i body.now)) }
@@ -119,6 +117,7 @@ fn inlinee_at(body: &[u8], i: usize, extended: bool) -> usize
     12
 }
 
+#[tactic(auto, using(crate::specs::RecordLaws::module_short, crate::specs::RecordLaws::module_cut, crate::specs::RecordLaws::module_goes))]
 fn module_at(body: &[u8], i: usize) -> usize
     requires { i < length body.now }
     ensures { result ≡ stride (drop i body.now) (module_bite (drop i body.now)) }
@@ -171,39 +170,40 @@ fn whole(body: &[u8], records: Records) -> bool
 }
 
 // The least local index that may follow the pairs.
-fn floor_of(body: &[u8]) -> Mark
+fn floor_of(body: &[u8]) -> Option<u64>
     ensures { told_mark result ≡ ascends_from 0 (pairs body.now) }
 {
     if body.len() % 8 != 0 {
-        return Mark::Bad;
+        return None;
     }
     let mut floor: u64 = 0;
     let mut i: usize = 0;
     while i < body.len() {
         let local = u32_at(body, i) as u64;
         if local < floor {
-            return Mark::Bad;
+            return None;
         }
         floor = local + 1;
         i += 8;
     }
-    Mark::Fine(floor)
+    Some(floor)
 }
 
-fn mark_if(fine: bool, mark: u64) -> Mark
+fn mark_if(fine: bool, mark: u64) -> Option<u64>
     ensures { told_mark result ≡ marked fine mark }
 {
     if fine {
-        return Mark::Fine(mark);
+        return Some(mark);
     }
-    Mark::Bad
+    None
 }
 
-fn lines_mark(body: &[u8]) -> Mark
+#[tactic(auto, using(crate::specs::PlainLaws::lines_short, crate::specs::PlainLaws::lines_long))]
+fn lines_mark(body: &[u8]) -> Option<u64>
     ensures { told_mark result ≡ lines_mark body.now }
 {
     if body.len() < LINE_HEAD {
-        return Mark::Bad;
+        return None;
     }
     let flag = u16_at(body, 6) % 2;
     mark_if(
@@ -212,15 +212,16 @@ fn lines_mark(body: &[u8]) -> Mark
     )
 }
 
-fn inlinees_mark(body: &[u8]) -> Mark
+#[tactic(auto, using(crate::specs::PlainLaws::inlinees_short, crate::specs::PlainLaws::inlinees_odd, crate::specs::PlainLaws::inlinees_long))]
+fn inlinees_mark(body: &[u8]) -> Option<u64>
     ensures { told_mark result ≡ inlinees_mark body.now }
 {
     if body.len() < 4 {
-        return Mark::Bad;
+        return None;
     }
     let signature = u32_at(body, 0);
     if 1 < signature {
-        return Mark::Bad;
+        return None;
     }
     mark_if(
         whole(&body[4..], Records::Inlinees(signature == 1)),
@@ -245,7 +246,8 @@ pub fn is_opaque(kind: u32) -> bool
     }
 }
 
-fn mark_of(kind: u32, body: &[u8]) -> Mark
+#[tactic(auto, using(crate::specs::PlainLaws::mark_lines, crate::specs::PlainLaws::mark_checksums, crate::specs::PlainLaws::mark_inlinees, crate::specs::PlainLaws::mark_modules, crate::specs::PlainLaws::mark_pairs, crate::specs::PlainLaws::mark_opaque, crate::specs::PlainLaws::mark_uneven))]
+fn mark_of(kind: u32, body: &[u8]) -> Option<u64>
     ensures { told_mark result ≡ mark_of kind body.now }
 {
     match kind {
@@ -258,41 +260,43 @@ fn mark_of(kind: u32, body: &[u8]) -> Mark
             if body.len() % 4 == 0 {
                 return mark_if(is_opaque(kind), 0);
             }
-            Mark::Bad
+            None
         }
     }
 }
 
 // Whether the area is plain, and what is last in it.
-pub fn is_plain(area: &[u8]) -> PlainAnswer
+pub fn is_plain(area: &[u8]) -> Option<Last>
     ensures { told_plain result ≡ plain_of area.now }
 {
     if LONGEST < area.len() {
-        return PlainAnswer::No;
+        return None;
     }
     let mut at: usize = 0;
-    let mut header: usize = 0;
-    let mut kind: u32 = 0;
-    let mut mark: u64 = 0;
+    let mut last = Last {
+        header: 0,
+        kind: 0,
+        mark: 0,
+    };
     while at < area.len() {
         let left = area.len() - at;
         if left < 8 {
-            return PlainAnswer::No;
+            return None;
         }
-        let k = u32_at(area, at);
+        let kind = u32_at(area, at);
         let n = u32_at(area, at + 4) as usize;
         if left - 8 < n {
-            return PlainAnswer::No;
+            return None;
         }
         let start = at + 8;
         let next = start + n;
-        let Mark::Fine(m) = mark_of(k, &area[start..next]) else {
-            return PlainAnswer::No;
+        let mark = mark_of(kind, &area[start..next])?;
+        last = Last {
+            header: at,
+            kind,
+            mark,
         };
-        header = at;
-        kind = k;
-        mark = m;
         at = next;
     }
-    PlainAnswer::Yes { header, kind, mark }
+    Some(last)
 }

@@ -1,39 +1,35 @@
 -- Laws of a record's line: it is not longer than `short_line`.
-use Rattle.std.specs.Prelude.{◌≤◌, ◌≡◌, refl, length}
+use Rattle.std.specs.Prelude.{◌≤◌, ◌≡◌, refl, length, ℕ, Option, None, Some}
 use Rattle.std.proofs.Common.{arith, length-append}
 use Rattle.text.specs.Text.{ascii, glyph, numeral_in, numeral, joined}
 use Rattle.line_record.specs.Told.{told_line_kind, told_length, told_column}
-use Rattle.line_record.specs.declared.Length.{Length}
-use Rattle.line_record.specs.declared.Length.TheVariants.{Unset, Is}
-use Rattle.line_record.specs.declared.Column.{Column}
-use Rattle.line_record.specs.declared.Column.TheVariants as column
 use Rattle.line_record.specs.declared.LineKind.{LineKind}
 use Rattle.line_record.specs.declared.LineKind.TheVariants.{Expression, Statement}
 use Rattle.line_record.specs.declared.LineRecord.{LineRecord}
 use Rattle.printed.specs.PrintedLaws.{Short, short_line, decimal_short, hex_short}
 use Rattle.printed.specs.LineText.{length_text, side_text, kind_text, record_line}
 
-abbrev pub ShortLength : Length → Type 0
-ShortLength Unset = Unit {0}
-ShortLength (Is n) = Short n
+abbrev pub ShortLength : Option ℕ → Type 0
+ShortLength None = Unit {0}
+ShortLength (Some n) = Short n
 
-abbrev pub ShortColumn : Column → Type 0
-ShortColumn column.None = Unit {0}
-ShortColumn (column.At n) = Short n
+abbrev pub ShortColumn : Option ℕ → Type 0
+ShortColumn None = Unit {0}
+ShortColumn (Some n) = Short n
 
 abbrev pub ShortRecord : LineRecord → Type 0
 ShortRecord r =
     Short r.section × Short r.offset × ShortLength r.length × Short r.file × Short r.start_line × Short r.end_line
     × ShortColumn r.column_start × ShortColumn r.column_end × Short r.body
 
-length_short : (l : Length) → ShortLength l → length (length_text (told_length l)) ≤ 20
+length_short : (l : Option ℕ) → ShortLength l → length (length_text (told_length l)) ≤ 20
 unfolding ascii
-length_short Unset h = omega arith
-length_short (Is n) h = decimal_short n h
+length_short None h = omega arith
+length_short (Some n) h = decimal_short n h
 
-side_short : (c : Column) → ShortColumn c → length (side_text (told_column c)) ≤ 20
-side_short column.None h = omega arith
-side_short (column.At n) h = decimal_short n h
+side_short : (c : Option ℕ) → ShortColumn c → length (side_text (told_column c)) ≤ 20
+side_short None h = omega arith
+side_short (Some n) h = decimal_short n h
 
 kind_short : (k : LineKind) → length (kind_text (told_line_kind k)) ≤ 3
 unfolding ascii
@@ -60,11 +56,11 @@ record_fits r h =
 
 -- ---- the lines of document 01's example
 
-abbrev line_of : Length → Column → Column → LineKind → LineRecord
+abbrev line_of : Option ℕ → Option ℕ → Option ℕ → LineKind → LineRecord
 line_of l a b k =
     record { section = 1; offset = 0x1000; length = l; file = 0; start_line = 10; end_line = 10; column_start = a; column_end = b; kind = k; body = 40 }
 
-pub example : (joined (record_line (line_of (Is 8) column.None column.None Statement)) ≡ ascii "line 1:1000 len 8 file 0 10-10 - st @40\n")
-    × (joined (record_line (line_of Unset (column.At 3) (column.At 7) Expression)) ≡ ascii "line 1:1000 len - file 0 10-10 3-7 ex @40\n")
+pub example : (joined (record_line (line_of (Some 8) None None Statement)) ≡ ascii "line 1:1000 len 8 file 0 10-10 - st @40\n")
+    × (joined (record_line (line_of None (Some 3) (Some 7) Expression)) ≡ ascii "line 1:1000 len - file 0 10-10 3-7 ex @40\n")
 unfolding ascii numeral numeral_in glyph
 example = (refl, refl)

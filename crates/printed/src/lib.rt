@@ -18,46 +18,59 @@ ghost use Rattle.printed.specs.LineText.{length_text, side_text, kind_text, addr
 ghost use Rattle.printed.specs.LineTextLaws.{ShortLength, ShortColumn};
 
 use checksums::ChecksumKind;
-use line_record::{Column, Length, LineKind, LineRecord};
+use line_record::{LineKind, LineRecord};
 use refusal::{Refusal, number};
-use text::{Place, put_bytes, put_decimal, put_hex, put_hex_bytes, room};
+use text::{put_bytes, put_decimal, put_hex, put_hex_bytes, room};
 
 // The line that was made at the start of `line`, put where it fits whole.
-fn put_line(buf: &mut [u8], place: Place, line: &[u8], made: Place) -> Place
+fn put_line(
+    buf: &mut [u8],
+    place: Result<usize, Refusal>,
+    line: &[u8],
+    made: Result<usize, Refusal>,
+) -> Result<usize, Refusal>
     requires { (n : ℕ) → told_place made ≡ place_at n → n ≤ length line.now }
     ensures { (n : ℕ) → told_place made ≡ place_at n
         → page buf.new (told_place result) ≡ piece_written (take n line.now) (page buf.old (told_place place)) }
 {
-    match made {
-        Place::At(n) => put_bytes(buf, place, &line[..n]),
-        Place::Refused(why) => Place::Refused(why),
-    }
+    let n = made?;
+    put_bytes(buf, place, &line[..n])
 }
 
 // A word and a number.
-fn put_count(buf: &mut [u8], place: Place, word: &[u8], n: u64) -> Place
+fn put_count(
+    buf: &mut [u8],
+    place: Result<usize, Refusal>,
+    word: &[u8],
+    n: u64,
+) -> Result<usize, Refusal>
     ensures { page buf.new (told_place result) ≡ written_all (word.now ∷ decimal n ∷ []) (page buf.old (told_place place)) }
 {
     let p = put_bytes(buf, place, word);
     put_decimal(buf, p, n)
 }
 
-fn head_pieces(line: &mut [u8], place: Place, len: usize) -> Place
+fn head_pieces(line: &mut [u8], place: Result<usize, Refusal>, len: usize) -> Result<usize, Refusal>
     ensures { page line.new (told_place result) ≡ written_all (head_line len) (page line.old (told_place place)) }
 {
     let p = put_count(line, place, b"c13 ", len as u64);
     put_bytes(line, p, b" bytes\n")
 }
 
-pub fn put_head(buf: &mut [u8], place: Place, len: usize) -> Place
+pub fn put_head(buf: &mut [u8], place: Result<usize, Refusal>, len: usize) -> Result<usize, Refusal>
     ensures { page buf.new (told_place result) ≡ piece_written (joined (head_line len)) (page buf.old (told_place place)) }
 {
     let mut line = [0u8; 256];
-    let made = head_pieces(&mut line, Place::At(0), len);
+    let made = head_pieces(&mut line, Ok(0), len);
     put_line(buf, place, &line, made)
 }
 
-fn sub_pieces(line: &mut [u8], place: Place, kind: u32, len: usize) -> Place
+fn sub_pieces(
+    line: &mut [u8],
+    place: Result<usize, Refusal>,
+    kind: u32,
+    len: usize,
+) -> Result<usize, Refusal>
     ensures { page line.new (told_place result) ≡ written_all (sub_line kind len) (page line.old (told_place place)) }
 {
     let a = put_bytes(line, place, b"sub ");
@@ -66,15 +79,24 @@ fn sub_pieces(line: &mut [u8], place: Place, kind: u32, len: usize) -> Place
     put_bytes(line, c, b"\n")
 }
 
-pub fn put_sub(buf: &mut [u8], place: Place, kind: u32, len: usize) -> Place
+pub fn put_sub(
+    buf: &mut [u8],
+    place: Result<usize, Refusal>,
+    kind: u32,
+    len: usize,
+) -> Result<usize, Refusal>
     ensures { page buf.new (told_place result) ≡ piece_written (joined (sub_line kind len)) (page buf.old (told_place place)) }
 {
     let mut line = [0u8; 256];
-    let made = sub_pieces(&mut line, Place::At(0), kind, len);
+    let made = sub_pieces(&mut line, Ok(0), kind, len);
     put_line(buf, place, &line, made)
 }
 
-fn put_word(buf: &mut [u8], place: Place, kind: ChecksumKind) -> Place
+fn put_word(
+    buf: &mut [u8],
+    place: Result<usize, Refusal>,
+    kind: ChecksumKind,
+) -> Result<usize, Refusal>
     ensures { page buf.new (told_place result) ≡ piece_written (checksum_word (told_kind kind)) (page buf.old (told_place place)) }
 {
     match kind {
@@ -85,7 +107,7 @@ fn put_word(buf: &mut [u8], place: Place, kind: ChecksumKind) -> Place
     }
 }
 
-fn put_sum(buf: &mut [u8], place: Place, bytes: &[u8]) -> Place
+fn put_sum(buf: &mut [u8], place: Result<usize, Refusal>, bytes: &[u8]) -> Result<usize, Refusal>
     ensures { page buf.new (told_place result) ≡ piece_written (bytes_text bytes.now) (page buf.old (told_place place)) }
 {
     if bytes.len() == 0 {
@@ -95,7 +117,13 @@ fn put_sum(buf: &mut [u8], place: Place, bytes: &[u8]) -> Place
 }
 
 // What stands in a file's line before its checksum.
-fn file_pieces(line: &mut [u8], place: Place, at: usize, name: u32, kind: ChecksumKind) -> Place
+fn file_pieces(
+    line: &mut [u8],
+    place: Result<usize, Refusal>,
+    at: usize,
+    name: u32,
+    kind: ChecksumKind,
+) -> Result<usize, Refusal>
     ensures { page line.new (told_place result) ≡ written_all (file_head at name (told_kind kind)) (page line.old (told_place place)) }
 {
     let a = put_count(line, place, b"file ", at as u64);
@@ -106,6 +134,7 @@ fn file_pieces(line: &mut [u8], place: Place, at: usize, name: u32, kind: Checks
 }
 
 // How long the text of a checksum of `size` bytes is.
+#[tactic(auto, using(crate::specs::PrintedLaws::size_none, crate::specs::PrintedLaws::size_some))]
 fn text_size(size: usize) -> usize
     requires { size < 9223372036854775808 }
     ensures { result ≡ text_size size }
@@ -117,7 +146,13 @@ fn text_size(size: usize) -> usize
 }
 
 // The place, if a head of that many bytes, a checksum of `size` bytes and a newline fit there. The first test keeps the sum small.
-fn file_room(len: usize, place: Place, head: usize, size: usize) -> Place
+#[tactic(auto, using(text::specs::PageLaws::room_less))]
+fn file_room(
+    len: usize,
+    place: Result<usize, Refusal>,
+    head: usize,
+    size: usize,
+) -> Result<usize, Refusal>
     requires { (len < 9223372036854775808) × (head ≤ short_line) × (size < 9223372036854775808) }
     ensures { told_place result ≡ room_at len (head + (text_size size + 1)) (told_place place) }
 {
@@ -128,84 +163,99 @@ fn file_room(len: usize, place: Place, head: usize, size: usize) -> Place
     room(len, place, head + (text + 1))
 }
 
-fn put_around(buf: &mut [u8], place: Place, head: &[u8], bytes: &[u8]) -> Place
+fn put_around(
+    buf: &mut [u8],
+    place: Result<usize, Refusal>,
+    head: &[u8],
+    bytes: &[u8],
+) -> Result<usize, Refusal>
     requires { length head.now ≤ short_line }
     ensures { page buf.new (told_place result)
         ≡ piece_written (joined (head.now ∷ bytes_text bytes.now ∷ ascii "\n" ∷ [])) (page buf.old (told_place place)) }
 {
-    match file_room(buf.len(), place, head.len(), bytes.len()) {
-        Place::At(at) => {
-            let a = put_bytes(buf, Place::At(at), head);
-            let b = put_sum(buf, a, bytes);
-            put_bytes(buf, b, b"\n")
-        }
-        Place::Refused(no_room) => Place::Refused(no_room),
-    }
+    let at = file_room(buf.len(), place, head.len(), bytes.len())?;
+    let a = put_bytes(buf, Ok(at), head);
+    let b = put_sum(buf, a, bytes);
+    put_bytes(buf, b, b"\n")
 }
 
 pub fn put_file(
     buf: &mut [u8],
-    place: Place,
+    place: Result<usize, Refusal>,
     at: usize,
     name: u32,
     kind: ChecksumKind,
     bytes: &[u8],
-) -> Place
+) -> Result<usize, Refusal>
     ensures { page buf.new (told_place result)
         ≡ piece_written (joined (file_line at name (told_kind kind) bytes.now)) (page buf.old (told_place place)) }
 {
     let mut line = [0u8; 256];
-    match file_pieces(&mut line, Place::At(0), at, name, kind) {
-        Place::At(n) => put_around(buf, place, &line[..n], bytes),
-        Place::Refused(why) => Place::Refused(why),
-    }
+    let n = file_pieces(&mut line, Ok(0), at, name, kind)?;
+    put_around(buf, place, &line[..n], bytes)
 }
 
-pub fn put_end(buf: &mut [u8], place: Place) -> Place
+pub fn put_end(buf: &mut [u8], place: Result<usize, Refusal>) -> Result<usize, Refusal>
     ensures { page buf.new (told_place result) ≡ piece_written (joined end_of_text) (page buf.old (told_place place)) }
 {
     put_bytes(buf, place, b"end\n")
 }
 
-fn refused_pieces(line: &mut [u8], place: Place, why: Refusal) -> Place
+fn refused_pieces(
+    line: &mut [u8],
+    place: Result<usize, Refusal>,
+    why: Refusal,
+) -> Result<usize, Refusal>
     ensures { page line.new (told_place result) ≡ written_all (refused_line (number_of (told why))) (page line.old (told_place place)) }
 {
     let p = put_count(line, place, b"refused ", number(why));
     put_bytes(line, p, b"\n")
 }
 
-pub fn put_refused(buf: &mut [u8], place: Place, why: Refusal) -> Place
+pub fn put_refused(
+    buf: &mut [u8],
+    place: Result<usize, Refusal>,
+    why: Refusal,
+) -> Result<usize, Refusal>
     ensures { page buf.new (told_place result)
         ≡ piece_written (joined (refused_line (number_of (told why)))) (page buf.old (told_place place)) }
 {
     let mut line = [0u8; 256];
-    let made = refused_pieces(&mut line, Place::At(0), why);
+    let made = refused_pieces(&mut line, Ok(0), why);
     put_line(buf, place, &line, made)
 }
 
 // ---- the line of a line record: address and length, file and lines, columns and kind, where the body stands
 
-fn put_length(buf: &mut [u8], place: Place, length: Length) -> Place
+fn put_length(
+    buf: &mut [u8],
+    place: Result<usize, Refusal>,
+    length: Option<u32>,
+) -> Result<usize, Refusal>
     ensures result_after { page buf.new (told_place result) ≡ piece_written (length_text (told_length length)) (page buf.old (told_place place)) }
     ensures short_length { ShortLength length }
 {
     match length {
-        Length::Unset => put_bytes(buf, place, b"-"),
-        Length::Is(n) => put_decimal(buf, place, n as u64),
+        None => put_bytes(buf, place, b"-"),
+        Some(n) => put_decimal(buf, place, n as u64),
     }
 }
 
-fn put_side(buf: &mut [u8], place: Place, column: Column) -> Place
+fn put_side(
+    buf: &mut [u8],
+    place: Result<usize, Refusal>,
+    column: Option<u32>,
+) -> Result<usize, Refusal>
     ensures result_after { page buf.new (told_place result) ≡ piece_written (side_text (told_column column)) (page buf.old (told_place place)) }
     ensures short_column { ShortColumn column }
 {
     match column {
-        Column::None => put_bytes(buf, place, b""),
-        Column::At(n) => put_decimal(buf, place, n as u64),
+        None => put_bytes(buf, place, b""),
+        Some(n) => put_decimal(buf, place, n as u64),
     }
 }
 
-fn put_kind(buf: &mut [u8], place: Place, kind: LineKind) -> Place
+fn put_kind(buf: &mut [u8], place: Result<usize, Refusal>, kind: LineKind) -> Result<usize, Refusal>
     ensures { page buf.new (told_place result) ≡ piece_written (kind_text (told_line_kind kind)) (page buf.old (told_place place)) }
 {
     match kind {
@@ -215,7 +265,11 @@ fn put_kind(buf: &mut [u8], place: Place, kind: LineKind) -> Place
 }
 
 // Section, offset and length.
-fn put_address(buf: &mut [u8], place: Place, r: LineRecord) -> Place
+fn put_address(
+    buf: &mut [u8],
+    place: Result<usize, Refusal>,
+    r: LineRecord,
+) -> Result<usize, Refusal>
     ensures result_after { page buf.new (told_place result) ≡ written_all (address_pieces r) (page buf.old (told_place place)) }
     ensures short { Short r.section × Short r.offset × ShortLength r.length }
 {
@@ -228,7 +282,11 @@ fn put_address(buf: &mut [u8], place: Place, r: LineRecord) -> Place
 }
 
 // File and lines.
-fn put_source(buf: &mut [u8], place: Place, r: LineRecord) -> Place
+fn put_source(
+    buf: &mut [u8],
+    place: Result<usize, Refusal>,
+    r: LineRecord,
+) -> Result<usize, Refusal>
     ensures result_after { page buf.new (told_place result) ≡ written_all (source_pieces r) (page buf.old (told_place place)) }
     ensures short { Short r.file × Short r.start_line × Short r.end_line }
 {
@@ -238,7 +296,11 @@ fn put_source(buf: &mut [u8], place: Place, r: LineRecord) -> Place
 }
 
 // Kind, and where the body stands.
-fn put_origin(buf: &mut [u8], place: Place, r: LineRecord) -> Place
+fn put_origin(
+    buf: &mut [u8],
+    place: Result<usize, Refusal>,
+    r: LineRecord,
+) -> Result<usize, Refusal>
     ensures result_after { page buf.new (told_place result) ≡ written_all (origin_pieces r) (page buf.old (told_place place)) }
     ensures short { Short r.body }
 {
@@ -249,7 +311,11 @@ fn put_origin(buf: &mut [u8], place: Place, r: LineRecord) -> Place
 }
 
 // The second promise is what every record's type keeps.
-fn record_pieces(line: &mut [u8], place: Place, r: LineRecord) -> Place
+fn record_pieces(
+    line: &mut [u8],
+    place: Result<usize, Refusal>,
+    r: LineRecord,
+) -> Result<usize, Refusal>
     ensures result_after { page line.new (told_place result) ≡ written_all (record_line r) (page line.old (told_place place)) }
     ensures r_len_bound { length (joined (record_line r)) ≤ short_line }
 {
@@ -265,11 +331,15 @@ fn record_pieces(line: &mut [u8], place: Place, r: LineRecord) -> Place
 }
 
 // The second promise is what every record's type keeps: its line fits the room that a line has.
-pub fn put_record(buf: &mut [u8], place: Place, r: LineRecord) -> Place
+pub fn put_record(
+    buf: &mut [u8],
+    place: Result<usize, Refusal>,
+    r: LineRecord,
+) -> Result<usize, Refusal>
     ensures result_after { page buf.new (told_place result) ≡ piece_written (joined (record_line r)) (page buf.old (told_place place)) }
     ensures r_len_bound { length (joined (record_line r)) ≤ longest_line }
 {
     let mut line = [0u8; 256];
-    let made = record_pieces(&mut line, Place::At(0), r);
+    let made = record_pieces(&mut line, Ok(0), r);
     put_line(buf, place, &line, made)
 }

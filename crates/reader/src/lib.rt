@@ -1,7 +1,6 @@
 // A walker that holds the area and its place, and answers one subsection at a time (crate: `DebugSubsectionIterator`).
 //
-// Each function takes the struct apart and leaves the work to a function on the walk and the slice. `second_sub` stands above them with plain
-// parameters.
+// Each function takes the struct apart; the work is that of the walk on the slice. `second_sub` stands above them with plain parameters.
 #![tactic(auto)]
 
 ghost use Rattle.std.specs.Prelude.{◌≡◌, ◌-◌, length};
@@ -9,7 +8,8 @@ ghost use Rattle.area.specs.Told.{told_step, told_stepped};
 ghost use Rattle.area.specs.Subs.{crate_step};
 ghost use Rattle.reader.specs.Second.{second};
 
-use area::{SubStep, SubWalk};
+use area::{Sub, SubWalk};
+use refusal::Refusal;
 
 // The walk over the subsections, and the area that it goes over.
 #[derive(Clone, Copy)]
@@ -25,14 +25,6 @@ pub struct Stepped<'a> {
     pub area: &'a [u8],
 }
 
-// The work: how many bytes are left.
-fn left_at(walk: SubWalk, area: &[u8]) -> usize
-    ensures { result ≡ length area.now - walk.at }
-{
-    let at = walk.at;
-    if at < area.len() { area.len() - at } else { 0 }
-}
-
 pub fn new<'a>(area: &'a [u8]) -> Reader<'a>
     ensures { (result.area ≡ area.entry) × (result.walk.at ≡ 0) }
 {
@@ -46,7 +38,7 @@ pub fn new<'a>(area: &'a [u8]) -> Reader<'a>
 pub fn left<'a>(r: Reader<'a>) -> usize
     ensures { result ≡ length r.entry.area.now - r.entry.walk.at }
 {
-    left_at(r.walk, r.area)
+    r.area.len().saturating_sub(r.walk.at)
 }
 
 // The step: what stands here, and the reader moved on.
@@ -70,14 +62,14 @@ pub fn rest<'a>(q: Stepped<'a>) -> Reader<'a>
 }
 
 // The answer of a step.
-pub fn answer<'a>(q: Stepped<'a>) -> SubStep
+pub fn answer<'a>(q: Stepped<'a>) -> Result<Option<(Sub, usize)>, Refusal>
     ensures { result ≡ q.entry.taken.step }
 {
     q.taken.step
 }
 
 // From a slice to a reader and back.
-pub fn second_sub(area: &[u8]) -> SubStep
+pub fn second_sub(area: &[u8]) -> Result<Option<(Sub, usize)>, Refusal>
     ensures { told_step result ≡ second area.now }
 {
     answer(step(rest(step(new(area)))))

@@ -1,31 +1,32 @@
 -- What the answers of this crate tell. Source: document 01, "Refusal numbers", and the values that it names for each.
 -- Definitions only; a reader must believe them.
-use Rattle.walk.specs.Listing.{gives, none, refuses}
-use Rattle.refusal.specs.Told.{told}
+use Rattle.std.specs.Prelude.{ℕ, Option, None, Some, Result}
+use Rattle.refusal.specs.Answers.{told_answer}
+use Rattle.refusal.specs.declared.Refusal.{Refusal}
 use Rattle.lines.specs.Told.{told_header}
-use Rattle.reading_record.specs.Item.{ToldColumns, columns_at, no_columns}
+use Rattle.reading_record.specs.Item.{ToldColumns, columns_at, no_columns, ToldItem}
 use Rattle.reading_record.specs.Item as item
 use Rattle.reading_record.specs.Record.{ItemAnswer}
-use Rattle.reading_record.specs.declared.Columns.{Columns}
-use Rattle.reading_record.specs.declared.Columns.TheVariants as columns
-use Rattle.reading_record.specs.declared.ItemStep.{ItemStep}
-use Rattle.reading_record.specs.declared.ItemStep.TheVariants as step
+use Rattle.reading_record.specs.declared.Item.{Item}
+use Rattle.reading_record.specs.declared.Item.TheVariants as code
+use Rattle.reading_record.specs.declared.ItemWalk.{ItemWalk}
 
-abbrev pub told_columns : Columns → ToldColumns
-told_columns (columns.At p) = columns_at p
-told_columns columns.None = no_columns
+abbrev pub told_columns : Option ℕ → ToldColumns
+told_columns (Some p) = columns_at p
+told_columns None = no_columns
 
-abbrev pub told_item : ItemStep → ItemAnswer
-told_item (step.OpenLines h x) = gives (item.open_lines (told_header h)) x
-told_item (step.Block f n l c x) = gives (item.block f n l (told_columns c)) x
-told_item (step.OpenChecksums x) = gives item.open_checksums x
-told_item (step.Checksum n k a len x) = gives (item.checksum n k a len) x
-told_item (step.OpenInlinees g x) = gives (item.open_inlinees g) x
-told_item (step.Inlinee i f l a n x) = gives (item.inlinee i f l a n) x
-told_item (step.OpenImports x) = gives item.open_imports x
-told_item (step.Module m a n x) = gives (item.imports m a n) x
-told_item (step.OpenExports x) = gives item.open_exports x
-told_item (step.Pair l g x) = gives (item.exports (record { local = l; global = g })) x
-told_item (step.Opaque k a len x) = gives (item.opaque k a len) x
-told_item step.None = none
-told_item (step.Refused r) = refuses (told r)
+abbrev pub told_one_item : Item → ToldItem
+told_one_item (code.OpenLines h) = item.open_lines (told_header h)
+told_one_item (code.Block f n l c) = item.block f n l (told_columns c)
+told_one_item code.OpenChecksums = item.open_checksums
+told_one_item (code.Checksum n k a len) = item.checksum n k a len
+told_one_item (code.OpenInlinees g) = item.open_inlinees g
+told_one_item (code.Inlinee i f l a n) = item.inlinee i f l a n
+told_one_item code.OpenImports = item.open_imports
+told_one_item (code.Module m a n) = item.imports m a n
+told_one_item code.OpenExports = item.open_exports
+told_one_item (code.Pair l g) = item.exports (record { local = l; global = g })
+told_one_item (code.Opaque k a len) = item.opaque k a len
+
+abbrev pub told_item : Result (Option (Item × ItemWalk)) Refusal → ItemAnswer
+told_item = told_answer told_one_item

@@ -6,20 +6,20 @@
 
 ghost use Rattle.std.specs.Prelude.{◌≡◌, ◌+◌, ◌≤◌, length};
 ghost use Rattle.refusal.specs.Told.{longest};
+ghost use Rattle.refusal.specs.Answers.{told_answer};
 ghost use Rattle.table.specs.Table.{spot_in};
-ghost use Rattle.reading_record.specs.Record.{columns_from, record_in_body};
-ghost use Rattle.reading_record.specs.RecordLaws.{record_of};
-ghost use Rattle.reading_record.specs.Told.{told_columns, told_item};
+ghost use Rattle.reading_record.specs.Record.{columns_from, record_at, record_in_body};
+ghost use Rattle.reading_record.specs.Told.{told_columns, told_one_item, told_item};
 ghost use Rattle.reading_record.specs.declared.ItemWalk.TheVariants as walk;
 ghost use Rattle.reading_record.specs.declared.TypedBody.TheVariants as typed;
 
-use checksums::{EntryStep, entry_at, number};
-use exports::{PairStep, pair_at};
-use imports::{ModuleStep, module_at};
-use inlinees::{SourceLineStep, source_line_at};
-use lines::{BlockStep, LineHeader, block_at, has_columns};
+use checksums::{entry_at, number};
+use exports::pair_at;
+use imports::module_at;
+use inlinees::source_line_at;
+use lines::{LineHeader, block_at, has_columns};
 use refusal::Refusal;
-use table::{Spot, spot_in};
+use table::spot_in;
 use word::{u8_at, u16_at};
 
 // A body that has records.
@@ -54,40 +54,27 @@ impl ItemWalk {
     }
 }
 
-// Where the column words of a block start, if it has any.
+// An item of the full reading. The column words of a block start at `columns`, if it has any.
 #[derive(Clone, Copy)]
-pub enum Columns {
-    At(usize),
-    None,
-}
-
-// The item that comes next, and the walk behind it. At `None` and at `Refused` the walk stays as it is, so that it answers the same again.
-#[derive(Clone, Copy)]
-pub enum ItemStep {
+pub enum Item {
     OpenLines {
         header: LineHeader,
-        next: ItemWalk,
     },
     Block {
         file: u32,
         count: usize,
         lines: usize,
-        columns: Columns,
-        next: ItemWalk,
+        columns: Option<usize>,
     },
-    OpenChecksums {
-        next: ItemWalk,
-    },
+    OpenChecksums,
     Checksum {
         name: u32,
         kind: u8,
         start: usize,
         len: usize,
-        next: ItemWalk,
     },
     OpenInlinees {
         signature: u32,
-        next: ItemWalk,
     },
     Inlinee {
         inlinee: u32,
@@ -95,186 +82,123 @@ pub enum ItemStep {
         line: u32,
         extra: usize,
         count: usize,
-        next: ItemWalk,
     },
-    OpenImports {
-        next: ItemWalk,
-    },
+    OpenImports,
     Module {
         name: u32,
         words: usize,
         count: usize,
-        next: ItemWalk,
     },
-    OpenExports {
-        next: ItemWalk,
-    },
+    OpenExports,
     Pair {
         local: u32,
         global: u32,
-        next: ItemWalk,
     },
     Opaque {
         kind: u32,
         start: usize,
         len: usize,
-        next: ItemWalk,
     },
-    None,
-    Refused(Refusal),
 }
 
 // Where the columns of a block stand, behind its lines.
-fn columns_at(columns: bool, at: usize) -> Columns
+fn columns_at(columns: bool, at: usize) -> Option<usize>
     ensures { told_columns result ≡ columns_from columns at }
 {
-    if columns {
-        Columns::At(at)
-    } else {
-        Columns::None
-    }
+    columns.then_some(at)
 }
 
-// The record at a place of a body that starts at a place of an area; behind the last one `None`.
-fn block_in(body: &[u8], start: usize, at: usize) -> ItemStep
+// The record at a place of a body that starts at a place of an area, and the place behind it; behind the last one `None`.
+#[tactic(auto, using(lines::specs::BlocksLaws::block_in))]
+fn block_in(body: &[u8], start: usize, at: usize) -> Result<Option<(Item, usize)>, Refusal>
     requires { start + length body.now ≤ longest }
-    ensures { told_item result ≡ record_of typed.Lines body.now start at }
+    ensures { told_answer told_one_item result ≡ record_at typed.Lines body.now start at }
 {
     let columns = has_columns(u16_at(body, 6));
-    match block_at(body, at, columns) {
-        BlockStep::Block {
-            file,
-            count,
-            start: lines,
-            next,
-        } => ItemStep::Block {
-            file,
-            count,
-            lines: start + lines,
-            columns: columns_at(columns, start + lines + 8 * count),
-            next: ItemWalk::In {
-                body: TypedBody::Lines,
-                start,
-                len: body.len(),
-                at: next,
-            },
-        },
-        BlockStep::None => ItemStep::None,
-        BlockStep::Refused(why) => ItemStep::Refused(why),
-    }
+    let Some((b, next)) = block_at(body, at, columns)? else {
+        return Ok(None);
+    };
+    let item = Item::Block {
+        file: b.file,
+        count: b.count,
+        lines: start + b.start,
+        columns: columns_at(columns, start + b.start + 8 * b.count),
+    };
+    Ok(Some((item, next)))
 }
 
-fn checksum_in(body: &[u8], start: usize, at: usize) -> ItemStep
+#[tactic(auto, using(checksums::specs::EntryLaws::entry_lies))]
+fn checksum_in(body: &[u8], start: usize, at: usize) -> Result<Option<(Item, usize)>, Refusal>
     requires { start + length body.now ≤ longest }
-    ensures { told_item result ≡ record_of typed.Checksums body.now start at }
+    ensures { told_answer told_one_item result ≡ record_at typed.Checksums body.now start at }
 {
-    match entry_at(body, at) {
-        EntryStep::Entry {
-            name,
-            kind,
-            start: bytes,
-            len: _,
-            next,
-        } => ItemStep::Checksum {
-            name,
-            kind: number(kind),
-            start: start + bytes,
-            len: u8_at(body, bytes - 2) as usize,
-            next: ItemWalk::In {
-                body: TypedBody::Checksums,
-                start,
-                len: body.len(),
-                at: next,
-            },
-        },
-        EntryStep::None => ItemStep::None,
-        EntryStep::Refused(why) => ItemStep::Refused(why),
-    }
+    let Some((e, next)) = entry_at(body, at)? else {
+        return Ok(None);
+    };
+    let item = Item::Checksum {
+        name: e.name,
+        kind: number(e.kind),
+        start: start + e.start,
+        len: u8_at(body, e.start - 2) as usize,
+    };
+    Ok(Some((item, next)))
 }
 
-fn inlinee_in(body: &[u8], start: usize, at: usize) -> ItemStep
+#[tactic(auto, using(inlinees::specs::SourceLineLaws::line_lies))]
+fn inlinee_in(body: &[u8], start: usize, at: usize) -> Result<Option<(Item, usize)>, Refusal>
     requires { start + length body.now ≤ longest }
-    ensures { told_item result ≡ record_of typed.Inlinees body.now start at }
+    ensures { told_answer told_one_item result ≡ record_at typed.Inlinees body.now start at }
 {
-    match source_line_at(body, at) {
-        SourceLineStep::SourceLine {
-            inlinee,
-            file,
-            line,
-            extra,
-            count,
-            next,
-        } => ItemStep::Inlinee {
-            inlinee,
-            file,
-            line,
-            extra: start + extra,
-            count,
-            next: ItemWalk::In {
-                body: TypedBody::Inlinees,
-                start,
-                len: body.len(),
-                at: next,
-            },
-        },
-        SourceLineStep::None => ItemStep::None,
-        SourceLineStep::Refused(why) => ItemStep::Refused(why),
-    }
+    let Some((e, next)) = source_line_at(body, at)? else {
+        return Ok(None);
+    };
+    let item = Item::Inlinee {
+        inlinee: e.inlinee,
+        file: e.file,
+        line: e.line,
+        extra: start + e.extra,
+        count: e.count,
+    };
+    Ok(Some((item, next)))
 }
 
-fn module_in(body: &[u8], start: usize, at: usize) -> ItemStep
+fn module_in(body: &[u8], start: usize, at: usize) -> Result<Option<(Item, usize)>, Refusal>
     requires { start + length body.now ≤ longest }
-    ensures { told_item result ≡ record_of typed.Imports body.now start at }
+    ensures { told_answer told_one_item result ≡ record_at typed.Imports body.now start at }
 {
-    match module_at(body, at) {
-        ModuleStep::Module {
-            name,
-            words,
-            count,
-            next,
-        } => ItemStep::Module {
-            name,
-            words: start + words,
-            count,
-            next: ItemWalk::In {
-                body: TypedBody::Imports,
-                start,
-                len: body.len(),
-                at: next,
-            },
-        },
-        ModuleStep::None => ItemStep::None,
-        ModuleStep::Refused(why) => ItemStep::Refused(why),
-    }
+    let Some((m, next)) = module_at(body, at)? else {
+        return Ok(None);
+    };
+    let item = Item::Module {
+        name: m.name,
+        words: start + m.words,
+        count: m.count,
+    };
+    Ok(Some((item, next)))
 }
 
-fn pair_in(body: &[u8], start: usize, at: usize) -> ItemStep
-    ensures { told_item result ≡ record_of typed.Exports body.now start at }
+fn pair_in(body: &[u8], start: usize, at: usize) -> Result<Option<(Item, usize)>, Refusal>
+    ensures { told_answer told_one_item result ≡ record_at typed.Exports body.now start at }
 {
-    match pair_at(body, at) {
-        PairStep::Pair {
-            local,
-            global,
-            next,
-        } => ItemStep::Pair {
-            local,
-            global,
-            next: ItemWalk::In {
-                body: TypedBody::Exports,
-                start,
-                len: body.len(),
-                at: next,
-            },
-        },
-        PairStep::None => ItemStep::None,
-        PairStep::Refused(why) => ItemStep::Refused(why),
-    }
+    let Some((p, next)) = pair_at(body, at)? else {
+        return Ok(None);
+    };
+    let item = Item::Pair {
+        local: p.local,
+        global: p.global,
+    };
+    Ok(Some((item, next)))
 }
 
 // The record of a body of this kind.
-fn record_of(body: &[u8], kind: TypedBody, start: usize, at: usize) -> ItemStep
+fn record_of(
+    body: &[u8],
+    kind: TypedBody,
+    start: usize,
+    at: usize,
+) -> Result<Option<(Item, usize)>, Refusal>
     requires { start + length body.now ≤ longest }
-    ensures { told_item result ≡ record_of kind body.now start at }
+    ensures { told_answer told_one_item result ≡ record_at kind body.now start at }
 {
     match kind {
         TypedBody::Lines => block_in(body, start, at),
@@ -285,14 +209,29 @@ fn record_of(body: &[u8], kind: TypedBody, start: usize, at: usize) -> ItemStep
     }
 }
 
-// The record at a place of the body of `len` bytes that starts at `start`; behind the last one `None`. Refused are 11, 1 for a body that does not
-// lie in the area, and what the body's records are refused for: 1, 3, 4 and 7.
-pub fn record_at(area: &[u8], kind: TypedBody, start: usize, len: usize, at: usize) -> ItemStep
+// The record at a place of the body of `len` bytes that starts at `start`, and the walk behind it; behind the last one `None`. Refused are 11, 1 for
+// a body that does not lie in the area, and what the body's records are refused for: 1, 3, 4 and 7.
+#[tactic(auto, using(crate::specs::RecordLaws::spot_lies))]
+pub fn record_at(
+    area: &[u8],
+    kind: TypedBody,
+    start: usize,
+    len: usize,
+    at: usize,
+) -> Result<Option<(Item, ItemWalk)>, Refusal>
     ensures { told_item result ≡ record_in_body area.now kind (spot_in area.now start len at) }
 {
-    match spot_in(area, start, len, at) {
-        Spot::At { start, len, at } => record_of(&area[start..start + len], kind, start, at),
-        Spot::None => ItemStep::None,
-        Spot::Refused(why) => ItemStep::Refused(why),
-    }
+    let Some(q) = spot_in(area, start, len, at)? else {
+        return Ok(None);
+    };
+    let Some((item, next)) = record_of(&area[q.start..q.start + q.len], kind, q.start, q.at)? else {
+        return Ok(None);
+    };
+    let walk = ItemWalk::In {
+        body: kind,
+        start: q.start,
+        len: q.len,
+        at: next,
+    };
+    Ok(Some((item, walk)))
 }

@@ -4,121 +4,114 @@
 #![tactic(auto)]
 
 ghost use Rattle.std.specs.Prelude.{◌≡◌};
+ghost use Rattle.walk.specs.Listing.{gives};
 ghost use Rattle.kinds.specs.Kind.{crate_rule};
-ghost use Rattle.reading_record.specs.Told.{told_item};
+ghost use Rattle.reading_record.specs.Told.{told_one_item, told_item};
+ghost use Rattle.reading_record.specs.declared.ItemWalk.TheVariants as walk;
 ghost use Rattle.reading_walk.specs.Step.{lines_opened, inlinees_opened, exports_opened, opened, open_step, item_step};
 
-use area::{SubStep, sub_at};
+use area::sub_at;
 use kinds::{CROSS_SCOPE_EXPORTS, CROSS_SCOPE_IMPORTS, FILE_CHECKSUMS, INLINEE_LINES, LINES};
 use lines::{LINE_HEAD, header_of};
-use reading_record::{ItemStep, ItemWalk, TypedBody, record_at};
+use reading_record::{Item, ItemWalk, TypedBody, record_at};
 use refusal::Refusal;
 use word::u32_at;
 
-fn open_lines(body: &[u8], start: usize) -> ItemStep
+// An item, and the walk at a place of the body of `len` bytes that starts at `start`.
+fn enter(
+    item: Item,
+    body: TypedBody,
+    start: usize,
+    len: usize,
+    at: usize,
+) -> Result<Option<(Item, ItemWalk)>, Refusal>
+    ensures { told_item result ≡ gives (told_one_item item) (walk.In body start len at) }
+{
+    let next = ItemWalk::In {
+        body,
+        start,
+        len,
+        at,
+    };
+    Ok(Some((item, next)))
+}
+
+#[tactic(auto, using(crate::proofs::StepLaws::lines_short, crate::proofs::StepLaws::lines_open))]
+fn open_lines(body: &[u8], start: usize) -> Result<Option<(Item, ItemWalk)>, Refusal>
     ensures { told_item result ≡ lines_opened body.now start }
 {
     if body.len() < LINE_HEAD {
-        return ItemStep::Refused(Refusal::Cut);
+        return Err(Refusal::Cut);
     }
-    ItemStep::OpenLines {
+    let item = Item::OpenLines {
         header: header_of(body),
-        next: ItemWalk::In {
-            body: TypedBody::Lines,
-            start,
-            len: body.len(),
-            at: LINE_HEAD,
-        },
-    }
+    };
+    enter(item, TypedBody::Lines, start, body.len(), LINE_HEAD)
 }
 
-fn open_inlinees(body: &[u8], start: usize) -> ItemStep
+#[tactic(auto, using(crate::proofs::StepLaws::inlinees_short, crate::proofs::StepLaws::inlinees_open))]
+fn open_inlinees(body: &[u8], start: usize) -> Result<Option<(Item, ItemWalk)>, Refusal>
     ensures { told_item result ≡ inlinees_opened body.now start }
 {
     if body.len() < 4 {
-        return ItemStep::Refused(Refusal::Cut);
+        return Err(Refusal::Cut);
     }
-    ItemStep::OpenInlinees {
+    let item = Item::OpenInlinees {
         signature: u32_at(body, 0),
-        next: ItemWalk::In {
-            body: TypedBody::Inlinees,
-            start,
-            len: body.len(),
-            at: 4,
-        },
-    }
+    };
+    enter(item, TypedBody::Inlinees, start, body.len(), 4)
 }
 
-fn open_exports(body: &[u8], start: usize) -> ItemStep
+#[tactic(auto, using(crate::proofs::StepLaws::exports_open, crate::proofs::StepLaws::exports_odd))]
+fn open_exports(body: &[u8], start: usize) -> Result<Option<(Item, ItemWalk)>, Refusal>
     ensures { told_item result ≡ exports_opened body.now start }
 {
     if body.len() % 8 == 0 {
-        ItemStep::OpenExports {
-            next: ItemWalk::In {
-                body: TypedBody::Exports,
-                start,
-                len: body.len(),
-                at: 0,
-            },
-        }
+        enter(Item::OpenExports, TypedBody::Exports, start, body.len(), 0)
     } else {
-        ItemStep::Refused(Refusal::ExportLength)
+        Err(Refusal::ExportLength)
     }
 }
 
 // The item that opens the subsection of this kind whose body is lent, and starts at a place of the area; behind it is `end`.
-fn open_body(body: &[u8], kind: u32, start: usize, end: usize) -> ItemStep
+#[tactic(auto, using(crate::proofs::StepLaws::opened_lines, crate::proofs::StepLaws::opened_checksums, crate::proofs::StepLaws::opened_inlinees, crate::proofs::StepLaws::opened_imports, crate::proofs::StepLaws::opened_exports, crate::proofs::StepLaws::opened_opaque))]
+fn open_body(
+    body: &[u8],
+    kind: u32,
+    start: usize,
+    end: usize,
+) -> Result<Option<(Item, ItemWalk)>, Refusal>
     ensures { told_item result ≡ opened body.now kind start end }
 {
     let len = body.len();
     match kind {
         LINES => open_lines(body, start),
-        FILE_CHECKSUMS => ItemStep::OpenChecksums {
-            next: ItemWalk::In {
-                body: TypedBody::Checksums,
-                start,
-                len,
-                at: 0,
-            },
-        },
+        FILE_CHECKSUMS => enter(Item::OpenChecksums, TypedBody::Checksums, start, len, 0),
         INLINEE_LINES => open_inlinees(body, start),
-        CROSS_SCOPE_IMPORTS => ItemStep::OpenImports {
-            next: ItemWalk::In {
-                body: TypedBody::Imports,
-                start,
-                len,
-                at: 0,
-            },
-        },
+        CROSS_SCOPE_IMPORTS => enter(Item::OpenImports, TypedBody::Imports, start, len, 0),
         CROSS_SCOPE_EXPORTS => open_exports(body, start),
-        _ => ItemStep::Opaque {
-            kind,
-            start,
-            len,
-            next: ItemWalk::Between { at: end },
-        },
+        _ => Ok(Some((
+            Item::Opaque { kind, start, len },
+            ItemWalk::Between { at: end },
+        ))),
     }
 }
 
 // What opens the next subsection from a place on.
-fn open_at(area: &[u8], at: usize) -> ItemStep
+#[tactic(auto, using(area::specs::SubsLaws::sub_next, crate::proofs::StepLaws::open_sub_lem))]
+fn open_at(area: &[u8], at: usize) -> Result<Option<(Item, ItemWalk)>, Refusal>
     ensures { told_item result ≡ open_step crate_rule area.now at }
 {
-    match sub_at(area, at) {
-        SubStep::Sub {
-            kind,
-            start,
-            len: _,
-            next,
-        } => open_body(&area[start..next], kind, start, next),
-        SubStep::None => ItemStep::None,
-        SubStep::Refused(why) => ItemStep::Refused(why),
-    }
+    let Some((sub, next)) = sub_at(area, at)? else {
+        return Ok(None);
+    };
+    open_body(&area[sub.start..next], sub.kind, sub.start, next)
 }
 
-// The item that comes next. Refused are, in the order of the bytes, 11, 1, 2 and what a body's records are refused for: 1, 3, 4 and 7. No state
-// is trusted: its place is held against the area.
-pub fn next_item(area: &[u8], walk: ItemWalk) -> ItemStep
+// The item that comes next, and the walk behind it. Refused are, in the order of the bytes, 11, 1, 2 and what a body's records are refused for: 1, 3,
+// 4 and 7. No state is trusted: its place is held against the area. At the end and where it is refused a walk stays, so that it answers the same again.
+#[tactic(auto, using(crate::proofs::StepLaws::record_passes, crate::proofs::StepLaws::record_ends, crate::proofs::StepLaws::end_lies))]
+pub fn next_item(area: &[u8], walk: ItemWalk) -> Result<Option<(Item, ItemWalk)>, Refusal>
     ensures { told_item result ≡ item_step crate_rule area.now walk }
 {
     match walk {
@@ -128,12 +121,9 @@ pub fn next_item(area: &[u8], walk: ItemWalk) -> ItemStep
             start,
             len,
             at,
-        } => {
-            let step = record_at(area, body, start, len, at);
-            if let ItemStep::None = step {
-                return open_at(area, start + len);
-            }
-            step
-        }
+        } => match record_at(area, body, start, len, at)? {
+            Some(found) => Ok(Some(found)),
+            None => open_at(area, start + len),
+        },
     }
 }

@@ -1,7 +1,10 @@
 -- Back from the document's numbers to the cases of the code: what is told determines the refusal, so that no second one tells the same.
 use Rattle.std.specs.Prelude.{ℕ, ◌≡◌, refl, List, [], ◌∷◌, get_or}
 use Rattle.std.proofs.Common.{sym, ap, ◌∙◌}
+use Rattle.std.specs.Prelude.{Option, None, Some, Result, Ok, Err}
+use Rattle.walk.specs.Listing.{Answer, gives, none, refuses, Reply, gave, nothing, refused}
 use Rattle.refusal.specs.Told.{Told, told, number_of, carried_of}
+use Rattle.refusal.specs.Answers.{told_result, told_reply, told_answer}
 use Rattle.refusal.specs.declared.Refusal.{Refusal}
 use Rattle.refusal.specs.declared.Refusal.TheVariants as why
 
@@ -58,6 +61,38 @@ untold_told why.WrongPlace = refl
 untold_told why.NotPlain = refl
 untold_told (why.NoFile index) = refl
 untold_told why.WrongSlot = refl
+
+-- Nothing is lost in what an answer tells, where nothing is lost of its record: g is the way back from what f tells of one.
+module _ {A B : Type 0} (f : A → B) (g : B → A) (undo : (a : A) → g (f a) ≡ a) where
+  -- a reply that is nothing tells no such answer, so that its way back may be any
+  abbrev pub untold_result : Reply B Told → Result A Refusal
+  untold_result (gave b) = Ok (g b)
+  untold_result nothing = Err why.Cut
+  untold_result (refused t) = Err (untold t)
+
+  pub untold_result_lem : (a : Result A Refusal) → untold_result (told_result f a) ≡ a
+  untold_result_lem (Ok a) = ap Ok (undo a)
+  untold_result_lem (Err r) = ap Err (untold_told r)
+
+  abbrev pub untold_reply : Reply B Told → Result (Option A) Refusal
+  untold_reply (gave b) = Ok (Some (g b))
+  untold_reply nothing = Ok None
+  untold_reply (refused t) = Err (untold t)
+
+  pub untold_reply_lem : (a : Result (Option A) Refusal) → untold_reply (told_reply f a) ≡ a
+  untold_reply_lem (Ok (Some a)) = ap (λ x. Ok (Some x)) (undo a)
+  untold_reply_lem (Ok None) = refl
+  untold_reply_lem (Err r) = ap Err (untold_told r)
+
+  abbrev pub untold_answer : {S : Type 0} → Answer S B Told → Result (Option (A × S)) Refusal
+  untold_answer (gives b s) = Ok (Some (g b, s))
+  untold_answer none = Ok None
+  untold_answer (refuses t) = Err (untold t)
+
+  pub untold_answer_lem : {S : Type 0} (a : Result (Option (A × S)) Refusal) → untold_answer (told_answer f a) ≡ a
+  untold_answer_lem (Ok (Some (a, s))) = ap (λ x. Ok (Some (x, s))) (undo a)
+  untold_answer_lem (Ok None) = refl
+  untold_answer_lem (Err r) = ap Err (untold_told r)
 
 -- one answer only, for every type A of answers that has a way back from what it tells: an answer that tells m is `back m`
 pub exact : {A M : Type 0} (tell : A → M) (back : M → A) → ((a : A) → back (tell a) ≡ a) → (a : A) (m : M) → tell a ≡ m → a ≡ back m

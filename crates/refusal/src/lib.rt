@@ -52,38 +52,34 @@ pub enum Refusal {
 }
 
 // A refusal in numbers: document 01's, and what it carries or 0.
-#[derive(Clone, Copy)]
-pub struct Pair(pub u64, pub u64);
-
-pub fn numbers(why: Refusal) -> Pair
+pub fn numbers(why: Refusal) -> (u64, u64)
     ensures { (result.0 ≡ number_of (told why)) × (result.1 ≡ carried_of (told why)) }
 {
     match why {
-        Refusal::Cut => Pair(1, 0),
-        Refusal::UnknownKind(kind) => Pair(2, kind as u64),
-        Refusal::UnknownChecksumKind(kind) => Pair(3, kind as u64),
-        Refusal::ExportLength => Pair(4, 0),
-        Refusal::NotACrossModuleRef(index) => Pair(5, index as u64),
-        Refusal::CrossModuleRefNotFound(index) => Pair(6, index as u64),
-        Refusal::BlockSize => Pair(7, 0),
-        Refusal::OffsetTooLarge => Pair(8, 0),
-        Refusal::UnsortedExports => Pair(9, 0),
-        Refusal::NoRoom => Pair(10, 0),
-        Refusal::TooLong => Pair(11, 0),
-        Refusal::OldFormat => Pair(12, 0),
-        Refusal::NoStringTable => Pair(13, 0),
-        Refusal::HashVersion => Pair(14, 0),
-        Refusal::ModuleSizes => Pair(15, 0),
-        Refusal::WrongPlace => Pair(16, 0),
-        Refusal::NotPlain => Pair(17, 0),
-        Refusal::NoFile(index) => Pair(18, index as u64),
-        Refusal::WrongSlot => Pair(19, 0),
+        Refusal::Cut => (1, 0),
+        Refusal::UnknownKind(kind) => (2, kind as u64),
+        Refusal::UnknownChecksumKind(kind) => (3, kind as u64),
+        Refusal::ExportLength => (4, 0),
+        Refusal::NotACrossModuleRef(index) => (5, index as u64),
+        Refusal::CrossModuleRefNotFound(index) => (6, index as u64),
+        Refusal::BlockSize => (7, 0),
+        Refusal::OffsetTooLarge => (8, 0),
+        Refusal::UnsortedExports => (9, 0),
+        Refusal::NoRoom => (10, 0),
+        Refusal::TooLong => (11, 0),
+        Refusal::OldFormat => (12, 0),
+        Refusal::NoStringTable => (13, 0),
+        Refusal::HashVersion => (14, 0),
+        Refusal::ModuleSizes => (15, 0),
+        Refusal::WrongPlace => (16, 0),
+        Refusal::NotPlain => (17, 0),
+        Refusal::NoFile(index) => (18, index as u64),
+        Refusal::WrongSlot => (19, 0),
     }
 }
 
 pub fn number(why: Refusal) -> u64
     ensures { result ≡ number_of (told why) }
 {
-    let n = numbers(why);
-    n.0
+    numbers(why).0
 }

@@ -8,20 +8,19 @@
 
 use files::checksum_bytes;
 use kinds::{COFF_SYMBOL_RVA, LINES, STRING_TABLE, SYMBOLS};
-use reading_record::{Columns, ItemStep, ItemWalk};
+use reading_record::{Item, ItemWalk};
 use reading_walk::next_item;
+use refusal::Refusal;
 use std::io;
-use table::{WordAnswer, word_in};
-use text::Place;
-use writer::Wrote;
+use table::word_in;
 
 // The calls fill the buffer to its last byte, so that the buffer is the area.
 const ROOM: usize = 400;
 
 const CALLS: usize = 38;
 
-// A call, or the item that it leaves, with its numbers in the order of the call's parameters; or no item, or a refusal in its stead. A list is a place
-// and a count: in the words or bytes that `main` lends for a call, in the area for an item.
+// A call, or the item that it leaves, with its numbers in the order of the call's parameters. A list is a place and a count: in the words or bytes that
+// `main` lends for a call, in the area for an item.
 #[derive(Clone, Copy)]
 enum Call {
     OpenLines(u32, u16, u16, u32),
@@ -35,8 +34,6 @@ enum Call {
     OpenExports,
     Pair(u32, u32),
     Opaque(u32, usize, usize),
-    None,
-    Refused,
 }
 
 // A call's numbers: which call it is, how many numbers it has, and these.
@@ -47,9 +44,9 @@ struct Numbers(usize, u32, u32, u32, u32, u32);
 #[derive(Clone, Copy)]
 struct Lists(usize, usize, usize, usize, usize, usize);
 
-// An item, and the walk behind it.
+// What stands at a place of the reading, no item or a refusal among it, and the walk behind it.
 #[derive(Clone, Copy)]
-struct Item(Call, ItemWalk);
+struct Step(Result<Option<Call>, Refusal>, ItemWalk);
 
 // ---- the calls
 
@@ -136,8 +133,14 @@ fn numbers_of(call: Call) -> Numbers {
         Call::OpenExports => Numbers(8, 0, 0, 0, 0, 0),
         Call::Pair(local, global) => Numbers(9, 2, local, global, 0, 0),
         Call::Opaque(kind, _, _) => Numbers(10, 1, kind, 0, 0, 0),
-        Call::None => Numbers(11, 0, 0, 0, 0, 0),
-        Call::Refused => Numbers(12, 0, 0, 0, 0, 0),
+    }
+}
+
+fn numbers_in(item: Result<Option<Call>, Refusal>) -> Numbers {
+    match item {
+        Ok(Some(call)) => numbers_of(call),
+        Ok(None) => Numbers(11, 0, 0, 0, 0, 0),
+        Err(_) => Numbers(12, 0, 0, 0, 0, 0),
     }
 }
 
@@ -148,6 +151,13 @@ fn lists_of(call: Call) -> Lists {
         Call::Inlinee(_, _, _, extra, n) => Lists(extra, n, 0, 0, 0, 0),
         Call::Module(_, words, n) => Lists(words, n, 0, 0, 0, 0),
         Call::Opaque(_, body, len) => Lists(0, 0, 0, 0, body, len),
+        _ => Lists(0, 0, 0, 0, 0, 0),
+    }
+}
+
+fn lists_in(item: Result<Option<Call>, Refusal>) -> Lists {
+    match item {
+        Ok(Some(call)) => lists_of(call),
         _ => Lists(0, 0, 0, 0, 0, 0),
     }
 }
@@ -228,10 +238,8 @@ fn slash(rt: &impl Print, len: usize) -> io::Result<()> {
 
 fn list(rt: &impl Print, words: &[u32]) -> io::Result<()> {
     slash(rt, words.len())?;
-    let mut i = 0;
-    while i < words.len() {
-        word(rt, words[i])?;
-        i += 1;
+    for w in words {
+        word(rt, *w)?;
     }
     Ok(())
 }
@@ -239,9 +247,9 @@ fn list(rt: &impl Print, words: &[u32]) -> io::Result<()> {
 // At most 32 bytes.
 fn hex(rt: &impl Print, bytes: &[u8]) -> io::Result<()> {
     let mut line = [0u8; 64];
-    match text::put_hex_bytes(&mut line, Place::At(0), bytes) {
-        Place::At(len) => say(rt, start_of(&line, len)),
-        Place::Refused(_) => say(rt, b"more than 32 bytes"),
+    match text::put_hex_bytes(&mut line, Ok(0), bytes) {
+        Ok(len) => say(rt, start_of(&line, len)),
+        Err(_) => say(rt, b"more than 32 bytes"),
     }
 }
 
@@ -255,7 +263,7 @@ fn octets(rt: &impl Print, bytes: &[u8]) -> io::Result<()> {
 
 // ---- the first time
 
-fn make_open(buf: &mut [u8; ROOM], at: usize, call: Call) -> Wrote {
+fn make_open(buf: &mut [u8; ROOM], at: usize, call: Call) -> Result<usize, Refusal> {
     match call {
         Call::OpenLines(offset, section, flags, code) => {
             writer::open_lines(buf, at, offset, section, flags, code)
@@ -265,11 +273,17 @@ fn make_open(buf: &mut [u8; ROOM], at: usize, call: Call) -> Wrote {
         Call::OpenImports => writer::open_imports(buf, at),
         Call::OpenExports => writer::open_exports(buf, at),
         Call::Pair(local, global) => writer::add_pair(buf, at, local, global),
-        _ => Wrote::To(at),
+        _ => Ok(at),
     }
 }
 
-fn make_add(buf: &mut [u8; ROOM], at: usize, call: Call, words: &[u32], columns: &[u32]) -> Wrote {
+fn make_add(
+    buf: &mut [u8; ROOM],
+    at: usize,
+    call: Call,
+    words: &[u32],
+    columns: &[u32],
+) -> Result<usize, Refusal> {
     match call {
         Call::Block(file, _, _, _, _) => writer::add_block(buf, at, file, words, columns),
         Call::Inlinee(inlinee, file, line, _, _) => {
@@ -287,7 +301,7 @@ fn make(
     words: &[u32],
     columns: &[u32],
     bytes: &[u8],
-) -> Wrote {
+) -> Result<usize, Refusal> {
     match call {
         Call::Checksum(name, kind, _, _) => writer::add_checksum(buf, at, name, kind, bytes),
         Call::Opaque(kind, _, _) => writer::add_opaque(buf, at, kind, bytes),
@@ -296,13 +310,13 @@ fn make(
 }
 
 // The place for the next call: the one that is answered, or, where it is refused, the one before.
-fn answered(rt: &impl Print, at: usize, answer: Wrote) -> io::Result<usize> {
+fn answered(rt: &impl Print, at: usize, answer: Result<usize, Refusal>) -> io::Result<usize> {
     match answer {
-        Wrote::To(next) => {
+        Ok(next) => {
             print!(rt; " : {next}")?;
             Ok(next)
         }
-        Wrote::Refused(why) => {
+        Err(why) => {
             let number = refusal::number(why);
             print!(rt; " : refused {number}")?;
             Ok(at)
@@ -355,73 +369,55 @@ fn write_all(
 
 // ---- the second time
 
-fn block_of(file: u32, count: usize, lines: usize, columns: Columns) -> Call {
+fn block_of(file: u32, count: usize, lines: usize, columns: Option<usize>) -> Call {
     let words = std::num::wrapping_add_usize(count, count);
     match columns {
-        Columns::At(at) => Call::Block(file, lines, words, at, count),
-        Columns::None => Call::Block(file, lines, words, 0, 0),
+        Some(at) => Call::Block(file, lines, words, at, count),
+        None => Call::Block(file, lines, words, 0, 0),
     }
 }
 
-fn record_of(step: ItemStep, walk: ItemWalk) -> Item {
-    match step {
-        ItemStep::Block {
+// The call that leaves an item.
+fn call_of(item: Item) -> Call {
+    match item {
+        Item::OpenLines { header } => {
+            Call::OpenLines(header.offset, header.section, header.flags, header.code)
+        }
+        Item::Block {
             file,
             count,
             lines,
             columns,
-            next,
-        } => Item(block_of(file, count, lines, columns), next),
-        ItemStep::Checksum {
+        } => block_of(file, count, lines, columns),
+        Item::OpenChecksums => Call::OpenChecksums,
+        Item::Checksum {
             name,
             kind,
             start,
             len,
-            next,
-        } => Item(Call::Checksum(name, kind, start, len), next),
-        ItemStep::Inlinee {
+        } => Call::Checksum(name, kind, start, len),
+        Item::OpenInlinees { signature } => Call::OpenInlinees(signature),
+        Item::Inlinee {
             inlinee,
             file,
             line,
             extra,
             count,
-            next,
-        } => Item(Call::Inlinee(inlinee, file, line, extra, count), next),
-        ItemStep::Module {
-            name,
-            words,
-            count,
-            next,
-        } => Item(Call::Module(name, words, count), next),
-        _ => Item(Call::Refused, walk),
+        } => Call::Inlinee(inlinee, file, line, extra, count),
+        Item::OpenImports => Call::OpenImports,
+        Item::Module { name, words, count } => Call::Module(name, words, count),
+        Item::OpenExports => Call::OpenExports,
+        Item::Pair { local, global } => Call::Pair(local, global),
+        Item::Opaque { kind, start, len } => Call::Opaque(kind, start, len),
     }
 }
 
 // The item that comes next.
-fn item_at(area: &[u8], walk: ItemWalk) -> Item {
-    let step = next_item(area, walk);
-    match step {
-        ItemStep::OpenLines { header, next } => Item(
-            Call::OpenLines(header.offset, header.section, header.flags, header.code),
-            next,
-        ),
-        ItemStep::OpenChecksums { next } => Item(Call::OpenChecksums, next),
-        ItemStep::OpenInlinees { signature, next } => Item(Call::OpenInlinees(signature), next),
-        ItemStep::OpenImports { next } => Item(Call::OpenImports, next),
-        ItemStep::OpenExports { next } => Item(Call::OpenExports, next),
-        ItemStep::Pair {
-            local,
-            global,
-            next,
-        } => Item(Call::Pair(local, global), next),
-        ItemStep::Opaque {
-            kind,
-            start,
-            len,
-            next,
-        } => Item(Call::Opaque(kind, start, len), next),
-        ItemStep::None => Item(Call::None, walk),
-        _ => record_of(step, walk),
+fn item_at(area: &[u8], walk: ItemWalk) -> Step {
+    match next_item(area, walk) {
+        Ok(Some((item, next))) => Step(Ok(Some(call_of(item))), next),
+        Ok(None) => Step(Ok(None), walk),
+        Err(why) => Step(Err(why), walk),
     }
 }
 
@@ -440,7 +436,7 @@ fn read_word(
     i: usize,
     words: &[u32],
 ) -> io::Result<bool> {
-    let WordAnswer::Word(w) = word_in(area, at, count, i) else {
+    let Ok(Some(w)) = word_in(area, at, count, i) else {
         return Ok(false);
     };
     word(rt, w)?;
@@ -501,15 +497,15 @@ fn told(rt: &impl Print, same: bool) -> io::Result<bool> {
 fn read(
     rt: &impl Print,
     area: &[u8],
-    item: Call,
-    call: Call,
+    item: Result<Option<Call>, Refusal>,
+    call: Option<Call>,
     words: &[u32],
     bytes: &[u8],
 ) -> io::Result<bool> {
-    let numbers = numbers_of(item);
+    let numbers = numbers_in(item);
     said(rt, numbers)?;
-    let same = read_lists(rt, area, lists_of(item), lists_of(call), words, bytes)?;
-    told(rt, same & equal(numbers, numbers_of(call)))
+    let same = read_lists(rt, area, lists_in(item), lists_in(Ok(call)), words, bytes)?;
+    told(rt, same & equal(numbers, numbers_in(Ok(call))))
 }
 
 // Whether the items are the accepted calls, and nothing comes behind them.
@@ -526,16 +522,16 @@ fn read_all(
     let mut i = 0;
     while i < CALLS {
         if accepted & bit != 0 {
-            let item = item_at(area, walk);
-            let it = item.0;
-            same = same & read(rt, area, it, call_at(i), words, bytes)?;
-            walk = item.1;
+            let step = item_at(area, walk);
+            let item = step.0;
+            same = same & read(rt, area, item, Some(call_at(i)), words, bytes)?;
+            walk = step.1;
         }
         bit = std::num::wrapping_add_u64(bit, bit);
         i += 1;
     }
     let behind = item_at(area, walk).0;
-    Ok(same & read(rt, area, behind, Call::None, words, bytes)?)
+    Ok(same & read(rt, area, behind, None, words, bytes)?)
 }
 
 // ---- what is printed behind the calls and the items

@@ -7,26 +7,24 @@
 #![tactic(auto)]
 
 use answer_words::{put_refusal, state_word};
-use area::{SubStep, sub_at};
-use checksums::{ChecksumKind, number as kind_number};
-use exports::{
-    Count, CrossModuleExport, ExportStep, Lookup, export_count, next_export, resolve_export,
-};
-use files::{FileAnswer, FileStep, checksum_bytes, file_at, next_file};
-use imports::{ImportStep, Resolved, next_import, resolve_import};
-use inlinees::{InlineeStep, next_inlinee};
-use line_record::{Column, EndLines, Length, LineKind, LineRecord};
+use area::sub_at;
+use checksums::{Entry, number as kind_number};
+use exports::{CrossModuleExport, export_count, next_export, resolve_export};
+use files::{checksum_bytes, file_at, next_file};
+use imports::{next_import, resolve_import};
+use inlinees::next_inlinee;
+use line_record::{EndLines, LineKind, LineRecord};
 use line_step::LineWalk;
-use line_walk::{LineStep, next_line};
-use modi::{ModuleSizes, Part, SymbolsAnswer, lines_part, module_symbols, tables_part};
-use order::{Ordered, order_list};
+use line_walk::next_line;
+use modi::{ModuleSizes, lines_part, module_symbols, tables_part};
+use order::order_list;
 use refusal::Refusal;
 use std::io;
 use std::io::Read;
 use std::num::wrapping_add_u8;
-use strings::{NameAnswer, TableAnswer, name_at, name_bytes, string_table};
-use symbol_lines::{SymbolLines, lines_for_symbol};
-use table::{TableWalk, WordAnswer, word_in};
+use strings::{name_at, name_bytes, string_table};
+use symbol_lines::lines_for_symbol;
+use table::{TableWalk, word_in};
 use word::{u8_at, u16_at, u32_at};
 
 // The calls, numbered as their terms are in `term`: subsections, order list, files, lines, inlinees, imports, imports of which only the refusal is
@@ -168,10 +166,8 @@ fn bytes_text(rt: &impl Print, bytes: &[u8]) -> io::Result<()> {
         return dash(rt);
     }
     put(rt, b' ')?;
-    let mut i: usize = 0;
-    while i < bytes.len() {
-        byte(rt, bytes[i])?;
-        i += 1;
+    for b in bytes {
+        byte(rt, *b)?;
     }
     Ok(())
 }
@@ -185,17 +181,11 @@ fn refused(rt: &impl Print, why: Refusal) -> io::Result<()> {
     spaced_hex(rt, state_word(&words, 1))
 }
 
-fn length(rt: &impl Print, l: Length) -> io::Result<()> {
-    match l {
-        Length::Is(n) => spaced(rt, n as u64),
-        Length::Unset => dash(rt),
-    }
-}
-
-fn column(rt: &impl Print, c: Column) -> io::Result<()> {
-    match c {
-        Column::At(n) => spaced(rt, n as u64),
-        Column::None => dash(rt),
+// A length or a column, if there is one.
+fn if_any(rt: &impl Print, n: Option<u32>) -> io::Result<()> {
+    match n {
+        Some(n) => spaced(rt, n as u64),
+        None => dash(rt),
     }
 }
 
@@ -212,25 +202,22 @@ fn record(rt: &impl Print, r: LineRecord) -> io::Result<()> {
     let e = r.column_end;
     let k = r.kind;
     place(rt, r.section, r.offset)?;
-    length(rt, l)?;
+    if_any(rt, l)?;
     spaced(rt, r.file as u64)?;
     spaced(rt, r.start_line as u64)?;
     spaced(rt, r.end_line as u64)?;
-    column(rt, s)?;
-    column(rt, e)?;
+    if_any(rt, s)?;
+    if_any(rt, e)?;
     line_kind(rt, k)?;
     put(rt, b'\n')
 }
 
-fn checksum(
-    rt: &impl Print,
-    area: &[u8],
-    kind: ChecksumKind,
-    start: usize,
-    len: usize,
-) -> io::Result<()> {
+// A file's name and checksum.
+fn entry_text(rt: &impl Print, area: &[u8], entry: Entry) -> io::Result<()> {
+    let kind = entry.kind;
+    spaced(rt, entry.name as u64)?;
     spaced_term(rt, wrapping_add_u8(NONE, kind_number(kind)))?;
-    bytes_text(rt, checksum_bytes(area, start, len))
+    bytes_text(rt, checksum_bytes(area, entry.start, entry.len))
 }
 
 // What is asked, at the head of a line.
@@ -254,47 +241,41 @@ fn refused_line(rt: &impl Print, call: Call, why: Refusal) -> io::Result<()> {
 
 // ---- walks, a line for each step. A proved loop has to end, so it counts its turns down, from a number that no run uses up.
 
-// What a step over a table leaves to do.
-#[derive(Clone, Copy)]
-enum Next {
-    On(TableWalk),
-    Over,
-    Refused(Refusal),
-}
-
-fn file_step(rt: &impl Print, area: &[u8], number: u8, walk: TableWalk) -> io::Result<Next> {
+// A step over a table: if its line was written, the walk behind its record, or none where there is no record, or a refusal.
+fn file_step(
+    rt: &impl Print,
+    area: &[u8],
+    number: u8,
+    walk: TableWalk,
+) -> io::Result<Result<Option<TableWalk>, Refusal>> {
     match next_file(area, walk) {
-        FileStep::File {
-            index,
-            name,
-            kind,
-            start,
-            len,
-            next,
-        } => {
+        Ok(Some((file, next))) => {
             term(rt, number)?;
-            spaced(rt, index as u64)?;
-            spaced(rt, name as u64)?;
-            checksum(rt, area, kind, start, len)?;
+            spaced(rt, file.index as u64)?;
+            entry_text(rt, area, file.entry)?;
             put(rt, b'\n')?;
-            Ok(Next::On(next))
+            Ok(Ok(Some(next)))
         }
-        FileStep::None => Ok(Next::Over),
-        FileStep::Refused(why) => Ok(Next::Refused(why)),
+        Ok(None) => Ok(Ok(None)),
+        Err(why) => Ok(Err(why)),
     }
 }
 
-fn word_text(rt: &impl Print, answer: WordAnswer, in_hex: bool) -> io::Result<()> {
+fn word_text(
+    rt: &impl Print,
+    answer: Result<Option<u32>, Refusal>,
+    in_hex: bool,
+) -> io::Result<()> {
     match answer {
-        WordAnswer::Word(w) => {
+        Ok(Some(w)) => {
             if in_hex {
                 hex(rt, w as u64)
             } else {
                 print!(rt; "{w}")
             }
         }
-        WordAnswer::None => dash(rt),
-        WordAnswer::Refused(why) => refused(rt, why),
+        Ok(None) => dash(rt),
+        Err(why) => refused(rt, why),
     }
 }
 
@@ -316,45 +297,43 @@ fn words(rt: &impl Print, area: &[u8], at: usize, count: usize, in_hex: bool) ->
     put(rt, b'\n')
 }
 
-fn inlinee_step(rt: &impl Print, area: &[u8], number: u8, walk: TableWalk) -> io::Result<Next> {
+fn inlinee_step(
+    rt: &impl Print,
+    area: &[u8],
+    number: u8,
+    walk: TableWalk,
+) -> io::Result<Result<Option<TableWalk>, Refusal>> {
     match next_inlinee(area, walk) {
-        InlineeStep::Inlinee {
-            inlinee,
-            file,
-            line,
-            extra,
-            count,
-            next,
-        } => {
+        Ok(Some((source, next))) => {
             term(rt, number)?;
-            spaced(rt, inlinee as u64)?;
-            spaced(rt, file as u64)?;
-            spaced(rt, line as u64)?;
-            words(rt, area, extra, count, false)?;
-            Ok(Next::On(next))
+            spaced(rt, source.inlinee as u64)?;
+            spaced(rt, source.file as u64)?;
+            spaced(rt, source.line as u64)?;
+            words(rt, area, source.extra, source.count, false)?;
+            Ok(Ok(Some(next)))
         }
-        InlineeStep::None => Ok(Next::Over),
-        InlineeStep::Refused(why) => Ok(Next::Refused(why)),
+        Ok(None) => Ok(Ok(None)),
+        Err(why) => Ok(Err(why)),
     }
 }
 
-fn import_step(rt: &impl Print, area: &[u8], number: u8, walk: TableWalk) -> io::Result<Next> {
+fn import_step(
+    rt: &impl Print,
+    area: &[u8],
+    number: u8,
+    walk: TableWalk,
+) -> io::Result<Result<Option<TableWalk>, Refusal>> {
     match next_import(area, walk) {
-        ImportStep::Module {
-            name,
-            words: at,
-            count,
-            next,
-        } => {
+        Ok(Some((module, next))) => {
             if number == IMPORT {
                 term(rt, number)?;
-                spaced(rt, name as u64)?;
-                words(rt, area, at, count, true)?;
+                spaced(rt, module.name as u64)?;
+                words(rt, area, module.words, module.count, true)?;
             }
-            Ok(Next::On(next))
+            Ok(Ok(Some(next)))
         }
-        ImportStep::None => Ok(Next::Over),
-        ImportStep::Refused(why) => Ok(Next::Refused(why)),
+        Ok(None) => Ok(Ok(None)),
+        Err(why) => Ok(Err(why)),
     }
 }
 
@@ -372,19 +351,29 @@ fn export_text(rt: &impl Print, export: CrossModuleExport) -> io::Result<()> {
     }
 }
 
-fn export_step(rt: &impl Print, area: &[u8], number: u8, walk: TableWalk) -> io::Result<Next> {
+fn export_step(
+    rt: &impl Print,
+    area: &[u8],
+    number: u8,
+    walk: TableWalk,
+) -> io::Result<Result<Option<TableWalk>, Refusal>> {
     match next_export(area, walk) {
-        ExportStep::Export { export, next } => {
+        Ok(Some((export, next))) => {
             term(rt, number)?;
             export_text(rt, export)?;
-            Ok(Next::On(next))
+            Ok(Ok(Some(next)))
         }
-        ExportStep::None => Ok(Next::Over),
-        ExportStep::Refused(why) => Ok(Next::Refused(why)),
+        Ok(None) => Ok(Ok(None)),
+        Err(why) => Ok(Err(why)),
     }
 }
 
-fn table_step(rt: &impl Print, area: &[u8], number: u8, walk: TableWalk) -> io::Result<Next> {
+fn table_step(
+    rt: &impl Print,
+    area: &[u8],
+    number: u8,
+    walk: TableWalk,
+) -> io::Result<Result<Option<TableWalk>, Refusal>> {
     match number {
         FILE => file_step(rt, area, number, walk),
         INLINEE => inlinee_step(rt, area, number, walk),
@@ -398,14 +387,14 @@ fn table_walk(rt: &impl Print, area: &[u8], number: u8) -> io::Result<()> {
     let mut turns = u64::MAX;
     while turns > 0 {
         match table_step(rt, area, number, walk)? {
-            Next::On(next) => {
+            Ok(Some(next)) => {
                 walk = next;
             }
-            Next::Over => {
+            Ok(None) => {
                 term(rt, number)?;
                 return over(rt);
             }
-            Next::Refused(why) => {
+            Err(why) => {
                 term(rt, number)?;
                 refused(rt, why)?;
                 return put(rt, b'\n');
@@ -422,22 +411,17 @@ fn sub_walk(rt: &impl Print, area: &[u8]) -> io::Result<()> {
     while turns > 0 {
         term(rt, SUB)?;
         match sub_at(area, at) {
-            SubStep::Sub {
-                kind,
-                start,
-                len,
-                next,
-            } => {
-                spaced_hex(rt, kind as u64)?;
-                spaced(rt, start as u64)?;
-                spaced(rt, len as u64)?;
+            Ok(Some((sub, next))) => {
+                spaced_hex(rt, sub.kind as u64)?;
+                spaced(rt, sub.start as u64)?;
+                spaced(rt, sub.len as u64)?;
                 put(rt, b'\n')?;
                 at = next;
             }
-            SubStep::None => {
+            Ok(None) => {
                 return over(rt);
             }
-            SubStep::Refused(why) => {
+            Err(why) => {
                 refused(rt, why)?;
                 return put(rt, b'\n');
             }
@@ -459,14 +443,14 @@ fn line_walk(
     while turns > 0 {
         head(rt, call)?;
         match next_line(area, slots, walk) {
-            LineStep::Line(r, next) => {
+            Ok(Some((r, next))) => {
                 record(rt, r)?;
                 walk = next;
             }
-            LineStep::None => {
+            Ok(None) => {
                 return over(rt);
             }
-            LineStep::Refused(why) => {
+            Err(why) => {
                 refused(rt, why)?;
                 return put(rt, b'\n');
             }
@@ -479,13 +463,13 @@ fn line_walk(
 // No case has as many line subsections as there are slots here.
 fn lines(rt: &impl Print, area: &[u8], call: Call) -> io::Result<()> {
     let mut slots = [0u32; 256];
-    order_list(area, &mut slots);
+    let _ = order_list(area, &mut slots);
     if call.number == LINE {
         return line_walk(rt, area, &slots, call, LineWalk::New(EndLines::Crate));
     }
     match lines_for_symbol(area, &slots, &[], call.section, call.word, EndLines::Crate) {
-        SymbolLines::Lines(walk) => line_walk(rt, area, &slots, call, walk),
-        SymbolLines::Refused(why) => refused_line(rt, call, why),
+        Ok(walk) => line_walk(rt, area, &slots, call, walk),
+        Err(why) => refused_line(rt, call, why),
     }
 }
 
@@ -511,7 +495,7 @@ fn slots_text(rt: &impl Print, slots: &[u32], n: usize) -> io::Result<()> {
 fn order_answer(rt: &impl Print, area: &[u8], listed: bool) -> io::Result<()> {
     let mut slots = [0u32; 256];
     match order_list(area, &mut slots) {
-        Ordered::Lines(n) => {
+        Ok(n) => {
             if listed {
                 slots_text(rt, &slots, n)?;
             } else {
@@ -519,68 +503,60 @@ fn order_answer(rt: &impl Print, area: &[u8], listed: bool) -> io::Result<()> {
             }
             Ok(())
         }
-        Ordered::Refused(why) => refused(rt, why),
+        Err(why) => refused(rt, why),
     }
 }
 
 fn symbols_answer(rt: &impl Print, stream: &[u8], sizes: ModuleSizes) -> io::Result<()> {
     match module_symbols(stream, sizes) {
-        SymbolsAnswer::Yes => spaced_term(rt, YES),
-        SymbolsAnswer::Refused(why) => refused(rt, why),
+        Ok(()) => spaced_term(rt, YES),
+        Err(why) => refused(rt, why),
     }
 }
 
 fn file_answer(rt: &impl Print, area: &[u8], index: u32) -> io::Result<()> {
     match file_at(area, index) {
-        FileAnswer::File {
-            name,
-            kind,
-            start,
-            len,
-        } => {
-            spaced(rt, name as u64)?;
-            checksum(rt, area, kind, start, len)
-        }
-        FileAnswer::Refused(why) => refused(rt, why),
+        Ok(entry) => entry_text(rt, area, entry),
+        Err(why) => refused(rt, why),
     }
 }
 
 fn reference_answer(rt: &impl Print, area: &[u8], index: u32) -> io::Result<()> {
     match resolve_import(area, index) {
-        Resolved::Ref { name, word } => {
-            spaced(rt, name as u64)?;
-            spaced_hex(rt, word as u64)
+        Ok(found) => {
+            spaced(rt, found.name as u64)?;
+            spaced_hex(rt, found.word as u64)
         }
-        Resolved::Refused(why) => refused(rt, why),
+        Err(why) => refused(rt, why),
     }
 }
 
 fn count_answer(rt: &impl Print, area: &[u8]) -> io::Result<()> {
     match export_count(area) {
-        Count::Exports(n) => spaced(rt, n as u64),
-        Count::Refused(why) => refused(rt, why),
+        Ok(n) => spaced(rt, n as u64),
+        Err(why) => refused(rt, why),
     }
 }
 
 fn export_answer(rt: &impl Print, area: &[u8], local: u32) -> io::Result<()> {
     match resolve_export(area, local) {
-        Lookup::Global(global) => spaced_hex(rt, global as u64),
-        Lookup::None => spaced_term(rt, NONE),
-        Lookup::Refused(why) => refused(rt, why),
+        Ok(Some(global)) => spaced_hex(rt, global as u64),
+        Ok(None) => spaced_term(rt, NONE),
+        Err(why) => refused(rt, why),
     }
 }
 
 fn table_answer(rt: &impl Print, stream: &[u8]) -> io::Result<()> {
     match string_table(stream) {
-        TableAnswer::Names { start: _, len: _ } => spaced_term(rt, YES),
-        TableAnswer::Refused(why) => refused(rt, why),
+        Ok(_) => spaced_term(rt, YES),
+        Err(why) => refused(rt, why),
     }
 }
 
 fn name_answer(rt: &impl Print, stream: &[u8], offset: u32) -> io::Result<()> {
     match name_at(stream, offset) {
-        NameAnswer::At { start: _, len: _ } => bytes_text(rt, name_bytes(stream, offset)),
-        NameAnswer::Refused(why) => refused(rt, why),
+        Ok(_) => bytes_text(rt, name_bytes(stream, offset)),
+        Err(why) => refused(rt, why),
     }
 }
 
@@ -631,16 +607,16 @@ fn on_tables_part(
     call: Call,
 ) -> io::Result<()> {
     match tables_part(stream, sizes) {
-        Part::At { start, len } => area_answer(rt, &stream[start..start + len], call),
-        Part::Refused(why) => refused_line(rt, call, why),
+        Ok(part) => area_answer(rt, &stream[part.start..part.start + part.len], call),
+        Err(why) => refused_line(rt, call, why),
     }
 }
 
 // A call on a module's lines or files, as one on the part of its stream that they are read from.
 fn on_lines_part(rt: &impl Print, stream: &[u8], sizes: ModuleSizes, call: Call) -> io::Result<()> {
     match lines_part(stream, sizes) {
-        Part::At { start, len } => area_answer(rt, &stream[start..start + len], call),
-        Part::Refused(why) => refused_line(rt, call, why),
+        Ok(part) => area_answer(rt, &stream[part.start..part.start + part.len], call),
+        Err(why) => refused_line(rt, call, why),
     }
 }
 

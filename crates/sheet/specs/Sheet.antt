@@ -1,7 +1,7 @@
 -- The starred lines of document 01's sheet, in one table. A row has what a call answers, as the definition says that the call's contract is an equation
 -- with, and the answer that document 01 writes; the comment behind a row names the call. Source: document 01, "Sheet lines to try".
 -- Definitions only; no public contract cites them.
-use Rattle.std.specs.Prelude.{ℕ, ◌≡◌, true, false, List, [], ◌∷◌, ◌++◌}
+use Rattle.std.specs.Prelude.{ℕ, ◌≡◌, true, false, List, [], ◌∷◌, ◌++◌, None}
 use Rattle.std.proofs.Math.Option as option
 use Rattle.word.specs.Word.{le32, header}
 use Rattle.walk.specs.Listing.{gives, none, refuses, Reply, gave, nothing, refused}
@@ -18,7 +18,6 @@ use Rattle.line_record.specs.declared.EndLines.TheVariants.{Crate}
 use Rattle.line_record.specs.declared.LineSource.{LineSource}
 use Rattle.line_record.specs.Record.{no_position, column_if, entry_of}
 use Rattle.line_record.specs.Told.{ToldLine, told_record}
-use Rattle.line_step.specs.declared.Held.TheVariants.{Nothing}
 use Rattle.line_step.specs.declared.LineWalk.{LineWalk}
 use Rattle.line_step.specs.declared.LineWalk.TheVariants as line
 use Rattle.line_walk.specs.Next.{next_of}
@@ -53,7 +52,7 @@ number_on n k = record { number = n; carries = k ∷ [] }
 
 -- the walk over no lines
 abbrev pub no_lines : LineWalk
-no_lines = line.Between Crate (record { slot = 0; left = 0; scan = 0; held = Nothing })
+no_lines = line.Between Crate (record { slot = 0; left = 0; scan = 0; held = None })
 
 abbrev pub seven : List ℕ
 seven = 0 ∷ 0 ∷ 0 ∷ 0 ∷ 0 ∷ 0 ∷ 0 ∷ []

@@ -2,24 +2,15 @@
 // carries; each of the numbers 1 to 19 comes at least once. What is written is compared with the file stdout.
 #![tactic(auto)]
 
-use area::{Stepped, SubStep, SubWalk};
-use checksums::{ChecksumKind, EntryStep};
-use exports::{Count, ExportStep, Lookup};
-use files::{FileAnswer, FileStep};
-use imports::{ImportStep, Resolved};
-use inlinees::InlineeStep;
-use line_record::{EndLines, Entry, Length, LineKind, LineRecord, LineSource};
+use area::SubWalk;
+use checksums::ChecksumKind;
+use line_record::{EndLines, LineKind, LineRecord, LineSource};
 use line_step::LineWalk;
-use line_walk::LineStep;
-use lines::BlockStep;
-use modi::{ModuleSizes, Part, SymbolsAnswer};
-use order::Ordered;
-use reading_record::{ItemStep, ItemWalk};
+use modi::ModuleSizes;
+use reading_record::ItemWalk;
 use refusal::Refusal;
 use std::io;
-use strings::NameAnswer;
 use table::TableWalk;
-use writer::Wrote;
 
 fn say(rt: &impl Print, text: &[u8]) -> io::Result<()> {
     rt.write_all(text)
@@ -51,19 +42,14 @@ fn sub_step(rt: &impl Print, area: &[u8], walk: SubWalk) -> io::Result<SubWalk> 
     let stepped = walk.step(area);
     let step = stepped.step;
     match step {
-        SubStep::Sub {
-            kind,
-            start,
-            len,
-            next: _,
-        } => {
+        Ok(Some((sub, _))) => {
             say(rt, b"sub ")?;
-            number(rt, kind as u64)?;
-            number(rt, start as u64)?;
-            number(rt, len as u64)?;
+            number(rt, sub.kind as u64)?;
+            number(rt, sub.start as u64)?;
+            number(rt, sub.len as u64)?;
         }
-        SubStep::None => say(rt, b"none ")?,
-        SubStep::Refused(why) => refused(rt, why)?,
+        Ok(None) => say(rt, b"none ")?,
+        Err(why) => refused(rt, why)?,
     }
     Ok(stepped.walk)
 }
@@ -87,8 +73,8 @@ fn line(rt: &impl Print, r: LineRecord) -> io::Result<()> {
     number(rt, r.offset as u64)?;
     let length = r.length;
     match length {
-        Length::Is(n) => number(rt, n as u64)?,
-        Length::Unset => say(rt, b"- ")?,
+        Some(n) => number(rt, n as u64)?,
+        None => say(rt, b"- ")?,
     }
     number(rt, r.start_line as u64)?;
     number(rt, r.end_line as u64)?;
@@ -106,56 +92,51 @@ fn flags(rt: &impl Print, word: u32) -> io::Result<()> {
         body: LineRecord::NO_POSITION,
     };
     match line_record::entry_of(source, 0, word, 0) {
-        Entry::Line(r) => line(rt, r)?,
-        Entry::Marker => say(rt, b"marker ")?,
-        Entry::Refused(why) => refused(rt, why)?,
+        Ok(Some(r)) => line(rt, r)?,
+        Ok(None) => say(rt, b"marker ")?,
+        Err(why) => refused(rt, why)?,
     }
     end(rt)
 }
 
 fn block(rt: &impl Print, body: &[u8], columns: bool) -> io::Result<()> {
     match lines::block_at(body, 0, columns) {
-        BlockStep::Block {
-            file,
-            count,
-            start: _,
-            next,
-        } => {
+        Ok(Some((block, next))) => {
             say(rt, b"block ")?;
-            number(rt, file as u64)?;
-            number(rt, count as u64)?;
+            number(rt, block.file as u64)?;
+            number(rt, block.count as u64)?;
             number(rt, next as u64)?;
         }
-        BlockStep::None => say(rt, b"none ")?,
-        BlockStep::Refused(why) => refused(rt, why)?,
+        Ok(None) => say(rt, b"none ")?,
+        Err(why) => refused(rt, why)?,
     }
     end(rt)
 }
 
 fn resolve(rt: &impl Print, area: &[u8], index: u32) -> io::Result<()> {
     match imports::resolve_import(area, index) {
-        Resolved::Ref { name, word } => {
-            number(rt, name as u64)?;
-            number(rt, word as u64)?;
+        Ok(found) => {
+            number(rt, found.name as u64)?;
+            number(rt, found.word as u64)?;
         }
-        Resolved::Refused(why) => refused(rt, why)?,
+        Err(why) => refused(rt, why)?,
     }
     end(rt)
 }
 
 fn count(rt: &impl Print, area: &[u8]) -> io::Result<()> {
     match exports::export_count(area) {
-        Count::Exports(n) => number(rt, n as u64)?,
-        Count::Refused(why) => refused(rt, why)?,
+        Ok(n) => number(rt, n as u64)?,
+        Err(why) => refused(rt, why)?,
     }
     end(rt)
 }
 
 fn lookup(rt: &impl Print, area: &[u8], local: u32) -> io::Result<()> {
     match exports::resolve_export(area, local) {
-        Lookup::Global(global) => number(rt, global as u64)?,
-        Lookup::None => say(rt, b"none ")?,
-        Lookup::Refused(why) => refused(rt, why)?,
+        Ok(Some(global)) => number(rt, global as u64)?,
+        Ok(None) => say(rt, b"none ")?,
+        Err(why) => refused(rt, why)?,
     }
     end(rt)
 }
@@ -173,36 +154,25 @@ fn sum(rt: &impl Print, kind: ChecksumKind, start: usize, len: usize) -> io::Res
 
 fn entry(rt: &impl Print, body: &[u8], at: usize) -> io::Result<()> {
     match checksums::entry_at(body, at) {
-        EntryStep::Entry {
-            name,
-            kind,
-            start,
-            len,
-            next,
-        } => {
-            number(rt, name as u64)?;
-            sum(rt, kind, start, len)?;
+        Ok(Some((entry, next))) => {
+            number(rt, entry.name as u64)?;
+            sum(rt, entry.kind, entry.start, entry.len)?;
             say(rt, b"next ")?;
             number(rt, next as u64)?;
         }
-        EntryStep::None => say(rt, b"none ")?,
-        EntryStep::Refused(why) => refused(rt, why)?,
+        Ok(None) => say(rt, b"none ")?,
+        Err(why) => refused(rt, why)?,
     }
     end(rt)
 }
 
 fn file(rt: &impl Print, area: &[u8], index: u32) -> io::Result<()> {
     match files::file_at(area, index) {
-        FileAnswer::File {
-            name,
-            kind,
-            start,
-            len,
-        } => {
-            number(rt, name as u64)?;
-            sum(rt, kind, start, len)?;
+        Ok(entry) => {
+            number(rt, entry.name as u64)?;
+            sum(rt, entry.kind, entry.start, entry.len)?;
         }
-        FileAnswer::Refused(why) => refused(rt, why)?,
+        Err(why) => refused(rt, why)?,
     }
     end(rt)
 }
@@ -210,15 +180,15 @@ fn file(rt: &impl Print, area: &[u8], index: u32) -> io::Result<()> {
 // One step of a line walk.
 fn line_step(rt: &impl Print, area: &[u8], slots: &[u32], walk: LineWalk) -> io::Result<LineWalk> {
     match line_walk::next_line(area, slots, walk) {
-        LineStep::Line(r, next) => {
+        Ok(Some((r, next))) => {
             line(rt, r)?;
             Ok(next)
         }
-        LineStep::None => {
+        Ok(None) => {
             say(rt, b"none ")?;
             Ok(walk)
         }
-        LineStep::Refused(why) => {
+        Err(why) => {
             refused(rt, why)?;
             Ok(walk)
         }
@@ -235,11 +205,11 @@ fn steps(rt: &impl Print, area: &[u8], slots: &[u32]) -> io::Result<()> {
 // The order list, and three steps over it.
 fn walk(rt: &impl Print, area: &[u8], slots: &mut [u32]) -> io::Result<()> {
     match order::order_list(area, slots) {
-        Ordered::Lines(n) => {
+        Ok(n) => {
             number(rt, n as u64)?;
             steps(rt, area, slots)?;
         }
-        Ordered::Refused(why) => refused(rt, why)?,
+        Err(why) => refused(rt, why)?,
     }
     end(rt)
 }
@@ -260,41 +230,41 @@ fn forged(rt: &impl Print, area: &[u8]) -> io::Result<()> {
 // What the walks over an area's tables answer first, and the full reading.
 fn first_file(rt: &impl Print, area: &[u8]) -> io::Result<()> {
     match files::next_file(area, TableWalk::New) {
-        FileStep::None => say(rt, b"none "),
-        FileStep::Refused(why) => refused(rt, why),
-        _ => say(rt, b"a file "),
+        Ok(Some(_)) => say(rt, b"a file "),
+        Ok(None) => say(rt, b"none "),
+        Err(why) => refused(rt, why),
     }
 }
 
 fn first_inlinee(rt: &impl Print, area: &[u8]) -> io::Result<()> {
     match inlinees::next_inlinee(area, TableWalk::New) {
-        InlineeStep::None => say(rt, b"none "),
-        InlineeStep::Refused(why) => refused(rt, why),
-        _ => say(rt, b"an inlinee "),
+        Ok(Some(_)) => say(rt, b"an inlinee "),
+        Ok(None) => say(rt, b"none "),
+        Err(why) => refused(rt, why),
     }
 }
 
 fn first_import(rt: &impl Print, area: &[u8]) -> io::Result<()> {
     match imports::next_import(area, TableWalk::New) {
-        ImportStep::None => say(rt, b"none "),
-        ImportStep::Refused(why) => refused(rt, why),
-        _ => say(rt, b"a module "),
+        Ok(Some(_)) => say(rt, b"a module "),
+        Ok(None) => say(rt, b"none "),
+        Err(why) => refused(rt, why),
     }
 }
 
 fn first_export(rt: &impl Print, area: &[u8]) -> io::Result<()> {
     match exports::next_export(area, TableWalk::New) {
-        ExportStep::None => say(rt, b"none "),
-        ExportStep::Refused(why) => refused(rt, why),
-        _ => say(rt, b"an export "),
+        Ok(Some(_)) => say(rt, b"an export "),
+        Ok(None) => say(rt, b"none "),
+        Err(why) => refused(rt, why),
     }
 }
 
 fn first_item(rt: &impl Print, area: &[u8]) -> io::Result<()> {
     match reading_walk::next_item(area, ItemWalk::new()) {
-        ItemStep::None => say(rt, b"none "),
-        ItemStep::Refused(why) => refused(rt, why),
-        _ => say(rt, b"an item "),
+        Ok(Some(_)) => say(rt, b"an item "),
+        Ok(None) => say(rt, b"none "),
+        Err(why) => refused(rt, why),
     }
 }
 
@@ -309,43 +279,43 @@ fn firsts(rt: &impl Print, area: &[u8]) -> io::Result<()> {
 
 fn name(rt: &impl Print, stream: &[u8], offset: u32) -> io::Result<()> {
     match strings::name_at(stream, offset) {
-        NameAnswer::At { start, len } => {
-            number(rt, start as u64)?;
-            number(rt, len as u64)?;
+        Ok(name) => {
+            number(rt, name.start as u64)?;
+            number(rt, name.len as u64)?;
             say(rt, strings::name_bytes(stream, offset))?;
         }
-        NameAnswer::Refused(why) => refused(rt, why)?,
+        Err(why) => refused(rt, why)?,
     }
     end(rt)
 }
 
 fn symbols(rt: &impl Print, stream: &[u8], symbols: u32, c11: u32, c13: u32) -> io::Result<()> {
     match modi::module_symbols(stream, ModuleSizes { symbols, c11, c13 }) {
-        SymbolsAnswer::Yes => say(rt, b"yes")?,
-        SymbolsAnswer::Refused(why) => refused(rt, why)?,
+        Ok(()) => say(rt, b"yes")?,
+        Err(why) => refused(rt, why)?,
     }
     end(rt)
 }
 
 fn lines_of(rt: &impl Print, stream: &[u8], symbols: u32, c11: u32, c13: u32) -> io::Result<()> {
     match modi::lines_part(stream, ModuleSizes { symbols, c11, c13 }) {
-        Part::At { start, len } => {
-            number(rt, start as u64)?;
-            number(rt, len as u64)?;
+        Ok(part) => {
+            number(rt, part.start as u64)?;
+            number(rt, part.len as u64)?;
         }
-        Part::Refused(why) => refused(rt, why)?,
+        Err(why) => refused(rt, why)?,
     }
     end(rt)
 }
 
-fn wrote(rt: &impl Print, w: Wrote) -> io::Result<usize> {
+fn wrote(rt: &impl Print, w: Result<usize, Refusal>) -> io::Result<usize> {
     match w {
-        Wrote::To(at) => {
+        Ok(at) => {
             number(rt, at as u64)?;
             end(rt)?;
             Ok(at)
         }
-        Wrote::Refused(why) => {
+        Err(why) => {
             refused(rt, why)?;
             end(rt)?;
             Ok(0)

@@ -8,41 +8,37 @@ ghost use Rattle.find.specs.Find.{held_span, HandsSpan};
 ghost use Rattle.strings.specs.Strings.{names_of, until_zero, name_at};
 ghost use Rattle.strings.specs.Told.{told_table, told_name};
 
+use find::Span;
 use refusal::{LONGEST, Refusal};
 use word::u32_at;
 
 const SIGNATURE: u32 = 0xEFFE_EFFE;
 
 // Where the names stand in the stream.
-#[derive(Clone, Copy)]
-pub enum TableAnswer {
-    Names { start: usize, len: usize },
-    Refused(Refusal),
-}
-
-pub fn string_table(stream: &[u8]) -> TableAnswer
+#[tactic(auto, using(crate::specs::StringsLaws::table_long, crate::specs::StringsLaws::table_short, crate::specs::StringsLaws::table_signature, crate::specs::StringsLaws::table_cut, crate::specs::StringsLaws::table_known, crate::specs::StringsLaws::table_version))]
+pub fn string_table(stream: &[u8]) -> Result<Span, Refusal>
     ensures { told_table result ≡ names_of stream.now }
 {
     if LONGEST < stream.len() {
-        return TableAnswer::Refused(Refusal::TooLong);
+        return Err(Refusal::TooLong);
     }
     if stream.len() < 12 {
-        return TableAnswer::Refused(Refusal::Cut);
+        return Err(Refusal::Cut);
     }
     if u32_at(stream, 0) != SIGNATURE {
-        return TableAnswer::Refused(Refusal::NoStringTable);
+        return Err(Refusal::NoStringTable);
     }
     let size = u32_at(stream, 8) as usize;
     // The crate holds the names' end, counted from the stream's start, against what is left behind the header.
     if stream.len() - 12 < 12 + size {
-        return TableAnswer::Refused(Refusal::Cut);
+        return Err(Refusal::Cut);
     }
     match u32_at(stream, 4) {
-        1 | 2 => TableAnswer::Names {
+        1 | 2 => Ok(Span {
             start: 12,
             len: size,
-        },
-        _ => TableAnswer::Refused(Refusal::HashVersion),
+        }),
+        _ => Err(Refusal::HashVersion),
     }
 }
 
@@ -61,29 +57,19 @@ fn zero_from(names: &[u8], at: usize) -> usize
 }
 
 // Where a name stands in the stream, its zero not counted.
-#[derive(Clone, Copy)]
-pub enum NameAnswer {
-    At { start: usize, len: usize },
-    Refused(Refusal),
-}
-
-pub fn name_at(stream: &[u8], offset: u32) -> NameAnswer
+pub fn name_at(stream: &[u8], offset: u32) -> Result<Span, Refusal>
     ensures { told_name result ≡ name_at stream.now offset }
 {
-    match string_table(stream) {
-        TableAnswer::Names { start, len } => {
-            let at = offset as usize;
-            let end = zero_from(&stream[start..start + len], at);
-            if end < len {
-                NameAnswer::At {
-                    start: start + at,
-                    len: end - at,
-                }
-            } else {
-                NameAnswer::Refused(Refusal::Cut)
-            }
-        }
-        TableAnswer::Refused(why) => NameAnswer::Refused(why),
+    let table = string_table(stream)?;
+    let at = offset as usize;
+    let end = zero_from(&stream[table.start..table.start + table.len], at);
+    if end < table.len {
+        Ok(Span {
+            start: table.start + at,
+            len: end - at,
+        })
+    } else {
+        Err(Refusal::Cut)
     }
 }
 
@@ -92,7 +78,7 @@ pub fn name_bytes(stream: &[u8], offset: u32) -> &[u8]
     ensures { HandsSpan stream.entry (held_span (name_at stream.now offset)) result }
 {
     match name_at(stream, offset) {
-        NameAnswer::At { start, len } => &stream[start..start + len],
-        NameAnswer::Refused(_) => &stream[..0],
+        Ok(name) => &stream[name.start..name.start + name.len],
+        Err(_) => &stream[..0],
     }
 }

@@ -1,5 +1,5 @@
 -- Laws of the search for a symbol's slot: one for each way of the loop over the slots.
-use Rattle.std.specs.Prelude.{ℕ, ◌+◌, ◌-◌, ◌<◌, ◌≤◌, ◌≡◌, refl, List, Bool, cond, take, drop, eqb}
+use Rattle.std.specs.Prelude.{ℕ, ◌+◌, ◌-◌, ◌<◌, ◌≤◌, ◌≡◌, refl, List, Option, None, Some, Bool, cond, take, drop, eqb}
 use Rattle.std.proofs.Math.Path.{sym, ap}
 use Rattle.std.proofs.Common.{◌∙◌}
 use Rattle.std.proofs.Math.Bool.{true, false}
@@ -17,8 +17,6 @@ use Rattle.lines.specs.Lines.{count_lines, Body, body_on}
 use Rattle.lines.specs.Slots.{body_at, name_then, named, slot_at, list_in, Scans}
 use Rattle.lines.specs.SlotsLaws.{named_slot}
 use Rattle.symbol_lines.specs.Symbol.{head_is, is_at, is_before, Numbered, numbered, slot_of, at_slot, before_slot, slot_in, better, walk_to, symbol_walk, walk_of}
-use Rattle.symbol_lines.specs.declared.Best.{Best}
-use Rattle.symbol_lines.specs.declared.Best.TheVariants as best
 use Rattle.symbol_lines.specs.Told.{told_best}
 
 -- ---- the tests of the code
@@ -155,6 +153,6 @@ module _ (how : EndLines) (rule : ℕ → Sort) (s v : List ℕ) (section offset
   unfolding numbered first_by
   symbol_refused t e = ap (λ k. walk_to how (slot_in section offset (list_in rule s v k))) e
 
-pub walk_best : (how : EndLines) (b : Best) → gave (walk_of how (told_best b)) ≡ walk_to how (told_best b)
-walk_best how best.None = refl
-walk_best how (best.Slot i) = refl
+pub walk_best : (how : EndLines) (b : Option ℕ) → gave (walk_of how (told_best b)) ≡ walk_to how (told_best b)
+walk_best how None = refl
+walk_best how (Some i) = refl

@@ -1,24 +1,18 @@
 -- What the answers of this crate tell. Source: document 01, "Refusal numbers", and the values that it names for each.
 -- Definitions only; a reader must believe them, but for `told_best`, `told_symbol_slot`: no public contract cites them.
-use Rattle.std.specs.Prelude.{ℕ}
-use Rattle.walk.specs.Listing.{Reply, gave, nothing, refused}
-use Rattle.refusal.specs.Told.{Told, told}
+use Rattle.std.specs.Prelude.{ℕ, Option, Result, Ok}
+use Rattle.walk.specs.Listing.{Reply}
+use Rattle.refusal.specs.Told.{Told}
+use Rattle.refusal.specs.Answers.{told_result, told_reply}
+use Rattle.refusal.specs.declared.Refusal.{Refusal}
 use Rattle.line_step.specs.declared.LineWalk.{LineWalk}
-use Rattle.symbol_lines.specs.declared.Best.{Best}
-use Rattle.symbol_lines.specs.declared.Best.TheVariants as best
-use Rattle.symbol_lines.specs.declared.SymbolSlot.{SymbolSlot}
-use Rattle.symbol_lines.specs.declared.SymbolSlot.TheVariants as slot
-use Rattle.symbol_lines.specs.declared.SymbolLines.{SymbolLines}
-use Rattle.symbol_lines.specs.declared.SymbolLines.TheVariants as symbol
 
-abbrev pub told_best : Best → Reply ℕ Told
-told_best best.None = nothing
-told_best (best.Slot i) = gave i
+abbrev pub told_symbol_slot : Result (Option ℕ) Refusal → Reply ℕ Told
+told_symbol_slot = told_reply (λ i. i)
 
-abbrev pub told_symbol_slot : SymbolSlot → Reply ℕ Told
-told_symbol_slot (slot.Best b) = told_best b
-told_symbol_slot (slot.Refused r) = refused (told r)
+-- of the best slot so far, if there is one
+abbrev pub told_best : Option ℕ → Reply ℕ Told
+told_best b = told_symbol_slot (Ok b)
 
-abbrev pub told_symbol : SymbolLines → Reply LineWalk Told
-told_symbol (symbol.Lines w) = gave w
-told_symbol (symbol.Refused r) = refused (told r)
+abbrev pub told_symbol : Result LineWalk Refusal → Reply LineWalk Told
+told_symbol = told_result (λ w. w)

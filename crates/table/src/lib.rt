@@ -11,7 +11,7 @@ ghost use Rattle.find.specs.Told.{told_found};
 ghost use Rattle.table.specs.Table.{spot_in, spot_new, spot_of, word_in};
 ghost use Rattle.table.specs.Told.{told_spot, told_word};
 
-use find::{Found, first_of};
+use find::{Span, first_of};
 use refusal::{LONGEST, Refusal};
 use word::u32_at;
 
@@ -22,32 +22,34 @@ pub enum TableWalk {
     In { start: usize, len: usize, at: usize },
 }
 
-// Where the next record is looked for, inside the area; or no table.
+// Where the next record of a table is looked for: at a place of the body of `len` bytes that starts at `start` and lies in the area.
 #[derive(Clone, Copy)]
-pub enum Spot {
-    At { start: usize, len: usize, at: usize },
-    None,
-    Refused(Refusal),
+pub struct Spot {
+    pub start: usize,
+    pub len: usize,
+    pub at: usize,
 }
 
 // The spot of a walk that goes on: it trusts no state, so the body is held against the area again.
-pub fn spot_in(area: &[u8], start: usize, len: usize, at: usize) -> Spot
+#[tactic(auto, using(crate::specs::TableLaws::spot_long, crate::specs::TableLaws::spot_past, crate::specs::TableLaws::spot_inside))]
+pub fn spot_in(area: &[u8], start: usize, len: usize, at: usize) -> Result<Option<Spot>, Refusal>
     ensures { told_spot result ≡ spot_in area.now start len at }
 {
     if LONGEST < area.len() {
-        return Spot::Refused(Refusal::TooLong);
+        return Err(Refusal::TooLong);
     }
     if area.len() < start {
-        return Spot::Refused(Refusal::Cut);
+        return Err(Refusal::Cut);
     }
     if area.len() - start < len {
-        return Spot::Refused(Refusal::Cut);
+        return Err(Refusal::Cut);
     }
-    Spot::At { start, len, at }
+    Ok(Some(Spot { start, len, at }))
 }
 
 // The spot of a walk over the table that is the first subsection of a kind.
-pub fn spot_first(area: &[u8], kind: u32, walk: TableWalk) -> Spot
+#[tactic(auto, using(crate::specs::TableLaws::spot_new_is, crate::specs::TableLaws::spot_in_is))]
+pub fn spot_first(area: &[u8], kind: u32, walk: TableWalk) -> Result<Option<Spot>, Refusal>
     ensures { told_spot result ≡ spot_of (first_sub crate_rule kind area.now) area.now walk }
 {
     match walk {
@@ -57,41 +59,40 @@ pub fn spot_first(area: &[u8], kind: u32, walk: TableWalk) -> Spot
 }
 
 // The spot of a new walk: the start of the table that was found.
-pub fn spot_new(found: Found) -> Spot
+pub fn spot_new(found: Result<Option<Span>, Refusal>) -> Result<Option<Spot>, Refusal>
     ensures { told_spot result ≡ spot_new (told_found found) }
 {
-    match found {
-        Found::At { start, len } => Spot::At { start, len, at: 0 },
-        Found::None => Spot::None,
-        Found::Refused(why) => Spot::Refused(why),
+    match found? {
+        Some(span) => Ok(Some(Spot {
+            start: span.start,
+            len: span.len,
+            at: 0,
+        })),
+        None => Ok(None),
     }
 }
 
 // A word of a record that answers its words by place and number, as the modules of imports (crate: `CrossScopeImportModule::get`) and the inlinees
 // with their extra files do.
-#[derive(Clone, Copy)]
-pub enum WordAnswer {
-    Word(u32),
-    None,
-    Refused(Refusal),
-}
-
+//
 // The i-th of `count` words that stand from the place `words` of the area on. It trusts no caller, so they are held against the area again. The
 // sum of their place and their bytes may not fit: hence the quotient.
-pub fn word_in(area: &[u8], words: usize, count: usize, i: usize) -> WordAnswer
+#[tactic(auto, using(crate::specs::WordsLaws::word_long, crate::specs::WordsLaws::word_past, crate::specs::WordsLaws::word_none, crate::specs::WordsLaws::word_at))]
+pub fn word_in(area: &[u8], words: usize, count: usize, i: usize) -> Result<Option<u32>, Refusal>
     ensures { told_word result ≡ word_in area.now words count i }
 {
-    if LONGEST < area.len() {
-        return WordAnswer::Refused(Refusal::TooLong);
+    let len = area.len();
+    if LONGEST < len {
+        return Err(Refusal::TooLong);
     }
-    if area.len() < words {
-        return WordAnswer::Refused(Refusal::Cut);
+    if len < words {
+        return Err(Refusal::Cut);
     }
-    if (area.len() - words) / 4 < count {
-        return WordAnswer::Refused(Refusal::Cut);
+    if (len - words) / 4 < count {
+        return Err(Refusal::Cut);
     }
     if count <= i {
-        return WordAnswer::None;
+        return Ok(None);
     }
-    WordAnswer::Word(u32_at(area, words + 4 * i))
+    Ok(Some(u32_at(area, words + 4 * i)))
 }

@@ -10,29 +10,19 @@ ghost use Rattle.text.specs.Told.{told_place};
 
 use refusal::Refusal;
 
-// Where the next piece goes: a place of the buffer; or nowhere, since a piece before it did not fit.
-#[derive(Clone, Copy)]
-pub enum Place {
-    At(usize),
-    Refused(Refusal),
-}
-
-// The place, if n bytes fit there.
-pub fn room(len: usize, place: Place, n: usize) -> Place
+// The place, if n bytes fit there. A place is where the next piece goes in the buffer; or there is none, since a piece before it did not fit.
+#[tactic(auto, using(crate::specs::PageLaws::room_at_lem, crate::specs::PageLaws::room_none, crate::specs::PageLaws::room_stopped))]
+pub fn room(len: usize, place: Result<usize, Refusal>, n: usize) -> Result<usize, Refusal>
     ensures { told_place result ≡ room_at len n (told_place place) }
 {
-    match place {
-        Place::At(at) => {
-            if len < n {
-                return Place::Refused(Refusal::NoRoom);
-            }
-            if len - n < at {
-                Place::Refused(Refusal::NoRoom)
-            } else {
-                Place::At(at)
-            }
-        }
-        Place::Refused(why) => Place::Refused(why),
+    let at = place?;
+    if len < n {
+        return Err(Refusal::NoRoom);
+    }
+    if len - n < at {
+        Err(Refusal::NoRoom)
+    } else {
+        Ok(at)
     }
 }
 
@@ -47,17 +37,18 @@ fn copy(buf: &mut [u8], at: usize, bytes: &[u8])
     }
 }
 
-pub fn put_bytes(buf: &mut [u8], place: Place, bytes: &[u8]) -> Place
+#[tactic(auto, using(crate::specs::PageLaws::room_in, crate::specs::PageLaws::written_none))]
+pub fn put_bytes(
+    buf: &mut [u8],
+    place: Result<usize, Refusal>,
+    bytes: &[u8],
+) -> Result<usize, Refusal>
     ensures { page buf.new (told_place result) ≡ piece_written bytes.now (page buf.old (told_place place)) }
 {
     let n = bytes.len();
-    match room(buf.len(), place, n) {
-        Place::At(at) => {
-            copy(buf, at, bytes);
-            Place::At(at + n)
-        }
-        Place::Refused(why) => Place::Refused(why),
-    }
+    let at = room(buf.len(), place, n)?;
+    copy(buf, at, bytes);
+    Ok(at + n)
 }
 
 fn low(d: u64) -> u8
@@ -74,6 +65,7 @@ fn high(d: u64) -> u8
     87 + (d as u8)
 }
 
+#[tactic(auto, using(crate::specs::TextLaws::glyph_low, crate::specs::TextLaws::glyph_high))]
 fn glyph(d: u64) -> u8
     requires { d < 16 }
     ensures { result ≡ glyphOf d }
@@ -111,27 +103,29 @@ fn spell(buf: &mut [u8], at: usize, n: u64, base: u64, count: usize)
     buf[at] = glyph(m);
 }
 
-fn put_numeral(buf: &mut [u8], place: Place, n: u64, base: u64) -> Place
+#[tactic(auto, using(crate::specs::PageLaws::room_in, crate::specs::PageLaws::written_none))]
+fn put_numeral(
+    buf: &mut [u8],
+    place: Result<usize, Refusal>,
+    n: u64,
+    base: u64,
+) -> Result<usize, Refusal>
     requires { (2 ≤ base) × (base ≤ 16) }
     ensures { page buf.new (told_place result) ≡ piece_written (numeral base n) (page buf.old (told_place place)) }
 {
     let count = digits(n, base);
-    match room(buf.len(), place, count) {
-        Place::At(at) => {
-            spell(buf, at, n, base, count);
-            Place::At(at + count)
-        }
-        Place::Refused(why) => Place::Refused(why),
-    }
+    let at = room(buf.len(), place, count)?;
+    spell(buf, at, n, base, count);
+    Ok(at + count)
 }
 
-pub fn put_decimal(buf: &mut [u8], place: Place, n: u64) -> Place
+pub fn put_decimal(buf: &mut [u8], place: Result<usize, Refusal>, n: u64) -> Result<usize, Refusal>
     ensures { page buf.new (told_place result) ≡ piece_written (decimal n) (page buf.old (told_place place)) }
 {
     put_numeral(buf, place, n, 10)
 }
 
-pub fn put_hex(buf: &mut [u8], place: Place, n: u64) -> Place
+pub fn put_hex(buf: &mut [u8], place: Result<usize, Refusal>, n: u64) -> Result<usize, Refusal>
     ensures { page buf.new (told_place result) ≡ piece_written (hex n) (page buf.old (told_place place)) }
 {
     put_numeral(buf, place, n, 16)
@@ -153,15 +147,16 @@ fn spell_bytes(buf: &mut [u8], at: usize, bytes: &[u8])
 }
 
 // Bytes in hexadecimal, two digits each.
-pub fn put_hex_bytes(buf: &mut [u8], place: Place, bytes: &[u8]) -> Place
+#[tactic(auto, using(crate::specs::PageLaws::room_in, crate::specs::PageLaws::written_none, crate::specs::TextLaws::hex_length))]
+pub fn put_hex_bytes(
+    buf: &mut [u8],
+    place: Result<usize, Refusal>,
+    bytes: &[u8],
+) -> Result<usize, Refusal>
     ensures { page buf.new (told_place result) ≡ piece_written (hex_bytes bytes.now) (page buf.old (told_place place)) }
 {
     let n = 2 * bytes.len();
-    match room(buf.len(), place, n) {
-        Place::At(at) => {
-            spell_bytes(buf, at, bytes);
-            Place::At(at + n)
-        }
-        Place::Refused(why) => Place::Refused(why),
-    }
+    let at = room(buf.len(), place, n)?;
+    spell_bytes(buf, at, bytes);
+    Ok(at + n)
 }

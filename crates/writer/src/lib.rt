@@ -4,7 +4,7 @@
 // decides, on the buffer as it is; the call then writes into the part behind the place, or refuses and changes nothing.
 #![tactic(auto)]
 
-ghost use Rattle.std.specs.Prelude.{◌≡◌, ◌++◌, ◌+◌, ◌-◌, ◌*◌, ◌≤◌, ◌<◌, length, take, drop};
+ghost use Rattle.std.specs.Prelude.{◌≡◌, ◌++◌, ◌+◌, ◌-◌, ◌*◌, ◌≤◌, ◌<◌, length, take, drop, Ok};
 ghost use Rattle.word.specs.Word.{le32, put, store, header};
 ghost use Rattle.reading.specs.Reading.{open_checksums, open_inlinees, open_imports, open_exports, opaque};
 ghost use Rattle.body.specs.Words.{word_bytes};
@@ -20,15 +20,8 @@ use lines::{BLOCK_HEAD, LINE_HEAD};
 use refusal::Refusal;
 use word::{put_u16, put_u32};
 use writer_decides::{
-    Step, block_step, checksum_step, inlinee_step, module_step, opaque_rule, open_step, pair_step,
+    block_step, checksum_step, inlinee_step, module_step, opaque_rule, open_step, pair_step,
 };
-
-// The place behind what is written now, or why nothing was.
-#[derive(Clone, Copy)]
-pub enum Wrote {
-    To(usize),
-    Refused(Refusal),
-}
 
 // ---- writers of bodies, each on the part of the buffer that it is lent
 
@@ -40,6 +33,7 @@ fn put_two(free: &mut [u8], a: u32, b: u32)
     put_u32(free, 4, b);
 }
 
+#[tactic(auto, using(word::specs::WordLaws::header_length, crate::specs::LentLaws::over_u32))]
 fn put_three(free: &mut [u8], a: u32, b: u32, c: u32)
     requires { 12 ≤ length free.old }
     ensures { free.new ≡ over ((le32 a ++ le32 b) ++ le32 c) free.old }
@@ -52,10 +46,8 @@ fn put_words(free: &mut [u8], words: &[u32])
     requires { 4 * length words.now ≤ length free.old }
     ensures { free.new ≡ over (word_bytes words.now) free.old }
 {
-    let mut i: usize = 0;
-    while i < words.len() {
-        put_u32(free, 4 * i, words[i]);
-        i += 1;
+    for (i, word) in words.iter().enumerate() {
+        put_u32(free, 4 * i, *word);
     }
 }
 
@@ -64,10 +56,8 @@ fn copy(bytes: &[u8], free: &mut [u8])
     requires { length bytes.now ≤ length free.old }
     ensures { free.new ≡ take (length bytes.now) bytes.now ++ drop (length bytes.now) free.old }
 {
-    let mut i: usize = 0;
-    while i < bytes.len() {
-        free[i] = bytes[i];
-        i += 1;
+    for (i, byte) in bytes.iter().enumerate() {
+        free[i] = *byte;
     }
 }
 
@@ -130,35 +120,34 @@ fn put_block(free: &mut [u8], file: u32, lines: &[u32], columns: &[u32])
 }
 
 // The last length: its subsection ends at next.
-fn put_length(buf: &mut [u8], header: usize, next: usize) -> Wrote
+fn put_length(buf: &mut [u8], header: usize, next: usize) -> Result<usize, Refusal>
     requires { (header + 8 ≤ next) × (next ≤ 16777216) }
-    ensures value { result ≡ Wrote.To next }
+    ensures value { result ≡ Ok next }
     ensures buf_after { buf.new ≡ store buf.old (header + 4) (le32 (next - header - 8)) }
 {
     put_u32(buf, header + 4, (next - header - 8) as u32);
-    Wrote::To(next)
+    Ok(next)
 }
 
 // ---- the calls
 
 // A new subsection with its first bytes.
-fn open_with(buf: &mut [u8], written: usize, kind: u32, fine: bool, head: &[u8]) -> Wrote
+fn open_with(
+    buf: &mut [u8],
+    written: usize,
+    kind: u32,
+    fine: bool,
+    head: &[u8],
+) -> Result<usize, Refusal>
     ensures result_value { told_wrote result ≡ wrote (open_act fine (8 + length head.now) buf.old written) }
     ensures buf_after { buf.new ≡ kept (open_act fine (8 + length head.now) buf.old written) (λ h m. put buf.old written (header kind (length head.now) ++ head.now)) buf.old }
 {
-    match open_step(buf, written, fine, 8 + head.len()) {
-        Step::Go {
-            header: _,
-            mark: _,
-            next,
-        } => {
-            put_raw(&mut buf[written..], kind, head);
-            Wrote::To(next)
-        }
-        Step::Stop(why) => Wrote::Refused(why),
-    }
+    let go = open_step(buf, written, fine, 8 + head.len())?;
+    put_raw(&mut buf[written..], kind, head);
+    Ok(go.next)
 }
 
+#[tactic(auto, using(writer_decides::specs::CallLaws::opened, crate::specs::LentLaws::head_made))]
 pub fn open_lines(
     buf: &mut [u8],
     written: usize,
@@ -166,7 +155,7 @@ pub fn open_lines(
     section: u16,
     flags: u16,
     code: u32,
-) -> Wrote
+) -> Result<usize, Refusal>
     ensures result_value { told_wrote result ≡ answered (call_lines offset section flags code) buf.old written }
     ensures buf_after { buf.new ≡ buffer_after (call_lines offset section flags code) buf.old written }
 {
@@ -178,7 +167,7 @@ pub fn open_lines(
     open_with(buf, written, LINES, true, &head)
 }
 
-pub fn open_checksums(buf: &mut [u8], written: usize) -> Wrote
+pub fn open_checksums(buf: &mut [u8], written: usize) -> Result<usize, Refusal>
     ensures result_value { told_wrote result ≡ answered open_checksums buf.old written }
     ensures buf_after { buf.new ≡ buffer_after open_checksums buf.old written }
 {
@@ -186,7 +175,8 @@ pub fn open_checksums(buf: &mut [u8], written: usize) -> Wrote
     open_with(buf, written, FILE_CHECKSUMS, true, &none)
 }
 
-pub fn open_inlinees(buf: &mut [u8], written: usize, signature: u32) -> Wrote
+#[tactic(auto, using(writer_decides::specs::CallLaws::opened, crate::specs::LentLaws::signature_made))]
+pub fn open_inlinees(buf: &mut [u8], written: usize, signature: u32) -> Result<usize, Refusal>
     ensures result_value { told_wrote result ≡ answered (open_inlinees signature) buf.old written }
     ensures buf_after { buf.new ≡ buffer_after (open_inlinees signature) buf.old written }
 {
@@ -195,7 +185,7 @@ pub fn open_inlinees(buf: &mut [u8], written: usize, signature: u32) -> Wrote
     open_with(buf, written, INLINEE_LINES, signature <= 1, &head)
 }
 
-pub fn open_imports(buf: &mut [u8], written: usize) -> Wrote
+pub fn open_imports(buf: &mut [u8], written: usize) -> Result<usize, Refusal>
     ensures result_value { told_wrote result ≡ answered open_imports buf.old written }
     ensures buf_after { buf.new ≡ buffer_after open_imports buf.old written }
 {
@@ -203,7 +193,7 @@ pub fn open_imports(buf: &mut [u8], written: usize) -> Wrote
     open_with(buf, written, CROSS_SCOPE_IMPORTS, true, &none)
 }
 
-pub fn open_exports(buf: &mut [u8], written: usize) -> Wrote
+pub fn open_exports(buf: &mut [u8], written: usize) -> Result<usize, Refusal>
     ensures result_value { told_wrote result ≡ answered open_exports buf.old written }
     ensures buf_after { buf.new ≡ buffer_after open_exports buf.old written }
 {
@@ -211,7 +201,7 @@ pub fn open_exports(buf: &mut [u8], written: usize) -> Wrote
     open_with(buf, written, CROSS_SCOPE_EXPORTS, true, &none)
 }
 
-pub fn add_opaque(buf: &mut [u8], written: usize, kind: u32, body: &[u8]) -> Wrote
+pub fn add_opaque(buf: &mut [u8], written: usize, kind: u32, body: &[u8]) -> Result<usize, Refusal>
     ensures result_value { told_wrote result ≡ answered (opaque kind body.now) buf.old written }
     ensures buf_after { buf.new ≡ buffer_after (opaque kind body.now) buf.old written }
 {
@@ -219,38 +209,34 @@ pub fn add_opaque(buf: &mut [u8], written: usize, kind: u32, body: &[u8]) -> Wro
     open_with(buf, written, kind, fine, body)
 }
 
-pub fn add_block(buf: &mut [u8], written: usize, file: u32, lines: &[u32], columns: &[u32]) -> Wrote
+pub fn add_block(
+    buf: &mut [u8],
+    written: usize,
+    file: u32,
+    lines: &[u32],
+    columns: &[u32],
+) -> Result<usize, Refusal>
     ensures result_value { told_wrote result ≡ answered (call_block file lines.now columns.now) buf.old written }
     ensures buf_after { buf.new ≡ buffer_after (call_block file lines.now columns.now) buf.old written }
 {
-    match block_step(buf, written, lines, columns) {
-        Step::Go {
-            header,
-            mark: _,
-            next,
-        } => {
-            put_block(&mut buf[written..], file, lines, columns);
-            put_length(buf, header, next)
-        }
-        Step::Stop(why) => Wrote::Refused(why),
-    }
+    let go = block_step(buf, written, lines, columns)?;
+    put_block(&mut buf[written..], file, lines, columns);
+    put_length(buf, go.header, go.next)
 }
 
-pub fn add_checksum(buf: &mut [u8], written: usize, name: u32, kind: u8, bytes: &[u8]) -> Wrote
+pub fn add_checksum(
+    buf: &mut [u8],
+    written: usize,
+    name: u32,
+    kind: u8,
+    bytes: &[u8],
+) -> Result<usize, Refusal>
     ensures result_value { told_wrote result ≡ answered (call_checksum name kind bytes.now) buf.old written }
     ensures buf_after { buf.new ≡ buffer_after (call_checksum name kind bytes.now) buf.old written }
 {
-    match checksum_step(buf, written, kind, bytes) {
-        Step::Go {
-            header,
-            mark: _,
-            next,
-        } => {
-            put_checksum(&mut buf[written..], name, kind, bytes);
-            put_length(buf, header, next)
-        }
-        Step::Stop(why) => Wrote::Refused(why),
-    }
+    let go = checksum_step(buf, written, kind, bytes)?;
+    put_checksum(&mut buf[written..], name, kind, bytes);
+    put_length(buf, go.header, go.next)
 }
 
 pub fn add_inlinee(
@@ -260,49 +246,34 @@ pub fn add_inlinee(
     file: u32,
     line: u32,
     extra: &[u32],
-) -> Wrote
+) -> Result<usize, Refusal>
     ensures result_value { told_wrote result ≡ answered (call_inlinee inlinee file line extra.now) buf.old written }
     ensures buf_after { buf.new ≡ buffer_after (call_inlinee inlinee file line extra.now) buf.old written }
 {
-    match inlinee_step(buf, written, extra) {
-        Step::Go { header, mark, next } => {
-            put_inlinee(&mut buf[written..], mark, inlinee, file, line, extra);
-            put_length(buf, header, next)
-        }
-        Step::Stop(why) => Wrote::Refused(why),
-    }
+    let go = inlinee_step(buf, written, extra)?;
+    put_inlinee(&mut buf[written..], go.mark, inlinee, file, line, extra);
+    put_length(buf, go.header, go.next)
 }
 
-pub fn add_module(buf: &mut [u8], written: usize, name: u32, words: &[u32]) -> Wrote
+pub fn add_module(
+    buf: &mut [u8],
+    written: usize,
+    name: u32,
+    words: &[u32],
+) -> Result<usize, Refusal>
     ensures result_value { told_wrote result ≡ answered (call_module name words.now) buf.old written }
     ensures buf_after { buf.new ≡ buffer_after (call_module name words.now) buf.old written }
 {
-    match module_step(buf, written, words) {
-        Step::Go {
-            header,
-            mark: _,
-            next,
-        } => {
-            put_module(&mut buf[written..], name, words);
-            put_length(buf, header, next)
-        }
-        Step::Stop(why) => Wrote::Refused(why),
-    }
+    let go = module_step(buf, written, words)?;
+    put_module(&mut buf[written..], name, words);
+    put_length(buf, go.header, go.next)
 }
 
-pub fn add_pair(buf: &mut [u8], written: usize, local: u32, global: u32) -> Wrote
+pub fn add_pair(buf: &mut [u8], written: usize, local: u32, global: u32) -> Result<usize, Refusal>
     ensures result_value { told_wrote result ≡ answered (call_pair local global) buf.old written }
     ensures buf_after { buf.new ≡ buffer_after (call_pair local global) buf.old written }
 {
-    match pair_step(buf, written, local) {
-        Step::Go {
-            header,
-            mark: _,
-            next,
-        } => {
-            put_two(&mut buf[written..], local, global);
-            put_length(buf, header, next)
-        }
-        Step::Stop(why) => Wrote::Refused(why),
-    }
+    let go = pair_step(buf, written, local)?;
+    put_two(&mut buf[written..], local, global);
+    put_length(buf, go.header, go.next)
 }

@@ -26,8 +26,8 @@ plain_spec =
     (λ c. search rules)
     (λ c. search rules)
     (λ c.
-    let p = ap told_plain (sym c.in-Yes.is) ∙ c.is_plain.ensures in
+    let p = ap told_plain (sym c.in-Some.is) ∙ c.is_plain.ensures in
     gives_as (λ (g : Given). g) (ap last_given p ∙ plain_short _ (omega arith)) c.put.ensures)
     (λ c.
-    let p = ap told_plain (sym c.in-No.is) ∙ c.is_plain.ensures in
+    let p = ap told_plain (sym c.in-None.is) ∙ c.is_plain.ensures in
     gives_as (λ (g : Given). g) (ap last_given p ∙ plain_short _ (omega arith)) (gives_none _)))

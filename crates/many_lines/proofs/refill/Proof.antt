@@ -1,7 +1,6 @@
 -- `many_lines::refill` meets its contract: many turns at once, and turn by turn what they leave.
 -- Assumes nothing.
 use borrow.Author.Rules.{rules}
-use native.Mathlib.Omega.{arith}
 use Rattle.kinds.specs.Kind.{crate_rule}
 use Rattle.many_lines.specs.BodiesLaws.{refilled}
 use Rattle.many_lines.proofs.refill.Statement.{statement}

@@ -3,10 +3,10 @@ use Rattle.std.proofs.Common.{refl, arith, rules, ◌+◌, ◌≤◌, length}
 use Rattle.modi.specs.ModiLaws.{lines_in}
 use Rattle.replay.proofs.on_lines_part.Goals as goal
 
-pub overflow_add-start : goal.overflow_add-start
-overflow_add-start g c = omega (arith, lines_in _ _ refl c.in-At.ensures)
+pub overflow_add-part : goal.overflow_add-part
+overflow_add-part g c = omega (arith, lines_in _ _ refl c.in-Ok.ensures)
 
 pub slice_bounds-area_answer-end : goal.slice_bounds-area_answer-end
 slice_bounds-area_answer-end g c =
-    let within : c.in-At.start + c.in-At.len ≤ length c.args.stream.now = lines_in _ _ refl c.in-At.ensures in
+    let within : c.in-Ok.part.start + c.in-Ok.part.len ≤ length c.args.stream.now = lines_in _ _ refl c.in-Ok.ensures in
     search rules

@@ -1,0 +1,7 @@
+-- `records` is what it was with the first i words copied in at the place.
+use Rattle.std.proofs.Common.{◌≡◌}
+use lib.Seq.{paste}
+use Rattle.answer_words.proofs.put32.Given as goal
+
+abbrev pub invariant-loop-i : goal.invariant-loop-i
+invariant-loop-i l = l.records ≡ paste l.fn.records l.at l.words l.i
