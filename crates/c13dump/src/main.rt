@@ -4,7 +4,7 @@
 // The exit status is 0, 1 or 2, as WHOLE, REFUSED and FAULT say (docs/DECISIONS.md, 40).
 #![tactic(auto)]
 
-ghost use Rattle.std.specs.Prelude.{◌≤◌, length};
+ghost use Rattle.std.specs.Prelude.{◌≤◌, length, IfOk};
 
 use listing::MOST;
 use std::env::{Env, FillError};
@@ -30,34 +30,19 @@ const NAME_TOO_LONG: i32 = 36;
 // Standard output, as a file to open once more.
 const OUTPUT: &str = "/proc/self/fd/1";
 
-// What was read of an input, and whether it was read to its end or as far as there is room, or why not.
-#[derive(Clone, Copy)]
-struct Input {
-    len: usize,
-    read: io::Result<()>,
-}
-
-fn read_all<R: Read>(file: &mut R, area: &mut [u8]) -> Input
-    ensures { result.len ≤ length area.new }
+// Reads an input to its end or as far as there is room: how many bytes there are.
+fn read_all<R: Read>(file: &mut R, area: &mut [u8]) -> io::Result<usize>
+    ensures { IfOk result (λ len. len ≤ length area.new) }
 {
     let mut len: usize = 0;
     while len < area.len() {
-        let got = file.read(&mut area[len..]);
-        let more = match got {
-            Ok(more) => more,
-            Err(why) => {
-                return Input {
-                    len,
-                    read: Err(why),
-                };
-            }
-        };
+        let more = file.read(&mut area[len..])?;
         if more == 0 {
-            return Input { len, read: Ok(()) };
+            return Ok(len);
         }
         len += more;
     }
-    Input { len, read: Ok(()) }
+    Ok(len)
 }
 
 // A line on standard error, of parts. What cannot be said there cannot be said.
@@ -123,20 +108,17 @@ fn taken(rt: &HostRuntime, written: io::Result<()>, status: u8) -> u8 {
 
 fn sheet<R: Read>(rt: &HostRuntime, file: &mut R, name: &[u8]) -> u8 {
     let mut area = [0u8; 65537];
-    let input = read_all(file, &mut area);
-    if let Err(why) = input.read {
-        return failed(rt, name, why);
-    }
-    let len = input.len;
+    let len = match read_all(file, &mut area) {
+        Ok(len) => len,
+        Err(why) => return failed(rt, name, why),
+    };
     let printed = dump::print(rt, &area[..len]);
     if !printed.refused {
         return taken(rt, printed.written, WHOLE);
     }
     let status = taken(rt, printed.written, REFUSED);
-    if MOST < len {
-        if status == REFUSED {
-            too_long(rt, name);
-        }
+    if MOST < len && status == REFUSED {
+        too_long(rt, name);
     }
     status
 }

@@ -102,19 +102,15 @@ fn kind_text(rt: &impl Print, k: LineKind) -> io::Result<()> {
 
 // Where it is asked for, the position of the body stands behind the kind.
 fn record(rt: &impl Print, r: LineRecord, positions: bool) -> io::Result<()> {
-    let l = r.length;
-    let s = r.column_start;
-    let e = r.column_end;
-    let k = r.kind;
     say(rt, b"line ")?;
     place(rt, r.section, r.offset)?;
-    if_any(rt, l)?;
+    if_any(rt, r.length)?;
     spaced(rt, r.file as u64)?;
     spaced(rt, r.start_line as u64)?;
     spaced(rt, r.end_line as u64)?;
-    if_any(rt, s)?;
-    if_any(rt, e)?;
-    kind_text(rt, k)?;
+    if_any(rt, r.column_start)?;
+    if_any(rt, r.column_end)?;
+    kind_text(rt, r.kind)?;
     if positions {
         say(rt, b" @")?;
         decimal(rt, r.body as u64)?;
@@ -155,10 +151,8 @@ fn flags_line(rt: &impl Print, flags: u32) -> io::Result<()> {
 }
 
 fn flags_lines(rt: &impl Print, list: &[u8], count: u32) -> io::Result<()> {
-    let mut i: u32 = 0;
-    while i < count {
+    for i in 0..count {
         flags_line(rt, u32_at(list, 4 + 4 * (i as usize)))?;
-        i += 1;
     }
     Ok(())
 }
@@ -166,8 +160,7 @@ fn flags_lines(rt: &impl Print, list: &[u8], count: u32) -> io::Result<()> {
 // ---- cases
 
 fn slots_text(rt: &impl Print, call: Call) -> io::Result<()> {
-    let what = call.what;
-    match what {
+    match call.what {
         NO_SLOTS => say(rt, b" slots=-"),
         ONE_SLOT => {
             say(rt, b" slots=")?;
@@ -191,8 +184,7 @@ fn at_text(rt: &impl Print, positions: bool) -> io::Result<()> {
 }
 
 fn call_text(rt: &impl Print, call: Call) -> io::Result<()> {
-    let what = call.what;
-    match what {
+    match call.what {
         LINES | NO_SLOTS | ONE_SLOT | TWO_SLOTS => {
             say(rt, b" lines")?;
             at_text(rt, call.positions)?;
@@ -221,18 +213,17 @@ fn reading_text(rt: &impl Print, how: EndLines) -> io::Result<()> {
 
 // The line that names a case and a call. A sheet has one reading of end lines, which is not named.
 fn case_line(rt: &impl Print, case: Case, call: Call) -> io::Result<()> {
-    let how = call.how;
     say(rt, b"case ")?;
     say(rt, &[case.letter])?;
     decimal(rt, case.number as u64)?;
     call_text(rt, call)?;
     if call.what <= SYMBOL {
-        reading_text(rt, how)?;
+        reading_text(rt, call.how)?;
     }
     say(rt, b"\n")
 }
 
-// A line for each step. A proved loop has to end, so it counts its turns down, from a number that no run uses up.
+// A line for each step. A proved loop has to end, so it has a number of turns that no run uses up.
 fn walk_lines(
     rt: &impl Print,
     area: &[u8],
@@ -241,8 +232,7 @@ fn walk_lines(
     positions: bool,
 ) -> io::Result<()> {
     let mut walk = first;
-    let mut turns = u64::MAX;
-    while turns > 0 {
+    for _ in 0..u64::MAX {
         match next_line(area, slots, walk) {
             Ok(Some((r, next))) => {
                 record(rt, r, positions)?;
@@ -255,14 +245,12 @@ fn walk_lines(
                 return refused(rt, why);
             }
         }
-        turns -= 1;
     }
     Ok(())
 }
 
 fn symbol(rt: &impl Print, area: &[u8], slots: &[u32], call: Call) -> io::Result<()> {
-    let how = call.how;
-    match lines_for_symbol(area, slots, &[], call.section, call.second, how) {
+    match lines_for_symbol(area, slots, &[], call.section, call.second, call.how) {
         Ok(walk) => walk_lines(rt, area, slots, walk, call.positions),
         Err(why) => refused(rt, why),
     }
@@ -270,22 +258,15 @@ fn symbol(rt: &impl Print, area: &[u8], slots: &[u32], call: Call) -> io::Result
 
 // No case has as many line subsections as there are slots here. Where the order list is refused the slots stay 0, and the walk is refused alike.
 fn answer(rt: &impl Print, area: &[u8], call: Call) -> io::Result<()> {
-    let what = call.what;
-    let how = call.how;
+    let first = LineWalk::New(call.how);
     let positions = call.positions;
     let mut slots = [0u32; 32];
     let _ = order_list(area, &mut slots);
-    match what {
-        LINES => walk_lines(rt, area, &slots, LineWalk::New(how), positions),
-        NO_SLOTS => walk_lines(rt, area, &[], LineWalk::New(how), positions),
-        ONE_SLOT => walk_lines(rt, area, &[call.first], LineWalk::New(how), positions),
-        TWO_SLOTS => walk_lines(
-            rt,
-            area,
-            &[call.first, call.second],
-            LineWalk::New(how),
-            positions,
-        ),
+    match call.what {
+        LINES => walk_lines(rt, area, &slots, first, positions),
+        NO_SLOTS => walk_lines(rt, area, &[], first, positions),
+        ONE_SLOT => walk_lines(rt, area, &[call.first], first, positions),
+        TWO_SLOTS => walk_lines(rt, area, &[call.first, call.second], first, positions),
         SYMBOL => symbol(rt, area, &slots, call),
         _ => { dump::print(rt, area).written }
     }
@@ -312,44 +293,36 @@ fn call_of(call: &[u8]) -> Call {
 }
 
 fn answer_each(rt: &impl Print, area: &[u8], calls: &[u8], case: Case) -> io::Result<()> {
-    let mut at: usize = 0;
-    while calls.len() - at >= CALL {
-        let end = at + CALL;
-        let call = call_of(&calls[at..end]);
+    for bytes in calls.chunks_exact(CALL) {
+        let call = call_of(bytes);
         case_line(rt, case, call)?;
         answer(rt, area, call)?;
-        at = end;
     }
     Ok(())
 }
 
 fn answers(rt: &impl Print, list: &[u8]) -> io::Result<()> {
-    let mut at: usize = 0;
-    while list.len() - at >= CASE_HEAD {
-        let start = at + CASE_HEAD;
-        let head = &list[at..start];
-        let calls = start + (u16_at(head, 3) as usize);
-        let end = calls + CALL * (u8_at(head, 5) as usize);
-        if list.len() < end {
+    let mut left = list;
+    while let Some((head, behind)) = left.split_first_chunk::<CASE_HEAD>() {
+        let Some((area, behind)) = behind.split_at_checked(u16_at(head, 3) as usize) else {
             return Ok(());
-        }
+        };
+        let Some((calls, next)) = behind.split_at_checked(CALL * (u8_at(head, 5) as usize)) else {
+            return Ok(());
+        };
         let case = Case {
             letter: u8_at(head, 0),
             number: u16_at(head, 1),
         };
-        answer_each(rt, &list[start..calls], &list[calls..end], case)?;
-        at = end;
+        answer_each(rt, area, calls, case)?;
+        left = next;
     }
     Ok(())
 }
 
 // All of the list behind the flags words.
 fn behind_flags(list: &[u8], count: u32) -> &[u8] {
-    let start = 4 + 4 * (count as usize);
-    if list.len() < start {
-        return &list[..0];
-    }
-    &list[start..]
+    list.get(4 + 4 * (count as usize)..).unwrap_or(&[])
 }
 
 fn main(rt: HostRuntime) -> io::Result<()> {

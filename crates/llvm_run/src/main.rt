@@ -6,22 +6,18 @@
 
 use std::io;
 use std::io::Read;
-use word::u32_at;
 
 // No input is longer: what is behind so many bytes is not read.
 const INPUT: u64 = 4096;
 
 fn print_all(rt: &impl Print, input: &[u8]) -> io::Result<()> {
-    let mut at: usize = 0;
-    while input.len() - at >= 4 {
-        let len = u32_at(input, at) as usize;
-        let start = at + 4;
-        if input.len() - start < len {
+    let mut left = input;
+    while let Some((len, behind)) = left.split_first_chunk::<4>() {
+        let Some((area, next)) = behind.split_at_checked(u32::from_le_bytes(*len) as usize) else {
             return Ok(());
-        }
-        let end = start + len;
-        dump::print(rt, &input[start..end]).written?;
-        at = end;
+        };
+        dump::print(rt, area).written?;
+        left = next;
     }
     Ok(())
 }

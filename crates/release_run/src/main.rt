@@ -37,8 +37,8 @@ enum Call {
 }
 
 // A call's numbers: which call it is, how many numbers it has, and these.
-#[derive(Clone, Copy)]
-struct Numbers(usize, u32, u32, u32, u32, u32);
+#[derive(Clone, Copy, PartialEq)]
+struct Numbers(usize, usize, [u32; 4]);
 
 // A call's lists: its words, its columns and its bytes.
 #[derive(Clone, Copy)]
@@ -121,26 +121,26 @@ fn last_call_at(i: usize) -> Call {
 fn numbers_of(call: Call) -> Numbers {
     match call {
         Call::OpenLines(offset, section, flags, code) => {
-            Numbers(0, 4, offset, section as u32, flags as u32, code)
+            Numbers(0, 4, [offset, section as u32, flags as u32, code])
         }
-        Call::Block(file, _, _, _, _) => Numbers(1, 1, file, 0, 0, 0),
-        Call::OpenChecksums => Numbers(2, 0, 0, 0, 0, 0),
-        Call::Checksum(name, kind, _, _) => Numbers(3, 2, name, kind as u32, 0, 0),
-        Call::OpenInlinees(signature) => Numbers(4, 1, signature, 0, 0, 0),
-        Call::Inlinee(inlinee, file, line, _, _) => Numbers(5, 3, inlinee, file, line, 0),
-        Call::OpenImports => Numbers(6, 0, 0, 0, 0, 0),
-        Call::Module(name, _, _) => Numbers(7, 1, name, 0, 0, 0),
-        Call::OpenExports => Numbers(8, 0, 0, 0, 0, 0),
-        Call::Pair(local, global) => Numbers(9, 2, local, global, 0, 0),
-        Call::Opaque(kind, _, _) => Numbers(10, 1, kind, 0, 0, 0),
+        Call::Block(file, _, _, _, _) => Numbers(1, 1, [file, 0, 0, 0]),
+        Call::OpenChecksums => Numbers(2, 0, [0, 0, 0, 0]),
+        Call::Checksum(name, kind, _, _) => Numbers(3, 2, [name, kind as u32, 0, 0]),
+        Call::OpenInlinees(signature) => Numbers(4, 1, [signature, 0, 0, 0]),
+        Call::Inlinee(inlinee, file, line, _, _) => Numbers(5, 3, [inlinee, file, line, 0]),
+        Call::OpenImports => Numbers(6, 0, [0, 0, 0, 0]),
+        Call::Module(name, _, _) => Numbers(7, 1, [name, 0, 0, 0]),
+        Call::OpenExports => Numbers(8, 0, [0, 0, 0, 0]),
+        Call::Pair(local, global) => Numbers(9, 2, [local, global, 0, 0]),
+        Call::Opaque(kind, _, _) => Numbers(10, 1, [kind, 0, 0, 0]),
     }
 }
 
 fn numbers_in(item: Result<Option<Call>, Refusal>) -> Numbers {
     match item {
         Ok(Some(call)) => numbers_of(call),
-        Ok(None) => Numbers(11, 0, 0, 0, 0, 0),
-        Err(_) => Numbers(12, 0, 0, 0, 0, 0),
+        Ok(None) => Numbers(11, 0, [0, 0, 0, 0]),
+        Err(_) => Numbers(12, 0, [0, 0, 0, 0]),
     }
 }
 
@@ -162,10 +162,6 @@ fn lists_in(item: Result<Option<Call>, Refusal>) -> Lists {
     }
 }
 
-fn equal(a: Numbers, b: Numbers) -> bool {
-    (a.0 == b.0) & (a.2 == b.2) & (a.3 == b.3) & (a.4 == b.4) & (a.5 == b.5)
-}
-
 // ---- text
 
 fn say(rt: &impl Print, text: &[u8]) -> io::Result<()> {
@@ -178,20 +174,15 @@ fn word(rt: &impl Print, n: u32) -> io::Result<()> {
 
 // The first bytes, or all where there are fewer.
 fn start_of(bytes: &[u8], len: usize) -> &[u8] {
-    if len <= bytes.len() {
-        return &bytes[..len];
-    }
-    bytes
+    bytes.get(..len).unwrap_or(bytes)
 }
 
 // The words from a place on, or all where there are fewer.
 fn part_of(words: &[u32], from: usize, count: usize) -> &[u32] {
-    if from <= words.len() {
-        if count <= words.len() - from {
-            return &words[from..from + count];
-        }
-    }
     words
+        .get(from..)
+        .and_then(|behind| behind.get(..count))
+        .unwrap_or(words)
 }
 
 // A name in 15 bytes.
@@ -213,17 +204,8 @@ fn name(rt: &impl Print, which: usize) -> io::Result<()> {
 
 fn said(rt: &impl Print, n: Numbers) -> io::Result<()> {
     name(rt, n.0)?;
-    if 0 < n.1 {
-        word(rt, n.2)?;
-    }
-    if 1 < n.1 {
-        word(rt, n.3)?;
-    }
-    if 2 < n.1 {
-        word(rt, n.4)?;
-    }
-    if 3 < n.1 {
-        word(rt, n.5)?;
+    for w in n.2.iter().take(n.1) {
+        word(rt, *w)?;
     }
     Ok(())
 }
@@ -343,26 +325,20 @@ fn write(
     answered(rt, at, make(buf, at, call, lines, columns, body))
 }
 
-// The accepted calls, a bit each. A call that is accepted moves the place.
+// Which calls were accepted. A call that is accepted moves the place.
 fn write_all(
     rt: &impl Print,
     buf: &mut [u8; ROOM],
     words: &[u32],
     bytes: &[u8],
-) -> io::Result<u64> {
-    let mut accepted = 0;
-    let mut bit = 1;
+) -> io::Result<[bool; CALLS]> {
+    let mut accepted = [false; CALLS];
     let mut at = 0;
-    let mut i = 0;
-    while i < CALLS {
+    for i in 0..CALLS {
         let next = write(rt, buf, at, call_at(i), words, bytes)?;
         say(rt, b"\n")?;
-        if at < next {
-            accepted = accepted | bit;
-        }
+        accepted[i] = at < next;
         at = next;
-        bit = std::num::wrapping_add_u64(bit, bit);
-        i += 1;
     }
     Ok(accepted)
 }
@@ -370,7 +346,7 @@ fn write_all(
 // ---- the second time
 
 fn block_of(file: u32, count: usize, lines: usize, columns: Option<usize>) -> Call {
-    let words = std::num::wrapping_add_usize(count, count);
+    let words = count.wrapping_add(count);
     match columns {
         Some(at) => Call::Block(file, lines, words, at, count),
         None => Call::Block(file, lines, words, 0, 0),
@@ -421,13 +397,6 @@ fn item_at(area: &[u8], walk: ItemWalk) -> Step {
     }
 }
 
-fn same_word(words: &[u32], i: usize, word: u32) -> bool {
-    if i < words.len() {
-        return words[i] == word;
-    }
-    false
-}
-
 fn read_word(
     rt: &impl Print,
     area: &[u8],
@@ -440,7 +409,7 @@ fn read_word(
         return Ok(false);
     };
     word(rt, w)?;
-    Ok(same_word(words, i, w))
+    Ok(words.get(i) == Some(&w))
 }
 
 // The words of an item, and whether they are those of the call.
@@ -453,10 +422,8 @@ fn read_list(
 ) -> io::Result<bool> {
     slash(rt, count)?;
     let mut same = count == words.len();
-    let mut i = 0;
-    while i < count {
-        same = same & read_word(rt, area, at, count, i, words)?;
-        i += 1;
+    for i in 0..count {
+        same &= read_word(rt, area, at, count, i, words)?;
     }
     Ok(same)
 }
@@ -505,30 +472,25 @@ fn read(
     let numbers = numbers_in(item);
     said(rt, numbers)?;
     let same = read_lists(rt, area, lists_in(item), lists_in(Ok(call)), words, bytes)?;
-    told(rt, same & equal(numbers, numbers_in(Ok(call))))
+    told(rt, same & (numbers == numbers_in(Ok(call))))
 }
 
 // Whether the items are the accepted calls, and nothing comes behind them.
 fn read_all(
     rt: &impl Print,
     area: &[u8],
-    accepted: u64,
+    accepted: &[bool; CALLS],
     words: &[u32],
     bytes: &[u8],
 ) -> io::Result<bool> {
     let mut same = true;
     let mut walk = ItemWalk::new();
-    let mut bit = 1;
-    let mut i = 0;
-    while i < CALLS {
-        if accepted & bit != 0 {
-            let step = item_at(area, walk);
-            let item = step.0;
-            same = same & read(rt, area, item, Some(call_at(i)), words, bytes)?;
-            walk = step.1;
+    for i in 0..CALLS {
+        if accepted[i] {
+            let Step(item, next) = item_at(area, walk);
+            same &= read(rt, area, item, Some(call_at(i)), words, bytes)?;
+            walk = next;
         }
-        bit = std::num::wrapping_add_u64(bit, bit);
-        i += 1;
     }
     let behind = item_at(area, walk).0;
     Ok(same & read(rt, area, behind, None, words, bytes)?)
@@ -536,20 +498,11 @@ fn read_all(
 
 // ---- what is printed behind the calls and the items
 
-// A row of at most 32 bytes.
-fn row(rt: &impl Print, area: &[u8], at: usize) -> io::Result<()> {
-    if at < area.len() {
-        hex(rt, start_of(&area[at..], 32))?;
-        say(rt, b"\n")?;
-    }
-    Ok(())
-}
-
+// Rows of at most 32 bytes.
 fn bytes_of(rt: &impl Print, area: &[u8]) -> io::Result<()> {
-    let mut i = 0;
-    while i <= area.len() / 32 {
-        row(rt, area, 32 * i)?;
-        i += 1;
+    for row in area.chunks(32) {
+        hex(rt, row)?;
+        say(rt, b"\n")?;
     }
     Ok(())
 }
@@ -557,7 +510,7 @@ fn bytes_of(rt: &impl Print, area: &[u8]) -> io::Result<()> {
 // The whole release: the words and bytes are what the calls take their lists from.
 fn release(rt: &impl Print, buf: &mut [u8; ROOM], words: &[u32], bytes: &[u8]) -> io::Result<()> {
     let accepted = write_all(rt, buf, words, bytes)?;
-    if read_all(rt, buf, accepted, words, bytes)? {
+    if read_all(rt, buf, &accepted, words, bytes)? {
         say(rt, b"the items are the accepted calls, one for one\n")?;
     } else {
         say(rt, b"THE ITEMS ARE NOT THE ACCEPTED CALLS\n")?;

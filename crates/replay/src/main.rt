@@ -21,7 +21,6 @@ use order::order_list;
 use refusal::Refusal;
 use std::io;
 use std::io::Read;
-use std::num::wrapping_add_u8;
 use strings::{name_at, name_bytes, string_table};
 use symbol_lines::lines_for_symbol;
 use table::{TableWalk, word_in};
@@ -123,13 +122,8 @@ fn dash(rt: &impl Print) -> io::Result<()> {
 
 // A part of a slice; the empty one where it does not lie there.
 fn part(all: &[u8], start: usize, len: usize) -> &[u8] {
-    if all.len() < start {
-        return &all[..0];
-    }
-    if all.len() - start < len {
-        return &all[..0];
-    }
-    &all[start..start + len]
+    let behind = all.get(start..).unwrap_or(&[]);
+    behind.get(..len).unwrap_or(&[])
 }
 
 // A term: each has its length in front and takes eight bytes.
@@ -197,34 +191,28 @@ fn line_kind(rt: &impl Print, k: LineKind) -> io::Result<()> {
 }
 
 fn record(rt: &impl Print, r: LineRecord) -> io::Result<()> {
-    let l = r.length;
-    let s = r.column_start;
-    let e = r.column_end;
-    let k = r.kind;
     place(rt, r.section, r.offset)?;
-    if_any(rt, l)?;
+    if_any(rt, r.length)?;
     spaced(rt, r.file as u64)?;
     spaced(rt, r.start_line as u64)?;
     spaced(rt, r.end_line as u64)?;
-    if_any(rt, s)?;
-    if_any(rt, e)?;
-    line_kind(rt, k)?;
+    if_any(rt, r.column_start)?;
+    if_any(rt, r.column_end)?;
+    line_kind(rt, r.kind)?;
     put(rt, b'\n')
 }
 
 // A file's name and checksum.
 fn entry_text(rt: &impl Print, area: &[u8], entry: Entry) -> io::Result<()> {
-    let kind = entry.kind;
     spaced(rt, entry.name as u64)?;
-    spaced_term(rt, wrapping_add_u8(NONE, kind_number(kind)))?;
+    spaced_term(rt, NONE.wrapping_add(kind_number(entry.kind)))?;
     bytes_text(rt, checksum_bytes(area, entry.start, entry.len))
 }
 
 // What is asked, at the head of a line.
 fn head(rt: &impl Print, call: Call) -> io::Result<()> {
-    let number = call.number;
-    term(rt, number)?;
-    match number {
+    term(rt, call.number)?;
+    match call.number {
         0..=11 => Ok(()),
         SYM => place(rt, call.section, call.word),
         RESOLVE | LOOKUP => spaced_hex(rt, call.word as u64),
@@ -239,7 +227,7 @@ fn refused_line(rt: &impl Print, call: Call, why: Refusal) -> io::Result<()> {
     put(rt, b'\n')
 }
 
-// ---- walks, a line for each step. A proved loop has to end, so it counts its turns down, from a number that no run uses up.
+// ---- walks, a line for each step. A proved loop has to end, so it has a number of turns that no run uses up.
 
 // A step over a table: if its line was written, the walk behind its record, or none where there is no record, or a refusal.
 fn file_step(
@@ -286,13 +274,11 @@ fn words(rt: &impl Print, area: &[u8], at: usize, count: usize, in_hex: bool) ->
     } else {
         put(rt, b' ')?;
     }
-    let mut i: usize = 0;
-    while i < count {
+    for i in 0..count {
         if 0 < i {
             put(rt, b',')?;
         }
         word_text(rt, word_in(area, at, count, i), in_hex)?;
-        i += 1;
     }
     put(rt, b'\n')
 }
@@ -384,8 +370,7 @@ fn table_step(
 
 fn table_walk(rt: &impl Print, area: &[u8], number: u8) -> io::Result<()> {
     let mut walk = TableWalk::New;
-    let mut turns = u64::MAX;
-    while turns > 0 {
+    for _ in 0..u64::MAX {
         match table_step(rt, area, number, walk)? {
             Ok(Some(next)) => {
                 walk = next;
@@ -400,15 +385,13 @@ fn table_walk(rt: &impl Print, area: &[u8], number: u8) -> io::Result<()> {
                 return put(rt, b'\n');
             }
         }
-        turns -= 1;
     }
     Ok(())
 }
 
 fn sub_walk(rt: &impl Print, area: &[u8]) -> io::Result<()> {
     let mut at: usize = 0;
-    let mut turns = u64::MAX;
-    while turns > 0 {
+    for _ in 0..u64::MAX {
         term(rt, SUB)?;
         match sub_at(area, at) {
             Ok(Some((sub, next))) => {
@@ -426,7 +409,6 @@ fn sub_walk(rt: &impl Print, area: &[u8]) -> io::Result<()> {
                 return put(rt, b'\n');
             }
         }
-        turns -= 1;
     }
     Ok(())
 }
@@ -439,8 +421,7 @@ fn line_walk(
     first: LineWalk,
 ) -> io::Result<()> {
     let mut walk = first;
-    let mut turns = u64::MAX;
-    while turns > 0 {
+    for _ in 0..u64::MAX {
         head(rt, call)?;
         match next_line(area, slots, walk) {
             Ok(Some((r, next))) => {
@@ -455,7 +436,6 @@ fn line_walk(
                 return put(rt, b'\n');
             }
         }
-        turns -= 1;
     }
     Ok(())
 }
@@ -475,18 +455,12 @@ fn lines(rt: &impl Print, area: &[u8], call: Call) -> io::Result<()> {
 
 // ---- answers of one line
 
-fn slot(rt: &impl Print, s: u32) -> io::Result<()> {
-    spaced(rt, s as u64)
-}
-
 fn slots_text(rt: &impl Print, slots: &[u32], n: usize) -> io::Result<()> {
     if n == 0 {
         dash(rt)?;
     }
-    let mut i: usize = 0;
-    while i < n && i < slots.len() {
-        slot(rt, slots[i])?;
-        i += 1;
+    for s in slots.iter().take(n) {
+        spaced(rt, *s as u64)?;
     }
     Ok(())
 }
@@ -564,9 +538,8 @@ fn name_answer(rt: &impl Print, stream: &[u8], offset: u32) -> io::Result<()> {
 
 // The answers of one line, of an area.
 fn area_line(rt: &impl Print, area: &[u8], call: Call) -> io::Result<()> {
-    let number = call.number;
     head(rt, call)?;
-    match number {
+    match call.number {
         ORDER => order_answer(rt, area, true)?,
         PROGRAM => order_answer(rt, area, false)?,
         INFO => file_answer(rt, area, call.word)?,
@@ -579,9 +552,8 @@ fn area_line(rt: &impl Print, area: &[u8], call: Call) -> io::Result<()> {
 
 // The answers of one line, of a stream as a whole: a module's, or a string table.
 fn stream_line(rt: &impl Print, stream: &[u8], sizes: ModuleSizes, call: Call) -> io::Result<()> {
-    let number = call.number;
     head(rt, call)?;
-    match number {
+    match call.number {
         SYMBOLS => symbols_answer(rt, stream, sizes)?,
         TABLE => table_answer(rt, stream)?,
         _ => name_answer(rt, stream, call.word)?,
@@ -591,10 +563,9 @@ fn stream_line(rt: &impl Print, stream: &[u8], sizes: ModuleSizes, call: Call) -
 
 // The answer of a call on an area.
 fn area_answer(rt: &impl Print, area: &[u8], call: Call) -> io::Result<()> {
-    let number = call.number;
-    match number {
+    match call.number {
         LINE | SYM => lines(rt, area, call),
-        FILE | INLINEE | IMPORT | IMPORT_REFUSED | EXPORT => table_walk(rt, area, number),
+        FILE | INLINEE | IMPORT | IMPORT_REFUSED | EXPORT => table_walk(rt, area, call.number),
         _ => area_line(rt, area, call),
     }
 }
@@ -621,8 +592,7 @@ fn on_lines_part(rt: &impl Print, stream: &[u8], sizes: ModuleSizes, call: Call)
 }
 
 fn answer(rt: &impl Print, stream: &[u8], sizes: ModuleSizes, call: Call) -> io::Result<()> {
-    let number = call.number;
-    match number {
+    match call.number {
         SUB => sub_walk(rt, stream),
         ORDER | FILE | LINE | PROGRAM | INFO | SYM => on_lines_part(rt, stream, sizes, call),
         INLINEE | IMPORT | IMPORT_REFUSED | EXPORT | EXPORTS | RESOLVE | LOOKUP => {
@@ -630,14 +600,6 @@ fn answer(rt: &impl Print, stream: &[u8], sizes: ModuleSizes, call: Call) -> io:
         }
         _ => stream_line(rt, stream, sizes, call),
     }
-}
-
-// The place n bytes on.
-fn after(at: usize, n: usize) -> usize {
-    if usize::MAX - n < at {
-        return usize::MAX;
-    }
-    at + n
 }
 
 // Answers the call at a place of the list, and where the next one stands.
@@ -651,12 +613,12 @@ fn call_at(
     let number = u8_at(list, at);
     let call = Call {
         number,
-        word: u32_at(list, after(at, 1)),
-        section: u16_at(list, after(at, 5)),
+        word: u32_at(list, at.saturating_add(1)),
+        section: u16_at(list, at.saturating_add(5)),
     };
     answer(rt, stream, sizes, call)?;
     let size = if number < INFO { 1 } else { 7 };
-    Ok(after(at, size))
+    Ok(at.saturating_add(size))
 }
 
 fn calls_at(
@@ -668,10 +630,8 @@ fn calls_at(
     sizes: ModuleSizes,
 ) -> io::Result<usize> {
     let mut at = first;
-    let mut i: u8 = 0;
-    while i < count {
+    for _ in 0..count {
         at = call_at(rt, list, at, stream, sizes)?;
-        i += 1;
     }
     put(rt, b'\n')?;
     Ok(at)
@@ -679,28 +639,33 @@ fn calls_at(
 
 // Answers the case at a place of the list, and where the next one stands.
 fn case_at(rt: &impl Print, list: &[u8], at: usize, i: u32) -> io::Result<usize> {
-    let start = after(at, 15);
-    let len = u16_at(list, after(at, 1)) as usize;
+    let start = at.saturating_add(15);
+    let len = u16_at(list, at.saturating_add(1)) as usize;
     let stream = part(list, start, len);
     let sizes = ModuleSizes {
-        symbols: u32_at(list, after(at, 3)),
-        c11: u32_at(list, after(at, 7)),
-        c13: u32_at(list, after(at, 11)),
+        symbols: u32_at(list, at.saturating_add(3)),
+        c11: u32_at(list, at.saturating_add(7)),
+        c13: u32_at(list, at.saturating_add(11)),
     };
     term(rt, CASE)?;
     spaced(rt, i as u64)?;
     spaced(rt, stream.len() as u64)?;
     put(rt, b'\n')?;
-    calls_at(rt, list, after(start, len), u8_at(list, at), stream, sizes)
+    calls_at(
+        rt,
+        list,
+        start.saturating_add(len),
+        u8_at(list, at),
+        stream,
+        sizes,
+    )
 }
 
 // The last line: how many cases and how many bytes of the list were read, and how many bytes there are.
 fn cases(rt: &impl Print, list: &[u8]) -> io::Result<()> {
     let count = u32_at(list, 0);
     let mut at: usize = 4;
-    let mut i: u32 = 0;
-    while i < count {
-        i += 1;
+    for i in 1..=count {
         at = case_at(rt, list, at, i)?;
     }
     term(rt, READ)?;

@@ -1,6 +1,0 @@
--- `release_run::read_list` ends: the measure is the number of words that are left.
-use Rattle.std.proofs.Common.{◌-◌}
-use Rattle.release_run.proofs.read_list.Given as goal
-
-abbrev pub decreases-loop-i : goal.decreases-loop-i
-decreases-loop-i g l = l.count - l.i
