@@ -47,8 +47,8 @@ pub fn next_file(area: &[u8], out: &mut [u64]) -> u32
                 GIVEN,
             )
         }
-        Ok(None) => NONE,
-        Err(why) => put_refusal(out, TABLE_STATE_WORDS, why),
+        Ok(None) => NONE, // the state stays, so that the answer repeats
+        Err(why) => put_refusal(out, TABLE_STATE_WORDS, why), // behind the state, which stays
     }
 }
 
@@ -88,7 +88,7 @@ fn put_info(out: &mut [u64], answer: Result<Entry, Refusal>) -> u32
                 GIVEN,
             )
         }
-        Err(why) => put_refusal(out, 0, why),
+        Err(why) => put_refusal(out, 0, why), // no state stands before it
     }
 }
 

@@ -55,7 +55,7 @@ pub fn next_inlinee(area: &[u8], out: &mut [u64]) -> u32
             )
         }
         Ok(None) => NONE,
-        Err(why) => put_refusal(out, TABLE_STATE_WORDS, why),
+        Err(why) => put_refusal(out, TABLE_STATE_WORDS, why), // behind the state, which stays
     }
 }
 
@@ -177,7 +177,7 @@ fn put_lookup(out: &mut [u64], lookup: Result<Option<u32>, Refusal>) -> u32
 {
     match lookup {
         Ok(Some(global)) => put(out, 0, &[global as u64], GIVEN),
-        Ok(None) => NONE,
+        Ok(None) => NONE, // no export has the index
         Err(why) => put_refusal(out, 0, why),
     }
 }
@@ -208,7 +208,7 @@ pub fn export_at(body: &[u8], i: usize, out: &mut [u64]) -> u32
             let x = export_words(export);
             put(out, 0, &[x.0, x.1, x.2], GIVEN)
         }
-        Ok(None) => NONE,
+        Ok(None) => NONE, // behind the last export
         Err(why) => put_refusal(out, 0, why),
     }
 }

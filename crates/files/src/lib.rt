@@ -57,7 +57,7 @@ pub fn next_file(area: &[u8], walk: TableWalk) -> Result<Option<(File, TableWalk
     };
     let body = &area[spot.start..spot.start + spot.len];
     let Some((entry, at)) = entry_at(body, spot.at)? else {
-        return Ok(None);
+        return Ok(None); // the body has no entry more
     };
     let file = File {
         index: spot.at as u32,

@@ -110,7 +110,7 @@ pub fn next_inlinee(
     };
     let body = &area[spot.start..spot.start + spot.len];
     let Some((line, at)) = source_line_at(body, spot.at)? else {
-        return Ok(None);
+        return Ok(None); // the body has no inlinee more
     };
     let inlinee = SourceLine {
         extra: spot.start + line.extra,

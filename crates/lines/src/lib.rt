@@ -115,16 +115,25 @@ pub fn count_lines(area: &[u8]) -> Result<usize, Refusal>
 {
     let mut n: usize = 0;
     let mut p: usize = 0;
-    while let Some((sub, next)) = sub_at(area, p)? {
-        if sub.kind == LINES {
-            if sub.len < LINE_HEAD {
-                return Err(Refusal::Cut);
+    loop {
+        match sub_at(area, p) {
+            Ok(Some((sub, next))) => {
+                if sub.kind == LINES {
+                    if sub.len < LINE_HEAD {
+                        return Err(Refusal::Cut);
+                    }
+                    n += 1;
+                }
+                p = next;
             }
-            n += 1;
+            Ok(None) => {
+                return Ok(n);
+            }
+            Err(why) => {
+                return Err(why);
+            }
         }
-        p = next;
     }
-    Ok(n)
 }
 
 // The line subsection at or behind `from` whose body starts at `body`.

@@ -173,10 +173,14 @@ fn put_around(
     ensures { page buf.new (told_place result)
         ≡ piece_written (joined (head.now ∷ bytes_text bytes.now ∷ ascii "\n" ∷ [])) (page buf.old (told_place place)) }
 {
-    let at = file_room(buf.len(), place, head.len(), bytes.len())?;
-    let a = put_bytes(buf, Ok(at), head);
-    let b = put_sum(buf, a, bytes);
-    put_bytes(buf, b, b"\n")
+    match file_room(buf.len(), place, head.len(), bytes.len()) {
+        Ok(at) => {
+            let a = put_bytes(buf, Ok(at), head);
+            let b = put_sum(buf, a, bytes);
+            put_bytes(buf, b, b"\n")
+        }
+        Err(no_room) => Err(no_room),
+    }
 }
 
 pub fn put_file(

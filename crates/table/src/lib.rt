@@ -83,7 +83,7 @@ pub fn word_in(area: &[u8], words: usize, count: usize, i: usize) -> Result<Opti
 {
     let len = area.len();
     if LONGEST < len {
-        return Err(Refusal::TooLong);
+        return Err(Refusal::TooLong); // before any place is held against it
     }
     if len < words {
         return Err(Refusal::Cut);
