@@ -1,6 +1,6 @@
 -- Names for the proofs of the lines of a body: a held record as the words that it was made of, and what each loop keeps.
 -- Definitions only; of public contracts that of `body_lines` alone cites them, and no answer of another call depends on it.
-use Rattle.std.specs.Prelude.{false, ℕ, ◌+◌, ◌*◌, ◌<◌, ◌≤◌, ◌≡◌, List, length, take, Option, None, Some}
+use Rattle.std.specs.Prelude.{false, cond, ℕ, zero, suc, ◌+◌, ◌*◌, ◌<◌, ◌≤◌, ◌≡◌, List, length, take, Option, None, Some}
 use Rattle.walk.specs.Listing.{nothing}
 use Rattle.word.specs.Word.{u32_at, store}
 use Rattle.refusal.specs.Told.{longest}
@@ -65,6 +65,11 @@ pub record FirstLine (s : List ℕ) (p : Place) (a g : ℕ) : Type 0 where
   pub flags : g ≡ u32_at s (p.line + 4)
   pub line : is_marker g ≡ false
   pub sum : p.head.offset + a ≤ max_offset
+
+-- how many of the k lines at a are markers, one behind the other from the first on
+unfoldable pub count_markers : List ℕ → ℕ → ℕ → ℕ
+count_markers s a zero = 0
+count_markers s a (suc k) = cond (is_marker (u32_at s (a + 4))) (1 + count_markers s (a + 8) k) 0
 
 -- from a place of a body, with a held record or none and n records put, to another place of it
 pub record BlockPut (rule : ℕ → Sort) (s : List ℕ) (room : ℕ) (p : Place) (held : Option LineRecord) (n : ℕ) (o : List ℕ) (r : InBody) (o' : List ℕ) : Type 0 where

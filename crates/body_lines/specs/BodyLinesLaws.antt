@@ -1,6 +1,6 @@
 -- Laws of the lines of a body: each line is a turn.
-use Rattle.std.specs.Prelude.{ℕ, ◌+◌, ◌-◌, ◌*◌, ◌/◌, ◌≤◌, ◌<◌, ◌≡◌, refl, List, Bool, true, false, length, take, drop, Option, None, Some}
-use Rattle.std.proofs.Common.{sym, ap, ◌∙◌, subst, arith, length-take-le}
+use Rattle.std.specs.Prelude.{ℕ, ◌+◌, ◌-◌, ◌*◌, ◌/◌, ◌≤◌, ◌<◌, ◌≡◌, refl, List, Bool, true, false, cond, zero, suc, length, take, drop, Option, None, Some}
+use Rattle.std.proofs.Common.{sym, ap, ◌∙◌, subst, arith, add-zero, length-take-le}
 use Rattle.word.specs.Word.{u32_at, store}
 use Rattle.word.specs.WordLaws.{u32_drop, u32_take, put_length_lem}
 use Rattle.walk.specs.Listing.{item, pass, gave, nothing}
@@ -23,7 +23,7 @@ use Rattle.body_lines.specs.declared.LineHeld.{LineHeld}
 use Rattle.body_lines.specs.declared.InBody.{InBody}
 use Rattle.body_lines.specs.Turns.{TurnsPut}
 use Rattle.body_lines.specs.TurnsLaws.{turns_put_same, turns_put_pass, turns_put_record, turns_put_on}
-use Rattle.body_lines.specs.BodyLines.{held_record, LinesFit, LinePut, inside_at, LinesPut, PutAs, HeldPut, FirstLine, BlockPut, BodyPut}
+use Rattle.body_lines.specs.BodyLines.{held_record, LinesFit, LinePut, inside_at, LinesPut, PutAs, HeldPut, FirstLine, count_markers, BlockPut, BodyPut}
 
 -- ---- words of a part
 
@@ -193,29 +193,94 @@ lines_fit_on s p f i h =
 past_fit : (s : List ℕ) (p : Place) → LinesFit s p → (i : ℕ) → i ≤ p.lines → (q : Place) → q ≡ past_lines p i → q ≡ lines_on p i
 past_fit s p f i h = past_lines_are p i (omega (arith, f.short, f.end, f.lines)) (omega (arith, f.short, f.end, f.columns))
 
+-- ---- markers, one behind the other
+
+module _ (s : List ℕ) where
+  pub markers_most : (k a : ℕ) → count_markers s a k ≤ k
+  unfolding count_markers
+  markers_most zero a = omega arith
+  markers_most (suc k) a = on (is_marker (u32_at s (a + 4))) (markers_most k (a + 8))
+    where
+      on : (b : Bool) → count_markers s (a + 8) k ≤ k → cond b (1 + count_markers s (a + 8) k) 0 ≤ suc k
+      on true l = omega (arith, l)
+      on false l = omega arith
+
+  -- of k lines at a those from line i on; g are the flags of line i
+  module _ (a k i g : ℕ) (l : i < k) (e : g ≡ u32_at s (a + 8 * i + 4)) where
+    markers_from : count_markers s (a + 8 * i) (k - i) ≡ cond (is_marker g) (1 + count_markers s (a + 8 * (i + 1)) (k - (i + 1))) 0
+    unfolding count_markers
+    markers_from =
+        let n : k - i ≡ suc (k - (i + 1)) = omega arith in
+        let b : a + 8 * (i + 1) ≡ a + 8 * i + 8 = omega arith in
+        rw (n, b, e) refl
+
+    pub markers_on : is_marker g ≡ true → i + 1 + count_markers s (a + 8 * (i + 1)) (k - (i + 1)) ≡ i + count_markers s (a + 8 * i) (k - i)
+    markers_on m = omega (arith, rw m at markers_from)
+
+    pub markers_stop : is_marker g ≡ false → i ≡ i + count_markers s (a + 8 * i) (k - i)
+    markers_stop m = omega (arith, rw m at markers_from)
+
+  pub markers_some : (a k g : ℕ) → 0 < k → g ≡ u32_at s (a + 4) → is_marker g ≡ true → 1 ≤ count_markers s a k
+  unfolding count_markers
+  markers_some a (suc k) g l e m = rw (sym e, m) (omega arith)
+  markers_some a zero g l e m = absurd (omega arith)
+
+-- each is a turn
+module _ (rule : ℕ → Sort) (s v : List ℕ) (room : ℕ) (p : Place) (f : LinesFit s p) (n : ℕ) (o : List ℕ) (less : n < room) (t : Rest) where
+  abbrev Passed : Place → Place → Type 0
+  Passed a b = TurnsPut rule s v room n (Inside a t) o n (Inside b t) o
+
+  -- from line i on, of those that are left
+  turns_markers : (k i left : ℕ) → i + left ≡ p.lines → k ≤ count_markers s (p.line + 8 * i) left → Passed (lines_on p i) (lines_on p (i + k))
+  unfolding count_markers
+  turns_markers zero i left e h = rw (add-zero i) (turns_put_same rule s v room)
+  turns_markers (suc k) i zero e h = absurd (omega (arith, h))
+  turns_markers (suc k) i (suc left) e h =
+      let a : p.line + 8 * i + 8 ≡ p.line + 8 * (i + 1) = omega arith in
+      let b = ap (λ (x : ℕ). count_markers s x left) a in
+      let c : i + 1 + k ≡ i + suc k = omega arith in
+      on (is_marker (u32_at s (p.line + 8 * i + 4))) refl h
+      (λ l. subst (λ (x : ℕ). Passed (lines_on p (i + 1)) (lines_on p x)) c (turns_markers k (i + 1) left (omega arith) (omega (arith, l, b))))
+    where
+      on : (b : Bool) → is_marker (u32_at s (p.line + 8 * i + 4)) ≡ b → suc k ≤ cond b (1 + count_markers s (p.line + 8 * i + 8) left) 0
+          → (k ≤ count_markers s (p.line + 8 * i + 8) left → Passed (lines_on p (i + 1)) (lines_on p (i + suc k))) → Passed (lines_on p i) (lines_on p (i + suc k))
+      on true m h go =
+          turns_put_on rule s v room
+          (turns_put_pass rule s v room less (Inside (lines_on p (i + 1)) t)
+          (turn_marker rule s v p f i (omega arith) (u32_at s (p.line + 8 * i)) (u32_at s (p.line + 8 * i + 4)) (u32_at s (p.column + 4 * i)) refl refl refl m t))
+          (go (omega (arith, h)))
+      on false m h go = absurd (omega (arith, h))
+
+  first_markers : (k : ℕ) → k ≤ count_markers s p.line p.lines → Passed p (lines_on p k)
+  first_markers k h =
+      let a : p.line ≡ p.line + 8 * 0 = omega arith in
+      let c : 0 + k ≡ k = omega arith in
+      subst (λ (x : Place). Passed x (lines_on p k)) (at_none p)
+      (subst (λ (x : ℕ). Passed (lines_on p 0) (lines_on p x)) c
+      (turns_markers k 0 p.lines (omega arith) (omega (arith, h, ap (λ (x : ℕ). count_markers s x p.lines) a))))
+
 module _ (rule : ℕ → Sort) (s : List ℕ) (room : ℕ) (p : Place) (held : Option LineRecord) (n : ℕ) (o : List ℕ) (f : LinesFit s p) (less : n < room) where
   -- it stays
   pub block_put_same : (stuck : Bool) → BlockPut rule s room p held n o (record { n = n; place = p; held = held; stuck = stuck }) o
   block_put_same stuck =
       record { most = omega arith; size = refl; fit = f; head = refl; end = refl; next = refl; turns = λ v t. turns_put_same rule s v room }
 
-  module _ (l : 1 ≤ p.lines) where
-    pub block_put_marker : (g : ℕ) (q : Place) → g ≡ u32_at s (p.line + 4) → is_marker g ≡ true → q ≡ past_lines p 1 → BlockPut rule s room p held n o (record { n = n; place = q; held = held; stuck = false }) o
-    block_put_marker g q eg m eq =
-        let e₀ : p.line ≡ p.line + 8 * 0 = omega arith in
-        let e : g ≡ u32_at s (p.line + 8 * 0 + 4) = eg ∙ ap (λ (x : ℕ). u32_at s (x + 4)) e₀ in
-        rw (past_fit s p f 1 l q eq) (record {
-          most = omega arith;
-          size = refl;
-          fit = lines_fit_on s p f 1 l;
-          head = refl;
-          end = refl;
-          next = refl;
-          turns = λ v t. turns_put_pass rule s v room less (Inside (lines_on p 1) (with_held t held))
-              (turn_marker rule s v p f 0 (omega arith) (u32_at s (p.line + 8 * 0)) g (u32_at s (p.column + 4 * 0)) refl e refl m (with_held t held)
-              ∙ ap (λ x. turn_of rule s v (Inside x (with_held t held))) (at_none p));
-        })
+  -- it passes markers
+  pub block_put_markers : (k : ℕ) (q : Place) → k ≤ count_markers s p.line p.lines → q ≡ past_lines p k
+      → BlockPut rule s room p held n o (record { n = n; place = q; held = held; stuck = false }) o
+  block_put_markers k q h eq =
+      let l : k ≤ p.lines = omega (arith, h, markers_most s p.lines p.line) in
+      rw (past_fit s p f k l q eq) (record {
+        most = omega arith;
+        size = refl;
+        fit = lines_fit_on s p f k l;
+        head = refl;
+        end = refl;
+        next = refl;
+        turns = λ v t. first_markers rule s v room p f n o less (with_held t held) k h;
+      })
 
+  module _ (l : 1 ≤ p.lines) where
     -- w is the column word of the line, and m the number of the records with the one that it closed
     module _ (a g w m : ℕ) (o₁ : List ℕ) (d : FirstLine s p a g)
         (ew : column_if (columned p.head.flags) w ≡ column_if (columned p.head.flags) (u32_at s p.column)) (fits : record_size * room ≤ length o)

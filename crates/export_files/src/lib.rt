@@ -110,9 +110,13 @@ pub fn checksums(area: &[u8], out: &mut [u64]) -> u32
     }
 }
 
-// The file at an index of a checksum body that is lent alone: the place of the bytes is one in the body.
+// The file at an index of a checksum body that is lent alone: the place of the bytes is one in the body. Room for a refusal is asked for first: without that
+// a call waits for what the call before it read (docs/SPEED.md, 52).
 pub fn file_in(body: &[u8], index: u32, out: &mut [u64]) -> u32
     ensures { Gives out.old (file_in_given body.now index) result out.new }
 {
+    if out.len() < REFUSAL_WORDS {
+        return TOO_SHORT; // nor for a file
+    }
     put_info(out, files::file_in(body, index))
 }
